@@ -1,0 +1,2 @@
+// The integer toolkit: the vocabulary of whole numbers that every definition uses (specs/),
+// and its laws (proofs/).
