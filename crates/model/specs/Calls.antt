@@ -1,0 +1,163 @@
+-- The calls check, price and run: where each turns back, its answer, and what it leaves in each lent buffer.
+use mathlib.Core.Bool.{not, _||_, cond}
+use mathlib.Core.List.{List, [], _∷_, _++_}
+use Prim.Native.Nat.{ℕ, _+_, _*_}
+use lib.Dec.{eqb, ltb}
+use lib.IntN.{ℤ, pos, natAbs}
+use lib.ListN.{length, replicate}
+use lib.Signed.{ltZ}
+use Rattle.model.specs.Lists.{at, table, firstWhere}
+use Rattle.model.specs.Problem.{Problem, pairCount, image, price, floor, slack}
+use Rattle.model.specs.Grid.{Terms, sizeAllowed, weightAllowed, boxAllowed, gridPairs, grid, lowEnd, highEnd}
+use Rattle.model.specs.Rounds.{eighth, Quick, quickRounds, Steady, steadyRounds}
+use Rattle.model.specs.Verdict.{Verdict, Row, row, firstRefusal, decided, left}
+
+-- Rounds of a job: quick rounds and the allowance of steady rounds
+pub record Rounds : Type 0 where
+  pub quick : ℕ
+  pub allowance : ℕ
+
+-- How a call ended
+pub data Outcome : Type 0 where
+  refused checked settled spent : Outcome
+
+-- What check, price and run give. Accepted: number and place are 0. Refused: zeros but for number and place
+pub record Answer : Type 0 where
+  pub outcome : Outcome
+  pub number : ℕ
+  pub place : ℕ
+  pub moved : ℕ
+  pub price : ℤ
+  pub floor : ℤ
+  pub slack : ℤ
+
+abbrev pub refusal : ℕ → ℕ → Answer
+refusal n p =
+    record { outcome = refused; number = n; place = p; moved = 0; price = pos 0; floor = pos 0; slack = pos 0 }
+
+abbrev pub figures : Outcome → ℕ → ℤ → ℤ → ℤ → Answer
+figures o m p f s = record { outcome = o; number = 0; place = 0; moved = m; price = p; floor = f; slack = s }
+
+-- The size of a job in pixels and in pairs
+abbrev pub pixelsOf : Terms → ℕ
+pixelsOf t = t .width * t .height
+
+abbrev pub pairsOf : Terms → ℕ
+pairsOf t = length (gridPairs (t .width) (t .height))
+
+-- Terms: 1 size; 2 weight; 3 low above high; 10 quick rounds over 4,096. The place is 0 in a call, the record's offset in a tape
+abbrev pub sizeRow : Terms → ℕ → Row
+sizeRow t place = row (not (sizeAllowed (t .width) (t .height))) 1 place
+
+abbrev pub weightRow : Terms → ℕ → Row
+weightRow t place = row (not (weightAllowed (t .weight))) 2 place
+
+abbrev pub boxRow : Terms → ℕ → Row
+boxRow t place = row (not (boxAllowed (t .low) (t .high))) 3 place
+
+abbrev pub roundsRow : Rounds → ℕ → Row
+roundsRow r place = row (ltb 4096 (r .quick)) 10 place
+
+-- Lent lengths, which must be exact: 4 samples; 5 flow; 6 image; 7 work
+abbrev pub lengthRow : {A : Type 0} → ℕ → List A → ℕ → Row
+lengthRow number buffer due = row (not (eqb (length buffer) due)) number 0
+
+-- Contents: 8 flow number beyond ±W, 9 image value outside the box; the place is the first index
+unfoldable pub firstBeyond : ℕ → List ℤ → ℕ
+firstBeyond weight flow = firstWhere (length flow) (λ j. ltb weight (natAbs (at flow j)))
+
+unfoldable pub firstOutside : Terms → List ℤ → ℕ
+firstOutside t values =
+    firstWhere (length values) (λ i. ltZ (at values i) (lowEnd (t .low)) || ltZ (highEnd (t .high)) (at values i))
+
+abbrev pub flowRow : ℕ → List ℤ → Row
+flowRow weight flow = row (ltb (firstBeyond weight flow) (length flow)) 8 (firstBeyond weight flow)
+
+abbrev pub imageRow : Terms → List ℤ → Row
+imageRow t values = row (ltb (firstOutside t values) (length values)) 9 (firstOutside t values)
+
+-- The image and the figures of a flow of this job
+unfoldable pub imageOf : Terms → List ℕ → List ℤ → List ℤ
+imageOf t samples flow = table (pixelsOf t) (image (grid t samples) (at flow))
+
+unfoldable pub figuresOf : Outcome → ℕ → Terms → List ℕ → List ℤ → Answer
+figuresOf o moved t samples flow =
+    figures o moved (price (grid t samples) (image (grid t samples) (at flow))) (floor (grid t samples) (at flow))
+    (slack (grid t samples) (at flow))
+
+-- Check judges a given flow and fills the image
+unfoldable pub checkVerdict : Terms → List ℕ → List ℤ → List ℤ → Verdict
+checkVerdict t samples flow values =
+    firstRefusal
+    (sizeRow t 0
+    ∷ weightRow t 0
+    ∷ boxRow t 0
+    ∷ lengthRow 4 samples (pixelsOf t)
+    ∷ lengthRow 5 flow (pairsOf t)
+    ∷ lengthRow 6 values (pixelsOf t)
+    ∷ flowRow (t .weight) flow
+    ∷ [])
+
+unfoldable pub checkAnswer : Terms → List ℕ → List ℤ → List ℤ → Answer
+checkAnswer t samples flow values =
+    decided (checkVerdict t samples flow values) (figuresOf checked 0 t samples flow) refusal
+
+unfoldable pub checkImage : Terms → List ℕ → List ℤ → List ℤ → List ℤ
+checkImage t samples flow values = left (checkVerdict t samples flow values) (imageOf t samples flow) values
+
+-- Price judges a given image, and gives floor and slack as 0
+unfoldable pub priceVerdict : Terms → List ℕ → List ℤ → Verdict
+priceVerdict t samples values =
+    firstRefusal
+    (sizeRow t 0
+    ∷ weightRow t 0
+    ∷ boxRow t 0
+    ∷ lengthRow 4 samples (pixelsOf t)
+    ∷ lengthRow 6 values (pixelsOf t)
+    ∷ imageRow t values
+    ∷ [])
+
+unfoldable pub priceAnswer : Terms → List ℕ → List ℤ → Answer
+priceAnswer t samples values =
+    decided (priceVerdict t samples values)
+    (figures checked 0 (price (grid t samples) (at values)) (pos 0) (pos 0))
+    refusal
+
+-- Run does the rounds and fills flow and image. The flow that its quick rounds leave, and how its steady rounds end:
+unfoldable pub quickFlow : Terms → Rounds → List ℕ → List ℤ
+quickFlow t r samples = quickRounds eighth (grid t samples) (r .quick) .iterate
+
+unfoldable pub ending : Terms → Rounds → List ℕ → Steady
+ending t r samples = steadyRounds eighth (grid t samples) (r .allowance) (quickFlow t r samples)
+
+unfoldable pub runVerdict : Terms → Rounds → List ℕ → List ℤ → List ℤ → List ℤ → Verdict
+runVerdict t r samples flow values work =
+    firstRefusal
+    (sizeRow t 0
+    ∷ weightRow t 0
+    ∷ boxRow t 0
+    ∷ roundsRow r 0
+    ∷ lengthRow 4 samples (pixelsOf t)
+    ∷ lengthRow 5 flow (pairsOf t)
+    ∷ lengthRow 6 values (pixelsOf t)
+    ∷ lengthRow 7 work (2 * pairsOf t)
+    ∷ [])
+
+unfoldable pub runAnswer : Terms → Rounds → List ℕ → List ℤ → List ℤ → List ℤ → Answer
+runAnswer t r samples flow values work =
+    let e : Steady = ending t r samples in
+    decided (runVerdict t r samples flow values work)
+    (figuresOf (cond (e .settled) settled spent) (e .moved) t samples (e .flow))
+    refusal
+
+unfoldable pub runFlow : Terms → Rounds → List ℕ → List ℤ → List ℤ → List ℤ → List ℤ
+runFlow t r samples flow values work = left (runVerdict t r samples flow values work) (ending t r samples .flow) flow
+
+unfoldable pub runImage : Terms → Rounds → List ℕ → List ℤ → List ℤ → List ℤ → List ℤ
+runImage t r samples flow values work =
+    left (runVerdict t r samples flow values work) (imageOf t samples (ending t r samples .flow)) values
+
+-- The work buffer holds only zeros after an accepted run
+unfoldable pub runWork : Terms → Rounds → List ℕ → List ℤ → List ℤ → List ℤ → List ℤ
+runWork t r samples flow values work =
+    left (runVerdict t r samples flow values work) (replicate (2 * pairsOf t) (pos 0)) work

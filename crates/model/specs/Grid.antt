@@ -1,0 +1,68 @@
+-- The grid of document 01 as a problem: sizes, readings, box and pairs.
+use mathlib.Core.Bool.{Bool, _&&_}
+use mathlib.Core.List.{List, _++_}
+use Prim.Native.Nat.{ℕ, _+_, _-_, _*_}
+use lib.Dec.{leb}
+use lib.IntN.{ℤ, pos}
+use lib.ListN.{getD}
+use Rattle.model.specs.Lists.{table, chain}
+use Rattle.model.specs.Problem.{Pair, Problem}
+
+-- Terms of a job without its rounds: size, weight W and box
+pub record Terms : Type 0 where
+  pub width : ℕ
+  pub height : ℕ
+  pub weight : ℕ
+  pub low : ℕ
+  pub high : ℕ
+
+-- Width and height are each 1 to 4,096, their product at most 1,048,576
+unfoldable pub sizeAllowed : ℕ → ℕ → Bool
+sizeAllowed w h = leb 1 w && leb w 4096 && (leb 1 h && leb h 4096) && leb (w * h) 1048576
+
+-- The weight W is 0 to 65,280 sub-units
+unfoldable pub weightAllowed : ℕ → Bool
+weightAllowed weight = leb weight 65280
+
+-- The box is low to high, low at most high (each end is a byte, 0 to 255 levels, by its type)
+unfoldable pub boxAllowed : ℕ → ℕ → Bool
+boxAllowed low high = leb low high
+
+-- A sub-unit is 1/256 level. Sample s stands for B = 256 × s
+unfoldable pub readingOf : ℕ → ℤ
+readingOf s = pos (256 * s)
+
+-- Image values run from 256 × low to 256 × high
+unfoldable pub lowEnd : ℕ → ℤ
+lowEnd low = pos (256 * low)
+
+unfoldable pub highEnd : ℕ → ℤ
+highEnd high = pos (256 * high)
+
+-- Pixels run row by row: pixel (row, column) has number row × width + column
+abbrev pub pixel : ℕ → ℕ → ℕ → ℕ
+pixel w row column = row * w + column
+
+-- Pairs: every (pixel, pixel below), in row order of the upper pixel ..
+unfoldable pub verticalPairs : ℕ → ℕ → List Pair
+verticalPairs w h = table (w * (h - 1)) (λ i. record { first = i; second = i + w })
+
+-- .. then every (pixel, pixel to its right), in row order of the left one
+unfoldable pub horizontalPairs : ℕ → ℕ → List Pair
+horizontalPairs w h =
+    chain h (λ row. table (w - 1) (λ column. record { first = pixel w row column; second = pixel w row column + 1 }))
+
+unfoldable pub gridPairs : ℕ → ℕ → List Pair
+gridPairs w h = verticalPairs w h ++ horizontalPairs w h
+
+-- The problem of a raster: one weight at every pair
+abbrev pub grid : Terms → List ℕ → Problem
+grid t samples =
+    record {
+      pixels = t .width * t .height;
+      reading = λ i. readingOf (getD samples i 0);
+      low = lowEnd (t .low);
+      high = highEnd (t .high);
+      pairs = gridPairs (t .width) (t .height);
+      weight = λ _. t .weight
+    }

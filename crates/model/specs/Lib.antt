@@ -1,0 +1,24 @@
+-- Document 01 as definitions, in its order. A comment gives the document's word and, where it differs, the field's
+-- standard term. Numbers are ℕ or ℤ without limits; machine widths enter with the calls' types.
+--     Lists       buffers as lists: reading, tabulating, the first index
+--     Problem     readings, box and weighted pairs of any shape: fall, price, flow, image, floor, slack, divisions
+--     Grid        document 01's raster as such a problem
+--     Root        the whole square root
+--     Rounds      the step, quick rounds, steady rounds
+--     Verdict     refusals: the first row of a table that applies
+--     Calls       check, price and run: their refusals, answers and buffers
+--     Tape        the job tape: records, reading, writing
+--     Text        numbers and words as ASCII
+--     Program     the cleaning program's output
+--     Values      the values that document 01 marks to be proved
+pub mod Lists
+pub mod Problem
+pub mod Grid
+pub mod Root
+pub mod Rounds
+pub mod Verdict
+pub mod Calls
+pub mod Tape
+pub mod Text
+pub mod Program
+pub mod Values

@@ -1,0 +1,94 @@
+-- The cleaning program: the text that it prints for the bytes that it reads.
+use mathlib.Core.Bool.{true, false, cond}
+use mathlib.Core.List.{List, [], _++_}
+use Prim.Native.Nat.{ℕ, _*_}
+use Prim.Native.String.{String}
+use lib.Dec.{ltb, eqb}
+use lib.IntN.{ℤ, pos}
+use lib.ListN.{length, replicate}
+use Rattle.model.specs.Lists.{at, chain}
+use Rattle.model.specs.Text.{ascii, decimal, signedDecimal}
+use Rattle.model.specs.Grid.{Terms, pixel}
+use Rattle.model.specs.Calls.{
+  Rounds,
+  Outcome,
+  refused,
+  checked,
+  settled,
+  spent,
+  Answer,
+  refusal,
+  pixelsOf,
+  pairsOf,
+  checkAnswer,
+  checkImage,
+  runAnswer,
+  runImage
+}
+use Rattle.model.specs.Tape.{Progress, Reading, turned, whole, reading}
+
+abbrev pub word : Outcome → String
+word refused = "refused"
+word checked = "checked"
+word settled = "settled"
+word spent = "spent"
+
+-- A refusal prints only its number and place
+unfoldable pub refusalText : Answer → List ℕ
+refusalText a = ascii "refused " ++ decimal (a .number) ++ ascii " at " ++ decimal (a .place) ++ ascii "\n"
+
+-- The header line and the line of numbers
+unfoldable pub figuresText : Answer → List ℕ
+figuresText a =
+    ascii "outcome moved price floor slack\n"
+    ++ ascii (word (a .outcome))
+    ++ ascii " "
+    ++ decimal (a .moved)
+    ++ ascii " "
+    ++ signedDecimal (a .price)
+    ++ ascii " "
+    ++ signedDecimal (a .floor)
+    ++ ascii " "
+    ++ signedDecimal (a .slack)
+    ++ ascii "\n"
+
+-- One line of image values for each row
+unfoldable pub imageText : Terms → List ℤ → List ℕ
+imageText t values =
+    chain (t .height) (λ row.
+      chain (t .width) (λ column.
+        cond (eqb column 0) [] (ascii " ") ++ signedDecimal (at values (pixel (t .width) row column)))
+      ++ ascii "\n")
+
+unfoldable pub answerText : Answer → Terms → List ℤ → List ℕ
+answerText a t values = elim (a .outcome) [
+      refused ↦ refusalText a
+    | checked ↦ figuresText a ++ imageText t values
+    | settled ↦ figuresText a ++ imageText t values
+    | spent ↦ figuresText a ++ imageText t values
+    ]
+
+-- With flow records it checks, else it runs
+unfoldable pub jobText : Progress → List ℕ
+jobText p =
+    let t : Terms = p .terms in
+    let values : List ℤ = replicate (pixelsOf t) (pos 0) in
+    let flow : List ℤ = replicate (pairsOf t) (pos 0) in
+    let work : List ℤ = replicate (2 * pairsOf t) (pos 0) in
+    elim (eqb (length (p .flow)) 0) [
+      false ↦ answerText (checkAnswer t (p .samples) (p .flow) values) t (checkImage t (p .samples) (p .flow) values)
+    | true ↦
+        answerText (runAnswer t (p .rounds) (p .samples) flow values work) t
+        (runImage t (p .rounds) (p .samples) flow values work)
+    ]
+
+abbrev pub readText : Reading → List ℕ
+readText (turned number place) = refusalText (refusal number place)
+readText (whole p) = jobText p
+
+-- It reads one tape; 17 over 65,536 bytes. Its tables hold 4,096 samples and 8,064 flow values
+unfoldable pub programText : List ℕ → List ℕ
+programText input = elim (ltb 65536 (length input)) [
+      true ↦ refusalText (refusal 17 0)
+    | false ↦ readText (reading input 4096 8064)
+    ]

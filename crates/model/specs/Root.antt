@@ -1,0 +1,15 @@
+-- The whole square root: the largest whole number whose square is at most n (proved of it in proofs/Root.antt).
+use mathlib.Core.Bool.{cond}
+use Prim.Native.Nat.{ℕ, zero, suc, _+_, _*_, _/_}
+use lib.Dec.{leb}
+
+-- The root of n in binary digits, by way of the root r of n / 4: it is 2 r or 2 r + 1. The first argument bounds the digits
+unfoldable pub rootBy : ℕ → ℕ → ℕ
+rootBy zero n = 0
+rootBy (suc k) zero = 0
+rootBy (suc k) (suc n) =
+    let r = 2 * rootBy k (suc n / 4) in
+    cond (leb ((r + 1) * (r + 1)) (suc n)) (r + 1) r
+
+unfoldable pub root : ℕ → ℕ
+root n = rootBy n n

@@ -1,0 +1,320 @@
+-- The job tape: its records, reading and writing, on lists of bytes.
+use mathlib.Core.Bool.{Bool, true, false, not, _&&_, _||_, cond}
+use mathlib.Core.List.{List, [], _∷_, _++_}
+use Prim.Native.Nat.{ℕ, zero, suc, _+_, _-_, _*_, _/_, _%_, _^_}
+use lib.Dec.{eqb, leb, ltb}
+use lib.IntN.{ℤ, pos, negsuc, subℕ}
+use lib.ListN.{length, getD}
+use Rattle.model.specs.Lists.{chain, overwritten, at}
+use Rattle.model.specs.Grid.{Terms}
+use Rattle.model.specs.Verdict.{Verdict, accept, refuse, Row, row, firstRefusal, left}
+use Rattle.model.specs.Calls.{
+  Rounds,
+  pixelsOf,
+  pairsOf,
+  sizeRow,
+  weightRow,
+  boxRow,
+  roundsRow,
+  lengthRow,
+  flowRow
+}
+
+-- ---- Numbers in bytes, lowest byte first
+
+-- byte i of a number
+abbrev pub byteOf : ℕ → ℕ → ℕ
+byteOf n i = n / 256 ^ i % 256
+
+abbrev pub twoBytes : ℕ → List ℕ
+twoBytes n = byteOf n 0 ∷ byteOf n 1 ∷ []
+
+abbrev pub fromTwo : ℕ → ℕ → ℕ
+fromTwo b0 b1 = b0 + 256 * b1
+
+-- a signed 32-bit number as its two's complement, and back
+abbrev pub complement : ℤ → ℕ
+complement (pos n) = n
+complement (negsuc n) = 2 ^ 32 - suc n
+
+abbrev pub fourBytes : ℤ → List ℕ
+fourBytes z = byteOf (complement z) 0 ∷ byteOf (complement z) 1 ∷ byteOf (complement z) 2 ∷ byteOf (complement z) 3 ∷ []
+
+abbrev pub signed : ℕ → ℤ
+signed n = cond (ltb n (2 ^ 31)) (pos n) (subℕ n (2 ^ 32))
+
+abbrev pub fromFour : ℕ → ℕ → ℕ → ℕ → ℤ
+fromFour b0 b1 b2 b3 = signed (b0 + 256 * (b1 + 256 * (b2 + 256 * b3)))
+
+-- ---- Records
+
+-- A record is its kind with its numbers: 0 end, 1 size, 2 weight and box, 3 rounds, 4 one sample, 5 one flow number
+pub data Entry : Type 0 where
+  End : Entry
+  Size : ℕ → ℕ → Entry
+  WeightBox : ℕ → ℕ → ℕ → Entry
+  RoundLimits : ℕ → ℕ → Entry
+  Sample : ℕ → Entry
+  Flow : ℤ → Entry
+
+-- the length of the body, for kinds 0 to 5
+abbrev pub bodyLengths : List ℕ
+bodyLengths = 0 ∷ 4 ∷ 4 ∷ 4 ∷ 1 ∷ 4 ∷ []
+
+abbrev pub bodyLength : ℕ → ℕ
+bodyLength kind = getD bodyLengths kind 0
+
+abbrev pub known : ℕ → Bool
+known kind = ltb kind (length bodyLengths)
+
+-- the record of a known kind whose body's bytes are b 0, b 1, ..
+abbrev pub decoded : ℕ → (ℕ → ℕ) → Entry
+decoded kind b =
+    getD
+    (End
+    ∷ Size (fromTwo (b 0) (b 1)) (fromTwo (b 2) (b 3))
+    ∷ WeightBox (fromTwo (b 0) (b 1)) (b 2) (b 3)
+    ∷ RoundLimits (fromTwo (b 0) (b 1)) (fromTwo (b 2) (b 3))
+    ∷ Sample (b 0)
+    ∷ Flow (fromFour (b 0) (b 1) (b 2) (b 3))
+    ∷ [])
+    kind
+    End
+
+-- ---- The order allowed
+
+-- What has been read so far: how many of the records 1, 2, 3 (the header), their numbers, the samples, the flow numbers
+pub record Progress : Type 0 where
+  pub header : ℕ
+  pub terms : Terms
+  pub rounds : Rounds
+  pub samples : List ℕ
+  pub flow : List ℤ
+
+abbrev pub nothing : Progress
+nothing =
+    record {
+      header = 0;
+      terms = record { width = 0; height = 0; weight = 0; low = 0; high = 0 };
+      rounds = record { quick = 0; allowance = 0 };
+      samples = [];
+      flow = []
+    }
+
+-- Order: 1, 2, 3, all samples, then all flow numbers or none, then 0
+unfoldable pub allowed : Progress → ℕ → Bool
+allowed p kind =
+    let sampled : Bool = eqb (p .header) 3 && eqb (length (p .samples)) (pixelsOf (p .terms)) in
+    getD
+    ((sampled && (eqb (length (p .flow)) 0 || eqb (length (p .flow)) (pairsOf (p .terms))))
+    ∷ eqb (p .header) 0
+    ∷ eqb (p .header) 1
+    ∷ eqb (p .header) 2
+    ∷ (eqb (p .header) 3 && ltb (length (p .samples)) (pixelsOf (p .terms)))
+    ∷ (sampled && ltb (length (p .flow)) (pairsOf (p .terms)))
+    ∷ [])
+    kind
+    false
+
+-- what has been read once this record has been, too
+abbrev pub absorbed : Progress → Entry → Progress
+absorbed p End = p
+absorbed p (Size w h) =
+    record {
+      header = 1;
+      terms = record { width = w; height = h; weight = 0; low = 0; high = 0 };
+      rounds = p .rounds;
+      samples = p .samples;
+      flow = p .flow
+    }
+absorbed p (WeightBox weight low high) =
+    record {
+      header = 2;
+      terms = record { width = p .terms .width; height = p .terms .height; weight = weight; low = low; high = high };
+      rounds = p .rounds;
+      samples = p .samples;
+      flow = p .flow
+    }
+absorbed p (RoundLimits q a) =
+    record {
+      header = 3;
+      terms = p .terms;
+      rounds = record { quick = q; allowance = a };
+      samples = p .samples;
+      flow = p .flow
+    }
+absorbed p (Sample s) =
+    record {
+      header = p .header;
+      terms = p .terms;
+      rounds = p .rounds;
+      samples = p .samples ++ (s ∷ []);
+      flow = p .flow
+    }
+absorbed p (Flow f) =
+    record {
+      header = p .header;
+      terms = p .terms;
+      rounds = p .rounds;
+      samples = p .samples;
+      flow = p .flow ++ (f ∷ [])
+    }
+
+-- ---- Where reading turns back
+
+-- Per record at offset o: 12 unknown kind; 14 kind not allowed here; 13 the input ends before the record does; 15 a byte
+-- after the end. Where the input ends and a record is due there is no kind to judge: that 13 stands first
+unfoldable pub recordRows : List ℕ → ℕ → Progress → List Row
+recordRows tape o p =
+    let kind : ℕ = getD tape o 0 in
+    row (leb (length tape) o) 13 (length tape)
+    ∷ row (not (known kind)) 12 o
+    ∷ row (not (allowed p kind)) 14 o
+    ∷ row (ltb (length tape) (o + 1 + bodyLength kind)) 13 (length tape)
+    ∷ row (eqb kind 0 && ltb (o + 1) (length tape)) 15 (o + 1)
+    ∷ []
+
+-- Terms are judged at their record, whose offset is the place; 16 right after 1, for all samples and all pairs, at place 0
+abbrev pub entryRows : ℕ → ℕ → ℕ → Progress → Entry → List Row
+entryRows o samplesLent flowLent p End = []
+entryRows o samplesLent flowLent p (Size w h) =
+    sizeRow (p .terms) o
+    ∷ row (ltb samplesLent (pixelsOf (p .terms)) || ltb flowLent (pairsOf (p .terms))) 16 0
+    ∷ []
+entryRows o samplesLent flowLent p (WeightBox weight low high) = weightRow (p .terms) o ∷ boxRow (p .terms) o ∷ []
+entryRows o samplesLent flowLent p (RoundLimits q a) = roundsRow (p .rounds) o ∷ []
+entryRows o samplesLent flowLent p (Sample s) = []
+entryRows o samplesLent flowLent p (Flow f) = []
+
+-- ---- Reading
+
+-- A refusal, or the whole job
+pub data Reading : Type 0 where
+  turned : ℕ → ℕ → Reading
+  whole : Progress → Reading
+
+abbrev pub unless : Verdict → Reading → Reading
+unless accept r = r
+unless (refuse number place) r = turned number place
+
+-- Records from offset o on; every record takes a byte at least, so as many records as bytes are enough
+unfoldable pub readFrom : ℕ → List ℕ → ℕ → ℕ → ℕ → Progress → Reading
+readFrom zero tape samplesLent flowLent o p = turned 13 (length tape)
+readFrom (suc k) tape samplesLent flowLent o p =
+    let kind : ℕ = getD tape o 0 in
+    let entry : Entry = decoded kind (λ i. getD tape (o + 1 + i) 0) in
+    let next : Progress = absorbed p entry in
+    elim (firstRefusal (recordRows tape o p ++ entryRows o samplesLent flowLent next entry)) [
+      refuse number place ↦ turned number place
+    | accept ↦
+        elim (eqb kind 0) [
+          true ↦ whole p
+        | false ↦ readFrom k tape samplesLent flowLent (o + 1 + bodyLength kind) next
+        ]
+    ]
+
+-- 8 is judged only when the whole tape has passed
+abbrev pub judged : Reading → Reading
+judged (turned number place) = turned number place
+judged (whole p) = unless (firstRefusal (flowRow (p .terms .weight) (p .flow) ∷ [])) (whole p)
+
+unfoldable pub reading : List ℕ → ℕ → ℕ → Reading
+reading tape samplesLent flowLent =
+    judged (readFrom (suc (length tape)) tape samplesLent flowLent 0 nothing)
+
+-- What read gives: the job's terms and rounds, and whether a flow was there (no, where there are no pairs). Accepted:
+-- number and place are 0. Refused: zeros but for number and place
+pub record ReadAnswer : Type 0 where
+  pub number : ℕ
+  pub place : ℕ
+  pub terms : Terms
+  pub rounds : Rounds
+  pub flowed : Bool
+
+abbrev pub readOf : Reading → ReadAnswer
+readOf (turned number place) =
+    record {
+      number = number;
+      place = place;
+      terms = nothing .terms;
+      rounds = nothing .rounds;
+      flowed = false
+    }
+readOf (whole p) =
+    record {
+      number = 0;
+      place = 0;
+      terms = p .terms;
+      rounds = p .rounds;
+      flowed = not (eqb (length (p .flow)) 0)
+    }
+
+-- a buffer's front filled with what was read and its rest left, or its former values
+abbrev pub samplesAfter : Reading → List ℕ → List ℕ
+samplesAfter (turned number place) former = former
+samplesAfter (whole p) former = overwritten (p .samples) former
+
+abbrev pub flowAfter : Reading → List ℤ → List ℤ
+flowAfter (turned number place) former = former
+flowAfter (whole p) former = overwritten (p .flow) former
+
+-- Read: its answer, the sample buffer and the flow buffer (untouched without flow records)
+unfoldable pub readAnswer : List ℕ → List ℕ → List ℤ → ReadAnswer
+readAnswer tape samples flow = readOf (reading tape (length samples) (length flow))
+
+unfoldable pub readSamples : List ℕ → List ℕ → List ℤ → List ℕ
+readSamples tape samples flow = samplesAfter (reading tape (length samples) (length flow)) samples
+
+unfoldable pub readFlow : List ℕ → List ℕ → List ℤ → List ℤ
+readFlow tape samples flow = flowAfter (reading tape (length samples) (length flow)) flow
+
+-- ---- Writing
+
+abbrev pub encoded : Entry → List ℕ
+encoded End = 0 ∷ []
+encoded (Size w h) = 1 ∷ twoBytes w ++ twoBytes h
+encoded (WeightBox weight low high) = 2 ∷ twoBytes weight ++ (low ∷ high ∷ [])
+encoded (RoundLimits q a) = 3 ∷ twoBytes q ++ twoBytes a
+encoded (Sample s) = 4 ∷ s ∷ []
+encoded (Flow f) = 5 ∷ fourBytes f
+
+-- The tape of a job; a flow of length 0 is none
+unfoldable pub tapeOf : Terms → Rounds → List ℕ → List ℤ → List ℕ
+tapeOf t r samples numbers =
+    encoded (Size (t .width) (t .height))
+    ++ encoded (WeightBox (t .weight) (t .low) (t .high))
+    ++ encoded (RoundLimits (r .quick) (r .allowance))
+    ++ chain (length samples) (λ i. encoded (Sample (getD samples i 0)))
+    ++ chain (length numbers) (λ j. encoded (Flow (at numbers j)))
+    ++ encoded End
+
+unfoldable pub writeVerdict : Terms → Rounds → List ℕ → List ℤ → List ℕ → Verdict
+writeVerdict t r samples numbers output =
+    firstRefusal
+    (sizeRow t 0
+    ∷ weightRow t 0
+    ∷ boxRow t 0
+    ∷ roundsRow r 0
+    ∷ lengthRow 4 samples (pixelsOf t)
+    ∷ row (not (eqb (length numbers) 0) && not (eqb (length numbers) (pairsOf t))) 5 0
+    ∷ row (ltb (length output) (length (tapeOf t r samples numbers))) 16 0
+    ∷ flowRow (t .weight) numbers
+    ∷ [])
+
+-- What write gives: the byte count. Accepted: number and place are 0. Refused: zeros but for number and place
+pub record WriteAnswer : Type 0 where
+  pub number : ℕ
+  pub place : ℕ
+  pub count : ℕ
+
+abbrev pub writeOf : Verdict → ℕ → WriteAnswer
+writeOf accept n = record { number = 0; place = 0; count = n }
+writeOf (refuse number place) n = record { number = number; place = place; count = 0 }
+
+unfoldable pub writeAnswer : Terms → Rounds → List ℕ → List ℤ → List ℕ → WriteAnswer
+writeAnswer t r samples numbers output =
+    writeOf (writeVerdict t r samples numbers output) (length (tapeOf t r samples numbers))
+
+unfoldable pub writeOutput : Terms → Rounds → List ℕ → List ℤ → List ℕ → List ℕ
+writeOutput t r samples numbers output =
+    left (writeVerdict t r samples numbers output) (overwritten (tapeOf t r samples numbers) output) output

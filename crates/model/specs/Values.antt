@@ -1,0 +1,120 @@
+-- The values that document 01 marks to be proved (●), in its order: what is asked, and what is to be given. One theorem,
+-- `values` of proofs/Values.antt, says that the definitions give it in every case.
+use mathlib.Core.List.{List, [], _∷_}
+use Prim.Native.Nat.{ℕ, _*_}
+use lib.IntN.{ℤ, pos, negsuc, negℤ}
+use lib.ListN.{replicate}
+use Rattle.model.specs.Grid.{Terms, grid}
+use Rattle.model.specs.Rounds.{eighth, quickRounds}
+use Rattle.model.specs.Calls.{
+  Rounds,
+  Outcome,
+  checked,
+  settled,
+  spent,
+  Answer,
+  refusal,
+  figures,
+  pixelsOf,
+  pairsOf,
+  checkAnswer,
+  checkImage,
+  runAnswer,
+  runFlow,
+  runImage
+}
+
+-- A check of a flow; a run with these rounds; or the T that k quick rounds leave, Tₖ₊₁
+pub data Asked : Type 0 where
+  checking : List ℤ → Asked
+  running : ℕ → ℕ → Asked
+  momentum : ℕ → Asked
+
+-- What is given: the answer, the flow and the image that are left; or a T
+pub data Given : Type 0 where
+  call : Answer → List ℤ → List ℤ → Given
+  number : ℕ → Given
+
+pub record Case : Type 0 where
+  pub terms : Terms
+  pub samples : List ℕ
+  pub asked : Asked
+  pub expected : Given
+
+-- the buffers that a call fills are lent full of zeros
+abbrev pub zeros : ℕ → List ℤ
+zeros n = replicate n (pos 0)
+
+-- What the definitions give
+unfoldable pub ask : Terms → List ℕ → Asked → Given
+ask t samples (checking flow) =
+    let image : List ℤ = zeros (pixelsOf t) in
+    call (checkAnswer t samples flow image) flow (checkImage t samples flow image)
+ask t samples (running quick allowance) =
+    let r : Rounds = record { quick = quick; allowance = allowance } in
+    let flow : List ℤ = zeros (pairsOf t) in
+    let image : List ℤ = zeros (pixelsOf t) in
+    let work : List ℤ = zeros (2 * pairsOf t) in
+    call (runAnswer t r samples flow image work) (runFlow t r samples flow image work)
+    (runImage t r samples flow image work)
+ask t samples (momentum k) = number (quickRounds eighth (grid t samples) k .momentum)
+
+-- The 2 by 1 job: samples 0 and 2, weight 256, box 0 to 255
+abbrev pub twoByOne : Asked → Given → Case
+twoByOne a g =
+    record {
+      terms = record { width = 2; height = 1; weight = 256; low = 0; high = 255 };
+      samples = 0 ∷ 2 ∷ [];
+      asked = a;
+      expected = g
+    }
+
+-- Samples 0 and 20, weight 1280, box 8 to 12
+abbrev pub narrowBox : Asked → Given → Case
+narrowBox a g =
+    record {
+      terms = record { width = 2; height = 1; weight = 1280; low = 8; high = 12 };
+      samples = 0 ∷ 20 ∷ [];
+      asked = a;
+      expected = g
+    }
+
+-- 1 by 1, sample 7, other terms as in the 2 by 1 job
+abbrev pub onePixel : Asked → Given → Case
+onePixel a g =
+    record {
+      terms = record { width = 1; height = 1; weight = 256; low = 0; high = 255 };
+      samples = 7 ∷ [];
+      asked = a;
+      expected = g
+    }
+
+abbrev pub pair : ℕ → ℕ → List ℤ
+pair a b = pos a ∷ pos b ∷ []
+
+abbrev pub one : ℤ → List ℤ
+one f = f ∷ []
+
+unfoldable pub cases : List Case
+cases =
+    twoByOne (checking (one (pos 0)))
+    (call (figures checked 0 (pos 262144) (pos 0) (pos 262144)) (one (pos 0)) (pair 0 512))
+    ∷ twoByOne (checking (one (negℤ (pos 256))))
+    (call (figures checked 0 (pos 131072) (pos 131072) (pos 0)) (one (negℤ (pos 256))) (pair 256 256))
+    ∷ twoByOne (checking (one (pos 256)))
+    (call (figures checked 0 (pos 458752) (negℤ (pos 327680)) (pos 786432)) (one (pos 256)) (pair 0 768))
+    ∷ twoByOne (checking (one (pos 257))) (call (refusal 8 0) (one (pos 257)) (pair 0 0))
+    ∷ twoByOne (running 0 16)
+    (call (figures spent 16 (pos 131104) (pos 131040) (pos 64)) (one (negℤ (pos 252))) (pair 252 260))
+    ∷ twoByOne (running 0 17)
+    (call (figures settled 17 (pos 131090) (pos 131054) (pos 36)) (one (negℤ (pos 253))) (pair 253 259))
+    ∷ twoByOne (momentum 1) (number 106039)
+    ∷ twoByOne (momentum 2) (number 143754)
+    ∷ twoByOne (running 3 0)
+    (call (figures spent 0 (pos 150674) (pos 111470) (pos 39204)) (one (negℤ (pos 157))) (pair 157 355))
+    ∷ narrowBox (checking (one (pos 0)))
+    (call (figures checked 0 (pos 11010048) (pos 8388608) (pos 2621440)) (one (pos 0)) (pair 2048 3072))
+    ∷ narrowBox (checking (one (negℤ (pos 1280))))
+    (call (figures checked 0 (pos 11010048) (pos 11010048) (pos 0)) (one (negℤ (pos 1280))) (pair 2048 3072))
+    ∷ onePixel (running 0 100) (call (figures settled 0 (pos 0) (pos 0) (pos 0)) [] (pos 1792 ∷ []))
+    ∷ []
