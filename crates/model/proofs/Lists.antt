@@ -32,8 +32,8 @@ module _ {A : Type 0} where
   getD-table (suc n) f i d h =
       ⊎-elim
       (λ (l : i < n).
-        List·getD-append (table n f) (f n ∷ []) d i (subst (λ (k : ℕ). i < k) (sym (length-table n f)) l)
-        ∙ getD-table n f i d l)
+      List·getD-append (table n f) (f n ∷ []) d i (subst (λ (k : ℕ). i < k) (sym (length-table n f)) l)
+      ∙ getD-table n f i d l)
       (λ (e : i ≡ n). getD-at (table n f) (f n) [] d i (length-table n f ∙ sym e) ∙ ap f (sym e))
       (last i n h)
 
@@ -53,15 +53,16 @@ module _ {A : Type 0} where
     getD-chain (suc n) r c d h l =
         ⊎-elim
         (λ (b : r < n).
-          List·getD-append (chain n g) (g n) d (r * k + c) (inside b) ∙ getD-chain n r c d b l)
+        List·getD-append (chain n g) (g n) d (r * k + c) (inside b) ∙ getD-chain n r c d b l)
         (λ (e : r ≡ n).
-          ap (λ (i : ℕ). getD (chain n g ++ g n) i d) (seam e)
-          ∙ getD-append-add (chain n g) (g n) c d
-          ∙ ap (λ (s : ℕ). getD (g s) c d) (sym e))
+        ap (λ (i : ℕ). getD (chain n g ++ g n) i d) (seam e)
+        ∙ getD-append-add (chain n g) (g n) c d
+        ∙ ap (λ (s : ℕ). getD (g s) c d) (sym e))
         (last r n h)
       where
         inside : r < n → r * k + c < length (chain n g)
         inside b = let q : suc r * k ≤ n * k = mul-le-mul-right k b in omega (arith, length-chain n)
+
         seam : r ≡ n → r * k + c ≡ length (chain n g) + c
         seam e = ap (λ (m : ℕ). m * k + c) e ∙ ap (λ (m : ℕ). m + c) (sym (length-chain n))
 
@@ -90,6 +91,7 @@ firstWhere-first (suc n) test = go (test 0) refl (firstWhere-first n (λ i. test
   where
     rest : ℕ
     rest = firstWhere n (λ i. test (suc i))
+
     go : (b : Bool) → test 0 ≡ b → First n (λ i. test (suc i)) rest → First (suc n) test (cond b 0 (suc rest))
     go true t r = first-here n test t
     go false t r = first-later n test rest t r
@@ -100,6 +102,7 @@ first-unique n test k l a b = by (decLt k l) (decLt l k)
   where
     clash : (i : ℕ) → test i ≡ true → test i ≡ false → ⊥
     clash i t f = true≢false (sym t ∙ f)
+
     by : Dec (k < l) → Dec (l < k) → k ≡ l
     by (yes h) d = absurd (clash k (a .found (omega (arith, b .within))) (b .before k h))
     by (no g) (yes h) = absurd (clash l (b .found (omega (arith, a .within))) (a .before l h))

@@ -24,9 +24,7 @@ horizontal-count w h = length-chain (w - 1) _ (λ r. length-table (w - 1) _) h
 
 pub grid-count : (w h : ℕ) → length (gridPairs w h) ≡ w * (h - 1) + h * (w - 1)
 unfolding gridPairs
-grid-count w h =
-    length-append (verticalPairs w h) (horizontalPairs w h)
-    ∙ ap₂ (λ (a b : ℕ). a + b) (vertical-count w h) (horizontal-count w h)
+grid-count w h = rw length-append (omega (arith, vertical-count w h, horizontal-count w h))
 
 -- There are 2 × width × height − width − height pairs
 pub pair-count : (w h : ℕ) → length (gridPairs w h) ≡ 2 * w * h - w - h
@@ -34,6 +32,7 @@ pair-count w h = grid-count w h ∙ sides w h
   where
     one-less : (n : ℕ) → suc n - 1 ≡ n
     one-less n = omega arith
+
     sides : (w h : ℕ) → w * (h - 1) + h * (w - 1) ≡ 2 * w * h - w - h
     sides zero h = omega arith
     sides (suc w) zero = omega arith
@@ -50,8 +49,8 @@ module _ (w h : ℕ) (d : Pair) where
 
   -- the pair of a pixel and the one to its right
   pub horizontal-pair : (row column : ℕ) → row < h → column < w - 1 →
-    getD (gridPairs w h) (w * (h - 1) + (row * (w - 1) + column)) d
-    ≡ record { first = pixel w row column; second = pixel w row column + 1 }
+      getD (gridPairs w h) (w * (h - 1) + (row * (w - 1) + column)) d
+      ≡ record { first = pixel w row column; second = pixel w row column + 1 }
   unfolding gridPairs horizontalPairs
   horizontal-pair row column l c =
       ap (λ (k : ℕ). getD (verticalPairs w h ++ horizontalPairs w h) (k + (row * (w - 1) + column)) d) (sym (vertical-count w h))
@@ -83,7 +82,7 @@ module _ (w h : ℕ) (d : Pair) where
         along (k / (w - 1)) (w - 1) (k % (w - 1)) k w (div-add-mod' k (w - 1)) (omega (arith, broad))
 
     pub horizontal-at : getD (gridPairs w h) (w * (h - 1) + k) d
-      ≡ record { first = k + k / (w - 1); second = k + k / (w - 1) + 1 }
+        ≡ record { first = k + k / (w - 1); second = k + k / (w - 1) + 1 }
     horizontal-at =
         ap (λ (n : ℕ). getD (gridPairs w h) (w * (h - 1) + n) d) (sym (div-add-mod' k (w - 1)))
         ∙ horizontal-pair w h d (k / (w - 1)) (k % (w - 1)) row-inside column-inside
@@ -97,12 +96,12 @@ pub record Neighbours (w h : ℕ) (p : Pair) : Type 0 where
   pub column-in : column < w
   pub first-is : p .first ≡ pixel w row column
   pub second-is :
-    ((row + 1 < h) × (p .second ≡ pixel w (row + 1) column))
-    ⊎ ((column + 1 < w) × (p .second ≡ pixel w row (column + 1)))
+      ((row + 1 < h) × (p .second ≡ pixel w (row + 1) column))
+      ⊎ ((column + 1 < w) × (p .second ≡ pixel w row (column + 1)))
 
 -- pair j of the grid is vertical or horizontal
 pub vertical-or-horizontal : (w h j : ℕ) → j < length (gridPairs w h) →
-  (j < w * (h - 1)) ⊎ ((k : ℕ) × (k < h * (w - 1)) × (j ≡ w * (h - 1) + k))
+    (j < w * (h - 1)) ⊎ ((k : ℕ) × (k < h * (w - 1)) × (j ≡ w * (h - 1) + k))
 vertical-or-horizontal w h j l = split (decLt j (w * (h - 1)))
   where
     split : Dec (j < w * (h - 1)) → (j < w * (h - 1)) ⊎ ((k : ℕ) × (k < h * (w - 1)) × (j ≡ w * (h - 1) + k))
@@ -123,7 +122,7 @@ neighbours w h j d l = ⊎-elim vertical horizontal (vertical-or-horizontal w h 
           row-in = omega (arith, above);
           column-in = mod-lt j broad-enough;
           first-is = sym (div-add-mod' j w);
-          second-is = inl (omega (arith, above), omega (arith, div-add-mod' j w))
+          second-is = inl (omega (arith, above), omega (arith, div-add-mod' j w));
         })
       where
         broad-enough : zero < w
@@ -131,8 +130,10 @@ neighbours w h j d l = ⊎-elim vertical horizontal (vertical-or-horizontal w h 
           where
             none : w ≡ 0 → ⊥
             none e = let z : j < 0 * (h - 1) = subst (λ (n : ℕ). j < n * (h - 1)) e v in omega arith
+
         above : j / w < h - 1
         above = div-lt-iff-lt-mul broad-enough .1 (omega arith)
+
     horizontal : (k : ℕ) × (k < h * (w - 1)) × (j ≡ w * (h - 1) + k) → Neighbours w h (getD (gridPairs w h) j d)
     horizontal (k, b, e) =
         subst (λ (n : ℕ). Neighbours w h (getD (gridPairs w h) n d)) (sym e)
@@ -144,7 +145,7 @@ neighbours w h j d l = ⊎-elim vertical horizontal (vertical-or-horizontal w h 
           column-in = omega (arith, column-inside w h d k b);
           first-is = sym (horizontal-pixel w h d k b);
           second-is =
-            inr (omega (arith, column-inside w h d k b), omega (arith, horizontal-pixel w h d k b))
+              inr (omega (arith, column-inside w h d k b), omega (arith, horizontal-pixel w h d k b));
         }))
 
 -- so both pixels are in the raster, and they differ
@@ -160,9 +161,9 @@ module _ (w h : ℕ) (p : Pair) (n : Neighbours w h p) where
   pub second-inside : p .second < w * h
   second-inside = ⊎-elim
       (λ (b : (n .row + 1 < h) × (p .second ≡ pixel w (n .row + 1) (n .column))).
-        subst (λ (i : ℕ). i < w * h) (sym (b .1)) (pixel-inside w h (n .row + 1) (n .column) (b .0) (n .column-in)))
+      subst (λ (i : ℕ). i < w * h) (sym (b .1)) (pixel-inside w h (n .row + 1) (n .column) (b .0) (n .column-in)))
       (λ (b : (n .column + 1 < w) × (p .second ≡ pixel w (n .row) (n .column + 1))).
-        subst (λ (i : ℕ). i < w * h) (sym (b .1)) (pixel-inside w h (n .row) (n .column + 1) (n .row-in) (b .0)))
+      subst (λ (i : ℕ). i < w * h) (sym (b .1)) (pixel-inside w h (n .row) (n .column + 1) (n .row-in) (b .0)))
       (n .second-is)
 
   pub pixels-differ : p .first < p .second

@@ -20,12 +20,12 @@ digit : (n r : ℕ) (b : Bool) → leb ((2 * r + 1) * (2 * r + 1)) n ≡ b → I
 digit n r true t q =
     record {
       below = leb-true ((2 * r + 1) * (2 * r + 1)) n t;
-      above = omega (arith, q .above)
+      above = omega (arith, q .above);
     }
 digit n r false t q =
     record {
       below = omega (arith, q .below);
-      above = leb-false ((2 * r + 1) * (2 * r + 1)) n t
+      above = leb-false ((2 * r + 1) * (2 * r + 1)) n t;
     }
 
 rootBy-is : (k n : ℕ) → n ≤ k → IsRoot n (rootBy k n)
@@ -73,6 +73,6 @@ pub momentum-least : (t : ℕ) → 65536 ≤ t → t ≤ nextMomentum t
 unfolding nextMomentum
 momentum-least t h =
     let q : 2 * t ≤ root (65536 * 65536 + 4 * (t * t)) =
-        root-largest (65536 * 65536 + 4 * (t * t)) (2 * t) (omega arith)
+    root-largest (65536 * 65536 + 4 * (t * t)) (2 * t) (omega arith)
     in
     omega arith

@@ -64,5 +64,5 @@ grid t samples =
       low = lowEnd (t .low);
       high = highEnd (t .high);
       pairs = gridPairs (t .width) (t .height);
-      weight = λ _. t .weight
+      weight = λ _. t .weight;
     }

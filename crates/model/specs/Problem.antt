@@ -85,7 +85,7 @@ divided k p =
       low = pos k *ℤ p .low;
       high = pos k *ℤ p .high;
       pairs = p .pairs;
-      weight = λ j. k * p .weight j
+      weight = λ j. k * p .weight j;
     }
 
 abbrev pub times : ℕ → (ℕ → ℤ) → ℕ → ℤ

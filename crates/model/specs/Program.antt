@@ -23,7 +23,7 @@ use Rattle.model.specs.Calls.{
   checkAnswer,
   checkImage,
   runAnswer,
-  runImage
+  runImage,
 }
 use Rattle.model.specs.Tape.{Progress, Reading, turned, whole, reading}
 
@@ -56,17 +56,17 @@ figuresText a =
 unfoldable pub imageText : Terms → List ℤ → List ℕ
 imageText t values =
     chain (t .height) (λ row.
-      chain (t .width) (λ column.
-        cond (eqb column 0) [] (ascii " ") ++ signedDecimal (at values (pixel (t .width) row column)))
-      ++ ascii "\n")
+    chain (t .width) (λ column.
+    cond (eqb column 0) [] (ascii " ") ++ signedDecimal (at values (pixel (t .width) row column)))
+    ++ ascii "\n")
 
 unfoldable pub answerText : Answer → Terms → List ℤ → List ℕ
 answerText a t values = elim (a .outcome) [
-      refused ↦ refusalText a
-    | checked ↦ figuresText a ++ imageText t values
-    | settled ↦ figuresText a ++ imageText t values
-    | spent ↦ figuresText a ++ imageText t values
-    ]
+  | refused ↦ refusalText a
+  | checked ↦ figuresText a ++ imageText t values
+  | settled ↦ figuresText a ++ imageText t values
+  | spent ↦ figuresText a ++ imageText t values
+]
 
 -- With flow records it checks, else it runs
 unfoldable pub jobText : Progress → List ℕ
@@ -76,10 +76,10 @@ jobText p =
     let flow : List ℤ = replicate (pairsOf t) (pos 0) in
     let work : List ℤ = replicate (2 * pairsOf t) (pos 0) in
     elim (eqb (length (p .flow)) 0) [
-      false ↦ answerText (checkAnswer t (p .samples) (p .flow) values) t (checkImage t (p .samples) (p .flow) values)
-    | true ↦
-        answerText (runAnswer t (p .rounds) (p .samples) flow values work) t
-        (runImage t (p .rounds) (p .samples) flow values work)
+      | false ↦ answerText (checkAnswer t (p .samples) (p .flow) values) t (checkImage t (p .samples) (p .flow) values)
+      | true ↦
+          answerText (runAnswer t (p .rounds) (p .samples) flow values work) t
+          (runImage t (p .rounds) (p .samples) flow values work)
     ]
 
 abbrev pub readText : Reading → List ℕ
@@ -89,6 +89,6 @@ readText (whole p) = jobText p
 -- It reads one tape; 17 over 65,536 bytes. Its tables hold 4,096 samples and 8,064 flow values
 unfoldable pub programText : List ℕ → List ℕ
 programText input = elim (ltb 65536 (length input)) [
-      true ↦ refusalText (refusal 17 0)
-    | false ↦ readText (reading input 4096 8064)
-    ]
+  | true ↦ refusalText (refusal 17 0)
+  | false ↦ readText (reading input 4096 8064)
+]

@@ -45,7 +45,7 @@ quickStart p =
     record {
       iterate = replicate (pairCount p) (pos 0);
       extrapolated = replicate (pairCount p) (pos 0);
-      momentum = 65536
+      momentum = 65536;
     }
 
 -- One quick round: Pₖ is the step on Rₖ
@@ -56,7 +56,7 @@ quickRound share p s =
     record {
       iterate = now;
       extrapolated = table (pairCount p) (λ j. extrapolate (s .momentum) next (at (s .iterate) j) (at now j));
-      momentum = next
+      momentum = next;
     }
 
 unfoldable pub quickRounds : (ℤ → ℤ) → Problem → ℕ → Quick
@@ -88,6 +88,6 @@ steadyRounds share p zero flow =
     record { flow = flow; moved = 0; settled = not (ltb (firstMoving share p (at flow)) (pairCount p)) }
 steadyRounds share p (suc allowance) flow =
     elim (ltb (firstMoving share p (at flow)) (pairCount p)) [
-      true ↦ oneMore (steadyRounds share p allowance (step share p flow))
-    | false ↦ record { flow = flow; moved = 0; settled = true }
+      | true ↦ oneMore (steadyRounds share p allowance (step share p flow))
+      | false ↦ record { flow = flow; moved = 0; settled = true }
     ]

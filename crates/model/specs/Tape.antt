@@ -17,7 +17,7 @@ use Rattle.model.specs.Calls.{
   boxRow,
   roundsRow,
   lengthRow,
-  flowRow
+  flowRow,
 }
 
 -- ---- Numbers in bytes, lowest byte first
@@ -98,7 +98,7 @@ nothing =
       terms = record { width = 0; height = 0; weight = 0; low = 0; high = 0 };
       rounds = record { quick = 0; allowance = 0 };
       samples = [];
-      flow = []
+      flow = [];
     }
 
 -- Order: 1, 2, 3, all samples, then all flow numbers or none, then 0
@@ -125,7 +125,7 @@ absorbed p (Size w h) =
       terms = record { width = w; height = h; weight = 0; low = 0; high = 0 };
       rounds = p .rounds;
       samples = p .samples;
-      flow = p .flow
+      flow = p .flow;
     }
 absorbed p (WeightBox weight low high) =
     record {
@@ -133,7 +133,7 @@ absorbed p (WeightBox weight low high) =
       terms = record { width = p .terms .width; height = p .terms .height; weight = weight; low = low; high = high };
       rounds = p .rounds;
       samples = p .samples;
-      flow = p .flow
+      flow = p .flow;
     }
 absorbed p (RoundLimits q a) =
     record {
@@ -141,7 +141,7 @@ absorbed p (RoundLimits q a) =
       terms = p .terms;
       rounds = record { quick = q; allowance = a };
       samples = p .samples;
-      flow = p .flow
+      flow = p .flow;
     }
 absorbed p (Sample s) =
     record {
@@ -149,7 +149,7 @@ absorbed p (Sample s) =
       terms = p .terms;
       rounds = p .rounds;
       samples = p .samples ++ (s ∷ []);
-      flow = p .flow
+      flow = p .flow;
     }
 absorbed p (Flow f) =
     record {
@@ -157,7 +157,7 @@ absorbed p (Flow f) =
       terms = p .terms;
       rounds = p .rounds;
       samples = p .samples;
-      flow = p .flow ++ (f ∷ [])
+      flow = p .flow ++ (f ∷ []);
     }
 
 -- ---- Where reading turns back
@@ -205,12 +205,12 @@ readFrom (suc k) tape samplesLent flowLent o p =
     let entry : Entry = decoded kind (λ i. getD tape (o + 1 + i) 0) in
     let next : Progress = absorbed p entry in
     elim (firstRefusal (recordRows tape o p ++ entryRows o samplesLent flowLent next entry)) [
-      refuse number place ↦ turned number place
-    | accept ↦
-        elim (eqb kind 0) [
-          true ↦ whole p
-        | false ↦ readFrom k tape samplesLent flowLent (o + 1 + bodyLength kind) next
-        ]
+      | refuse number place ↦ turned number place
+      | accept ↦
+          elim (eqb kind 0) [
+            | true ↦ whole p
+            | false ↦ readFrom k tape samplesLent flowLent (o + 1 + bodyLength kind) next
+          ]
     ]
 
 -- 8 is judged only when the whole tape has passed
@@ -238,7 +238,7 @@ readOf (turned number place) =
       place = place;
       terms = nothing .terms;
       rounds = nothing .rounds;
-      flowed = false
+      flowed = false;
     }
 readOf (whole p) =
     record {
@@ -246,7 +246,7 @@ readOf (whole p) =
       place = 0;
       terms = p .terms;
       rounds = p .rounds;
-      flowed = not (eqb (length (p .flow)) 0)
+      flowed = not (eqb (length (p .flow)) 0);
     }
 
 -- a buffer's front filled with what was read and its rest left, or its former values

@@ -1,5 +1,7 @@
--- The values that document 01 marks to be proved (●), in its order: what is asked, and what is to be given. One theorem,
--- `values` of proofs/Values.antt, says that the definitions give it in every case.
+-- The values that document 01 marks to be proved (●), in its order: what is asked, and what is to be given; after them
+-- the text that it prints for the 2 by 1 job, and a 2 by 2 job of our own, worked by hand, in which the order of the
+-- pairs tells. One theorem, `values` of proofs/Values.antt, says that the definitions give
+-- it in every case.
 use mathlib.Core.List.{List, [], _∷_}
 use Prim.Native.Nat.{ℕ, _*_}
 use lib.IntN.{ℤ, pos, negsuc, negℤ}
@@ -21,19 +23,25 @@ use Rattle.model.specs.Calls.{
   checkImage,
   runAnswer,
   runFlow,
-  runImage
+  runImage,
 }
+use Rattle.model.specs.Tape.{tapeOf}
+use Rattle.model.specs.Text.{ascii}
+use Rattle.model.specs.Program.{programText}
 
--- A check of a flow; a run with these rounds; or the T that k quick rounds leave, Tₖ₊₁
+-- A check of a flow; a run with these rounds; the T that k quick rounds leave, Tₖ₊₁; or the program's text for the
+-- job's tape with these rounds and no flow
 pub data Asked : Type 0 where
   checking : List ℤ → Asked
   running : ℕ → ℕ → Asked
   momentum : ℕ → Asked
+  printing : ℕ → ℕ → Asked
 
--- What is given: the answer, the flow and the image that are left; or a T
+-- What is given: the answer, the flow and the image that are left; a T; or bytes of text
 pub data Given : Type 0 where
   call : Answer → List ℤ → List ℤ → Given
   number : ℕ → Given
+  text : List ℕ → Given
 
 pub record Case : Type 0 where
   pub terms : Terms
@@ -58,6 +66,8 @@ ask t samples (running quick allowance) =
     call (runAnswer t r samples flow image work) (runFlow t r samples flow image work)
     (runImage t r samples flow image work)
 ask t samples (momentum k) = number (quickRounds eighth (grid t samples) k .momentum)
+ask t samples (printing quick allowance) =
+    text (programText (tapeOf t (record { quick = quick; allowance = allowance }) samples []))
 
 -- The 2 by 1 job: samples 0 and 2, weight 256, box 0 to 255
 abbrev pub twoByOne : Asked → Given → Case
@@ -66,7 +76,7 @@ twoByOne a g =
       terms = record { width = 2; height = 1; weight = 256; low = 0; high = 255 };
       samples = 0 ∷ 2 ∷ [];
       asked = a;
-      expected = g
+      expected = g;
     }
 
 -- Samples 0 and 20, weight 1280, box 8 to 12
@@ -76,7 +86,7 @@ narrowBox a g =
       terms = record { width = 2; height = 1; weight = 1280; low = 8; high = 12 };
       samples = 0 ∷ 20 ∷ [];
       asked = a;
-      expected = g
+      expected = g;
     }
 
 -- 1 by 1, sample 7, other terms as in the 2 by 1 job
@@ -85,6 +95,16 @@ onePixel a g =
     record {
       terms = record { width = 1; height = 1; weight = 256; low = 0; high = 255 };
       samples = 7 ∷ [];
+      asked = a;
+      expected = g;
+    }
+
+-- 2 by 2, samples 0, 10, 20 and 40, weight 256, box 0 to 255: its pairs are (0, 2), (1, 3), (0, 1), (2, 3)
+abbrev pub twoByTwo : Asked → Given → Case
+twoByTwo a g =
+    record {
+      terms = record { width = 2; height = 2; weight = 256; low = 0; high = 255 };
+      samples = 0 ∷ 10 ∷ 20 ∷ 40 ∷ [];
       asked = a;
       expected = g
     }
@@ -117,4 +137,8 @@ cases =
     ∷ narrowBox (checking (one (negℤ (pos 1280))))
     (call (figures checked 0 (pos 11010048) (pos 11010048) (pos 0)) (one (negℤ (pos 1280))) (pair 2048 3072))
     ∷ onePixel (running 0 100) (call (figures settled 0 (pos 0) (pos 0) (pos 0)) [] (pos 1792 ∷ []))
+    ∷ twoByOne (printing 0 100) (text (ascii "outcome moved price floor slack\nsettled 17 131090 131054 36\n253 259\n"))
+    ∷ twoByTwo (checking (pos 1 ∷ pos 2 ∷ pos 4 ∷ pos 8 ∷ []))
+    (call (figures checked 0 (pos 10496153) (negℤ (pos 143513)) (pos 10639666)) (pos 1 ∷ pos 2 ∷ pos 4 ∷ pos 8 ∷ [])
+    (pos 0 ∷ pos 2562 ∷ pos 5113 ∷ pos 10250 ∷ []))
     ∷ []
