@@ -1,0 +1,127 @@
+//! The calls on a job: price, check and run.
+
+use crate::problem::{widened, Problem};
+use crate::refusal::{Fault, Refusal};
+use crate::rounds::{quick_rounds, steady_rounds, Outcome};
+use crate::terms::{Rounds, Terms};
+
+/// What an accepted call answers.
+#[derive(Clone, Copy, Debug, PartialEq, Eq)]
+pub struct Figures {
+    /// How the call ended.
+    pub outcome: Outcome,
+    /// The number of steady rounds that changed a value; 0 but for a run.
+    pub moved: u32,
+    /// The primal objective of the image.
+    pub price: u64,
+    /// The dual objective of the flow; 0 for `price`.
+    pub floor: i64,
+    /// The duality gap; 0 for `price`.
+    pub slack: u64,
+}
+
+/// Judges a given image.
+pub fn price(terms: &Terms, samples: &[u8], image: &[i32]) -> Result<Figures, Refusal> {
+    let grid = terms.judge()?;
+    Fault::SamplesLength.unless(samples.len() == grid.pixel_count())?;
+    Fault::ImageLength.unless(image.len() == grid.pixel_count())?;
+    terms.judge_image(image)?;
+
+    let problem = Problem::new(grid, terms, samples);
+    Ok(Figures {
+        outcome: Outcome::Checked,
+        moved: 0,
+        price: figure(problem.objective(&widened(image))),
+        floor: 0,
+        slack: 0,
+    })
+}
+
+/// Judges a given flow and fills `image` with its image.
+pub fn check(
+    terms: &Terms,
+    samples: &[u8],
+    flow: &[i32],
+    image: &mut [i32],
+) -> Result<Figures, Refusal> {
+    let grid = terms.judge()?;
+    Fault::SamplesLength.unless(samples.len() == grid.pixel_count())?;
+    Fault::FlowLength.unless(flow.len() == grid.pair_count())?;
+    Fault::ImageLength.unless(image.len() == grid.pixel_count())?;
+    terms.judge_flow(flow)?;
+
+    let problem = Problem::new(grid, terms, samples);
+    Ok(certify(
+        &problem,
+        &widened(flow),
+        Outcome::Checked,
+        0,
+        image,
+    ))
+}
+
+/// Does the rounds, starting from flow 0, and fills `flow` and `image`.
+///
+/// `work` is only there to be lent: the rounds keep their own vectors. An accepted
+/// run leaves zeros in it.
+pub fn run(
+    terms: &Terms,
+    rounds: &Rounds,
+    samples: &[u8],
+    flow: &mut [i32],
+    image: &mut [i32],
+    work: &mut [i32],
+) -> Result<Figures, Refusal> {
+    let grid = terms.judge()?;
+    rounds.judge()?;
+    Fault::SamplesLength.unless(samples.len() == grid.pixel_count())?;
+    Fault::FlowLength.unless(flow.len() == grid.pair_count())?;
+    Fault::ImageLength.unless(image.len() == grid.pixel_count())?;
+    Fault::WorkLength.unless(work.len() == 2 * grid.pair_count())?;
+
+    let problem = Problem::new(grid, terms, samples);
+    let quick = quick_rounds(&problem, rounds.quick);
+    let steady = steady_rounds(&problem, quick, rounds.allowance);
+    narrow(&steady.flow, flow);
+    work.fill(0);
+    Ok(certify(
+        &problem,
+        &steady.flow,
+        steady.outcome,
+        steady.moved,
+        image,
+    ))
+}
+
+/// Fills `image` with the image of `flow` and gives the figures of both.
+fn certify(
+    problem: &Problem,
+    flow: &[i64],
+    outcome: Outcome,
+    moved: u32,
+    image: &mut [i32],
+) -> Figures {
+    let values = problem.image_of(flow);
+    narrow(&values, image);
+    Figures {
+        outcome,
+        moved,
+        price: figure(problem.objective(&values)),
+        floor: figure(problem.dual_objective(flow)),
+        slack: figure(problem.duality_gap(flow)),
+    }
+}
+
+/// Copies flow or image values into a lent buffer of the same length.
+fn narrow(values: &[i64], buffer: &mut [i32]) {
+    for (place, &value) in buffer.iter_mut().zip(values) {
+        *place = i32::try_from(value).expect("flows and images stay within 65,280");
+    }
+}
+
+/// A total in the 64 bits of an answer.
+fn figure<T: TryFrom<i128>>(total: i128) -> T {
+    T::try_from(total)
+        .ok()
+        .expect("totals stay below 2^56 within the limits")
+}

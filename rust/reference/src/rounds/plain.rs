@@ -1,0 +1,111 @@
+//! The same rounds as loop nests over lent 32-bit buffers, for speed.
+//!
+//! Both functions expect accepted terms and buffers of the exact lengths.
+//!
+//! 32 bits are enough: T never falls, so an extrapolated flow stays within three
+//! times the weight, and readings less four such numbers stay below 2^20.
+
+use std::ops::Range;
+
+use super::{next_t, STEP_DIVISOR, T_UNIT};
+use crate::terms::{reading, Terms};
+
+/// Replaces `flow` by its step, leaves in `image` the image of the flow before the
+/// step, and says whether a value changed.
+pub fn steady_round_plain(
+    terms: &Terms,
+    samples: &[u8],
+    flow: &mut [i32],
+    image: &mut [i32],
+) -> bool {
+    fill_image(terms, samples, flow, image);
+    let weight = terms.weight as i32;
+    let mut changed = false;
+    for_each_run(terms, image, |pairs, firsts, seconds| {
+        for ((value, first), second) in flow[pairs].iter_mut().zip(firsts).zip(seconds) {
+            let stepped = (*value + (first - second) / STEP_DIVISOR).clamp(-weight, weight);
+            changed |= stepped != *value;
+            *value = stepped;
+        }
+    });
+    changed
+}
+
+/// One quick round at `t`: takes `flow` and `ahead` (document 01: P and R) to the
+/// next ones, leaves in `image` the image of the earlier `ahead`, and gives the
+/// next T.
+pub fn quick_round_plain(
+    terms: &Terms,
+    samples: &[u8],
+    t: u64,
+    flow: &mut [i32],
+    ahead: &mut [i32],
+    image: &mut [i32],
+) -> u64 {
+    fill_image(terms, samples, ahead, image);
+    let weight = terms.weight as i32;
+    let following_t = next_t(t);
+    let (gain, scale) = ((t - T_UNIT) as i64, following_t as i64);
+    for_each_run(terms, image, |pairs, firsts, seconds| {
+        let flows = flow[pairs.clone()].iter_mut().zip(&mut ahead[pairs]);
+        for (((value, ahead), first), second) in flows.zip(firsts).zip(seconds) {
+            let stepped = (*ahead + (first - second) / STEP_DIVISOR).clamp(-weight, weight);
+            let momentum = gain * i64::from(stepped - *value) / scale;
+            *ahead = stepped + momentum as i32;
+            *value = stepped;
+        }
+    });
+    following_t
+}
+
+/// Fills `image` with the image of `flow`, which may pass the weight.
+fn fill_image(terms: &Terms, samples: &[u8], flow: &[i32], image: &mut [i32]) {
+    let (width, height) = (terms.width as usize, terms.height as usize);
+    let (lower, upper) = terms.bounds().into_inner();
+    let (down, right) = flow.split_at(width * (height - 1));
+    for y in 0..height {
+        let row = y * width..(y + 1) * width;
+        let right = &right[y * (width - 1)..(y + 1) * (width - 1)];
+        let values = &mut image[row.clone()];
+        for (value, &sample) in values.iter_mut().zip(&samples[row.clone()]) {
+            *value = reading(sample);
+        }
+        if y > 0 {
+            add(values, &down[row.start - width..row.start]);
+        }
+        if y + 1 < height {
+            subtract(values, &down[row]);
+        }
+        add(&mut values[1..], right);
+        subtract(&mut values[..width - 1], right);
+        for value in values {
+            *value = (*value).clamp(lower, upper);
+        }
+    }
+}
+
+fn add(values: &mut [i32], flow: &[i32]) {
+    for (value, flow) in values.iter_mut().zip(flow) {
+        *value += flow;
+    }
+}
+
+fn subtract(values: &mut [i32], flow: &[i32]) {
+    for (value, flow) in values.iter_mut().zip(flow) {
+        *value -= flow;
+    }
+}
+
+/// Visits all pairs in runs of successive ones, each with the values of its first
+/// and of its second pixels: one run for the pairs downward, then one for each row.
+fn for_each_run(terms: &Terms, image: &[i32], mut visit: impl FnMut(Range<usize>, &[i32], &[i32])) {
+    let (width, height) = (terms.width as usize, terms.height as usize);
+    let down = width * (height - 1);
+    visit(0..down, &image[..down], &image[width..]);
+    let mut start = down;
+    for row in image.chunks_exact(width) {
+        let end = start + width - 1;
+        visit(start..end, &row[..width - 1], &row[1..]);
+        start = end;
+    }
+}

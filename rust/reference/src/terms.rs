@@ -1,0 +1,87 @@
+//! A job's terms, and the judgement of them and of values under them.
+
+use std::ops::RangeInclusive;
+
+use crate::grid::Grid;
+use crate::refusal::{Fault, Refusal};
+
+/// Sub-units in one level.
+pub const LEVEL: i32 = 256;
+/// The largest weight, in sub-units.
+pub const WEIGHT_LIMIT: u32 = 65_280;
+/// The largest number of quick rounds.
+pub const QUICK_LIMIT: u32 = 4_096;
+
+/// The value in sub-units that a sample stands for (document 01: B).
+pub fn reading(sample: u8) -> i32 {
+    LEVEL * i32::from(sample)
+}
+
+/// Size, weight and box of a job, as lent: nothing is judged yet.
+#[derive(Clone, Copy, Debug, Default, PartialEq, Eq)]
+pub struct Terms {
+    /// Pixels in a row.
+    pub width: u32,
+    /// Rows.
+    pub height: u32,
+    /// The regularisation weight W in sub-units.
+    pub weight: u32,
+    /// The low end of the box in levels.
+    pub low: u8,
+    /// The high end of the box in levels.
+    pub high: u8,
+}
+
+impl Terms {
+    /// The grid of the terms, if all are within their limits (else number 1, 2 or 3).
+    pub fn judge(&self) -> Result<Grid, Fault> {
+        let grid = self.judge_size()?;
+        self.judge_weight_and_box()?;
+        Ok(grid)
+    }
+
+    /// Number 1.
+    pub(crate) fn judge_size(&self) -> Result<Grid, Fault> {
+        Grid::new(self.width, self.height)
+    }
+
+    /// Numbers 2 and 3.
+    pub(crate) fn judge_weight_and_box(&self) -> Result<(), Fault> {
+        Fault::Weight.unless(self.weight <= WEIGHT_LIMIT)?;
+        Fault::Box.unless(self.low <= self.high)
+    }
+
+    /// The image values, in sub-units, that the box allows.
+    pub fn bounds(&self) -> RangeInclusive<i32> {
+        LEVEL * i32::from(self.low)..=LEVEL * i32::from(self.high)
+    }
+
+    /// Number 8, at the first flow number beyond the weight.
+    pub(crate) fn judge_flow(&self, flow: &[i32]) -> Result<(), Refusal> {
+        let beyond = |value: &i32| value.unsigned_abs() > self.weight;
+        Fault::FlowValue.at_any(flow.iter().position(beyond))
+    }
+
+    /// Number 9, at the first image value outside the box.
+    pub(crate) fn judge_image(&self, image: &[i32]) -> Result<(), Refusal> {
+        let bounds = self.bounds();
+        let outside = |value: &i32| !bounds.contains(value);
+        Fault::ImageValue.at_any(image.iter().position(outside))
+    }
+}
+
+/// How many rounds a run may make, as lent.
+#[derive(Clone, Copy, Debug, Default, PartialEq, Eq)]
+pub struct Rounds {
+    /// The number of quick rounds.
+    pub quick: u32,
+    /// The most steady rounds.
+    pub allowance: u16,
+}
+
+impl Rounds {
+    /// Number 10, when there are too many quick rounds.
+    pub fn judge(&self) -> Result<(), Fault> {
+        Fault::QuickRounds.unless(self.quick <= QUICK_LIMIT)
+    }
+}

@@ -1,0 +1,156 @@
+//! What every answer promises, tried on thousands of random jobs: the distance
+//! guarantee on the grid and its whole divisions, and the bounds of a run.
+
+use relief_reference::problem::{squared_distance, widened};
+use relief_reference::rounds::{quick_rounds, step};
+use relief_reference::{Outcome, Problem};
+
+use crate::support::{multiplied, two_by_one, Answer, Case, Random};
+
+const JOBS: usize = 10_000;
+
+/// Rival images tried against each answer on each division.
+const RIVALS: usize = 6;
+
+/// `price + squared distance <= rival price + slack` and `floor <= rival price`; at
+/// slack 0 an image of the same price is the same image.
+fn assert_distance_guarantee(problem: &Problem, flow: &[i64], rival: &[i64]) {
+    let image = problem.image_of(flow);
+    let price = problem.objective(&image);
+    let slack = problem.duality_gap(flow);
+    let rival_price = problem.objective(rival);
+    assert!(slack >= 0);
+    assert!(problem.dual_objective(flow) <= rival_price);
+    assert!(price + squared_distance(&image, rival) <= rival_price + slack);
+    if slack == 0 {
+        assert_eq!(rival_price == price, rival == image);
+    }
+}
+
+/// The guarantee for an answer of check or run, whose numbers are the defined ones.
+fn assert_certified(random: &mut Random, case: &Case, answer: &Answer) {
+    let problem = case.problem();
+    let flow = widened(&answer.flow);
+    let image = widened(&answer.image);
+    let price = i128::from(answer.figures.price);
+    let floor = i128::from(answer.figures.floor);
+    let slack = i128::from(answer.figures.slack);
+    assert_eq!(price - floor, slack);
+
+    let (lower, upper) = case.ends();
+    for k in 1..=5 {
+        let problem = problem.divided(k);
+        let flow = multiplied(k, &flow);
+        let image = multiplied(k, &image);
+        let area = i128::from(k * k);
+        assert_eq!(problem.image_of(&flow), image);
+        assert_eq!(problem.objective(&image), area * price);
+        assert_eq!(problem.dual_objective(&flow), area * floor);
+        assert_eq!(problem.duality_gap(&flow), area * slack);
+        assert_distance_guarantee(&problem, &flow, &image);
+        for _ in 0..RIVALS {
+            let rival = random.image(k * lower, k * upper, &image);
+            assert_distance_guarantee(&problem, &flow, &rival);
+        }
+    }
+}
+
+#[test]
+fn checks_are_certified() {
+    let mut random = Random::new(0xC4EC);
+    let mut gapless = 0;
+    for _ in 0..JOBS {
+        let case = random.small_case();
+        let flow = random.flow(&case);
+        let answer = case.check(&flow).unwrap();
+        assert_eq!(answer.figures.outcome, Outcome::Checked);
+        assert_eq!(answer.figures.moved, 0);
+        assert_certified(&mut random, &case, &answer);
+        gapless += usize::from(answer.figures.slack == 0);
+
+        let priced = case.price(&answer.image).unwrap();
+        assert_eq!(priced.price, answer.figures.price);
+    }
+    assert!(gapless > JOBS / 20);
+}
+
+#[test]
+fn runs_are_certified_and_bounded() {
+    let mut random = Random::new(0x4D4);
+    let (mut settled, mut spent, mut sure_to_settle) = (0, 0, 0);
+    for _ in 0..JOBS {
+        let case = random.small_case();
+        let answer = case.run().unwrap();
+        assert_certified(&mut random, &case, &answer);
+        assert!(answer.work.iter().all(|&value| value == 0));
+
+        let problem = case.problem();
+        let start = quick_rounds(&problem, case.rounds.quick);
+        let starting_slack = problem.duality_gap(&start);
+        let moved = answer.figures.moved;
+        let allowance = u32::from(case.rounds.allowance);
+        assert!(8 * i128::from(moved) <= starting_slack);
+        if 8 * i128::from(allowance + 1) > starting_slack {
+            assert_eq!(answer.figures.outcome, Outcome::Settled);
+            sure_to_settle += 1;
+        }
+
+        let flow = widened(&answer.flow);
+        let would_move = step(&problem, &flow) != flow;
+        match answer.figures.outcome {
+            Outcome::Settled => {
+                settled += 1;
+                let pair_count = case.grid().pair_count() as u64;
+                let bound = 28 * u64::from(case.terms.weight) * pair_count;
+                assert!(!would_move);
+                assert!(moved <= allowance);
+                assert!(answer.figures.slack <= bound);
+            }
+            Outcome::Spent => {
+                spent += 1;
+                assert!(would_move);
+                assert_eq!(moved, allowance);
+            }
+            Outcome::Checked => panic!("a run is never checked"),
+        }
+    }
+    for count in [settled, spent, sure_to_settle] {
+        assert!(count > JOBS / 10);
+    }
+}
+
+#[test]
+fn a_step_that_moves_raises_the_floor_by_eight() {
+    let mut random = Random::new(0xF1004);
+    let mut moving = 0;
+    for _ in 0..JOBS {
+        let case = random.small_case();
+        let problem = case.problem();
+        let flow = widened(&random.flow(&case));
+        let stepped = step(&problem, &flow);
+        if stepped != flow {
+            moving += 1;
+            let floor = problem.dual_objective(&flow);
+            assert!(problem.dual_objective(&stepped) >= floor + 8);
+        }
+    }
+    assert!(moving > JOBS / 3);
+}
+
+/// All images of a small box, against a flow with slack 0 and one with more.
+#[test]
+fn every_image_of_a_small_box() {
+    let mut case = two_by_one();
+    case.terms.high = 1;
+    let problem = case.problem();
+    let (lower, upper) = case.ends();
+    for flow in [-256, 40] {
+        for first in lower..=upper {
+            for second in lower..=upper {
+                assert_distance_guarantee(&problem, &[flow], &[first, second]);
+            }
+        }
+    }
+    assert_eq!(problem.duality_gap(&[-256]), 0);
+    assert!(problem.duality_gap(&[40]) > 0);
+}

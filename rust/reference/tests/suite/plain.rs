@@ -1,0 +1,66 @@
+//! The loop nests over 32-bit buffers against the definitions.
+
+use relief_reference::problem::widened;
+use relief_reference::rounds::{quick_round_plain, quick_rounds, steady_round_plain, step, T_UNIT};
+
+use crate::support::{marked, Case, Random};
+
+/// Many sizes, one row and one column among them.
+fn cases(seed: u64) -> impl Iterator<Item = (Random, Case)> {
+    let mut random = Random::new(seed);
+    let sizes = [(1, 1), (1, 9), (9, 1), (2, 2), (17, 13), (40, 31)];
+    (0..240).map(move |turn| {
+        let (width, height) = sizes[turn % sizes.len()];
+        let case = random.sized_case(width, height);
+        (Random::new(seed + turn as u64), case)
+    })
+}
+
+#[test]
+fn steady_round_equals_the_step() {
+    for (mut random, case) in cases(0x57EAD) {
+        let problem = case.problem();
+        let mut flow = random.flow(&case);
+        let mut image = marked(case.samples.len());
+        for _ in 0..3 {
+            let before = widened(&flow);
+            let changed = steady_round_plain(&case.terms, &case.samples, &mut flow, &mut image);
+            let after = widened(&flow);
+            assert_eq!(after, step(&problem, &before));
+            assert_eq!(changed, after != before);
+            assert_eq!(widened(&image), problem.image_of(&before));
+        }
+    }
+}
+
+/// Makes `count` quick rounds and compares every flow on the way.
+fn assert_quick_rounds(case: &Case, count: u32) {
+    let pair_count = case.grid().pair_count();
+    let mut flow = vec![0; pair_count];
+    let mut ahead = vec![0; pair_count];
+    let mut image = marked(case.samples.len());
+    let mut t = T_UNIT;
+    let Case { terms, samples, .. } = case;
+    for _ in 0..count {
+        t = quick_round_plain(terms, samples, t, &mut flow, &mut ahead, &mut image);
+    }
+    assert_eq!(widened(&flow), quick_rounds(&case.problem(), count));
+}
+
+#[test]
+fn quick_rounds_equal_the_definition() {
+    for (mut random, case) in cases(0x0041C4) {
+        let count = random.between(0, 30) as u32;
+        assert_quick_rounds(&case, count);
+    }
+}
+
+#[test]
+fn all_quick_rounds_at_the_largest_weight() {
+    let mut random = Random::new(0xF10);
+    for _ in 0..4 {
+        let mut case = random.sized_case(4, 3);
+        case.terms.weight = 65_280;
+        assert_quick_rounds(&case, 4_096);
+    }
+}

@@ -1,0 +1,102 @@
+//! The cleaning program's text, from the library and from the binary.
+
+use std::io::Write;
+use std::process::{Command, Stdio};
+
+use relief_reference::program::{clean, FLOW_TABLE, INPUT_LIMIT, SAMPLE_TABLE};
+
+use crate::support::{two_by_one, Random};
+
+const SETTLED: &str = "\
+outcome moved price floor slack
+settled 17 131090 131054 36
+253 259
+";
+
+#[test]
+fn run_of_the_two_by_one_job() {
+    assert_eq!(clean(&two_by_one().tape(&[])), SETTLED);
+}
+
+#[test]
+fn checks_of_the_two_by_one_job() {
+    let text = "\
+outcome moved price floor slack
+checked 0 458752 -327680 786432
+0 768
+";
+    assert_eq!(clean(&two_by_one().tape(&[256])), text);
+
+    let mut tape = two_by_one().tape(&[256]);
+    tape[20..24].copy_from_slice(&257_i32.to_le_bytes());
+    assert_eq!(clean(&tape), "refused 8 at 0\n");
+}
+
+#[test]
+fn one_line_for_each_row() {
+    let mut job = two_by_one();
+    (job.terms.width, job.terms.height, job.terms.weight) = (3, 2, 0);
+    job.samples = vec![1, 2, 3, 4, 5, 6];
+    let text = "\
+outcome moved price floor slack
+settled 0 0 0 0
+256 512 768
+1024 1280 1536
+";
+    assert_eq!(clean(&job.tape(&[])), text);
+}
+
+#[test]
+fn refusals_of_the_input() {
+    assert_eq!(clean(&[]), "refused 13 at 0\n");
+    assert_eq!(clean(&vec![0; INPUT_LIMIT]), "refused 14 at 0\n");
+    assert_eq!(clean(&vec![0; INPUT_LIMIT + 1]), "refused 17 at 0\n");
+    let mut tape = two_by_one().tape(&[]);
+    tape.resize(INPUT_LIMIT, 0);
+    assert_eq!(clean(&tape), "refused 15 at 20\n");
+    tape.push(0);
+    assert_eq!(clean(&tape), "refused 17 at 0\n");
+}
+
+#[test]
+fn the_tables_hold_every_size_up_to_4096_pixels() {
+    let mut random = Random::new(0x7AB1E);
+    let mut full = random.sized_case(64, 64);
+    full.rounds.allowance = 1;
+    assert_eq!(full.grid().pixel_count(), SAMPLE_TABLE);
+    assert_eq!(full.grid().pair_count(), FLOW_TABLE);
+    let flow = random.flow(&full);
+    assert_eq!(clean(&full.tape(&[])).lines().count(), 2 + 64);
+    assert!(clean(&full.tape(&flow)).contains("\nchecked 0 "));
+
+    for (width, height, taken) in [(4_096, 1, true), (1, 4_096, true), (17, 241, false)] {
+        let mut job = random.sized_case(width, height);
+        job.rounds.allowance = 1;
+        let text = clean(&job.tape(&[]));
+        assert_eq!(text.starts_with("outcome"), taken);
+        assert_eq!(text == "refused 16 at 0\n", !taken);
+    }
+}
+
+/// What the binary prints for `input`.
+fn printed(input: &[u8]) -> String {
+    let mut program = Command::new(env!("CARGO_BIN_EXE_relief-reference"))
+        .stdin(Stdio::piped())
+        .stdout(Stdio::piped())
+        .spawn()
+        .unwrap();
+    // Dropped after the write, so that the program sees the end of its input.
+    let mut stdin = program.stdin.take().unwrap();
+    stdin.write_all(input).unwrap();
+    drop(stdin);
+    let output = program.wait_with_output().unwrap();
+    assert!(output.status.success());
+    String::from_utf8(output.stdout).unwrap()
+}
+
+#[test]
+fn the_binary_prints_the_text() {
+    assert_eq!(printed(&two_by_one().tape(&[])), SETTLED);
+    assert_eq!(printed(&[]), "refused 13 at 0\n");
+    assert_eq!(printed(&vec![0; INPUT_LIMIT + 1]), "refused 17 at 0\n");
+}

@@ -1,0 +1,105 @@
+//! Tapes written and read back, cut short and changed.
+
+use relief_reference::program::{clean, FLOW_TABLE, SAMPLE_TABLE};
+use relief_reference::{Job, Refusal};
+
+use crate::support::{read_back, refusal, two_by_one, Case, Random};
+
+#[test]
+fn bytes_of_the_two_by_one_tape() {
+    let mut job = two_by_one();
+    (job.rounds.quick, job.rounds.allowance) = (0x0123, 0x4567);
+    #[rustfmt::skip]
+    let tape = [
+        1, 2, 0, 1, 0,
+        2, 0, 1, 0, 255,
+        3, 0x23, 0x01, 0x67, 0x45,
+        4, 0,
+        4, 2,
+        5, 0xFE, 0xFF, 0xFF, 0xFF,
+        0,
+    ];
+    assert_eq!(job.tape(&[-2]), tape);
+}
+
+/// Reads `tape`. An accepted one, written again, gives its own bytes; the program
+/// prints a refusal for any other.
+fn read_and_write_again(tape: &[u8]) -> Result<Job, Refusal> {
+    let taken = read_back(tape, SAMPLE_TABLE, FLOW_TABLE);
+    let text = clean(tape);
+    match taken.answer {
+        Ok(job) => {
+            let case = Case {
+                terms: job.terms,
+                rounds: job.rounds,
+                samples: taken.samples,
+            };
+            assert_eq!(case.tape(&taken.flow), tape);
+            assert!(text.starts_with("outcome "));
+        }
+        Err(refusal) => assert_eq!(text, format!("{refusal}\n")),
+    }
+    taken.answer
+}
+
+#[test]
+fn a_written_tape_reads_back_as_the_job() {
+    let mut random = Random::new(0x7A9E);
+    for _ in 0..2_000 {
+        let case = random.small_case();
+        for flow in [Vec::new(), random.flow(&case)] {
+            let taken = read_back(&case.tape(&flow), 30, 50);
+            let job = Job {
+                terms: case.terms,
+                rounds: case.rounds,
+                has_flow: !flow.is_empty(),
+            };
+            assert_eq!(taken.answer, Ok(job));
+            assert_eq!(taken.samples, case.samples);
+            assert_eq!(taken.flow, flow);
+        }
+    }
+}
+
+/// Tapes with and without a flow and with no pairs.
+fn small_tapes() -> [Vec<u8>; 4] {
+    let row = two_by_one();
+    let mut square = two_by_one();
+    square.terms.height = 2;
+    square.samples = vec![0, 9, 255, 4];
+    let mut pixel = two_by_one();
+    pixel.terms.width = 1;
+    pixel.samples = vec![7];
+    [
+        row.tape(&[]),
+        row.tape(&[-256]),
+        square.tape(&[1, -2, 256, 0]),
+        pixel.tape(&[]),
+    ]
+}
+
+#[test]
+fn every_prefix_is_refused_where_it_ends() {
+    for tape in small_tapes() {
+        for length in 0..tape.len() {
+            let answer = read_and_write_again(&tape[..length]);
+            assert_eq!(answer, Err(refusal(13, length as u64)));
+        }
+        assert!(read_and_write_again(&tape).is_ok());
+    }
+}
+
+#[test]
+fn every_single_byte_change_gets_an_answer() {
+    for tape in small_tapes() {
+        for place in 0..tape.len() {
+            let mut changed = tape.clone();
+            for byte in 0..=255 {
+                changed[place] = byte;
+                if let Err(refusal) = read_and_write_again(&changed) {
+                    assert!(refusal.place <= tape.len() as u64);
+                }
+            }
+        }
+    }
+}

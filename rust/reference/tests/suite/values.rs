@@ -1,0 +1,205 @@
+//! Document 01's "Values to compare", and the laws of T and its root.
+
+use relief_reference::rounds::{next_t, T_UNIT};
+use relief_reference::Outcome::{Checked, Settled, Spent};
+use relief_reference::{price, Grid, Outcome, Rounds, Terms};
+
+use crate::support::{figures, read_back, refusal, two_by_one, Case};
+
+#[test]
+fn pairs_go_down_first_then_right() {
+    let grid = Grid::new(3, 2).unwrap();
+    let pairs = [(0, 3), (1, 4), (2, 5), (0, 1), (1, 2), (3, 4), (4, 5)];
+    assert!(grid.pairs().eq(pairs));
+    for (width, height) in [(1, 1), (1, 9), (9, 1), (7, 5), (64, 64)] {
+        let grid = Grid::new(width, height).unwrap();
+        assert_eq!(grid.pairs().count(), grid.pair_count());
+    }
+}
+
+#[test]
+fn checks_of_the_two_by_one_job() {
+    let job = two_by_one();
+    for (flow, image, price, floor, slack) in [
+        (0, [0, 512], 262_144, 0, 262_144),
+        (-256, [256, 256], 131_072, 131_072, 0),
+        (256, [0, 768], 458_752, -327_680, 786_432),
+    ] {
+        let answer = job.check(&[flow]).unwrap();
+        assert_eq!(answer.image, image);
+        assert_eq!(answer.figures, figures(Checked, 0, price, floor, slack));
+        assert_eq!(job.price(&image), Ok(figures(Checked, 0, price, 0, 0)));
+    }
+    assert_eq!(job.check(&[257]), Err(refusal(8, 0)));
+}
+
+/// Runs the 2 by 1 job and compares the flow it leaves and all of its figures.
+fn assert_run(rounds: Rounds, flow: i32, outcome: Outcome, moved: u32, totals: (u64, i64, u64)) {
+    let job = Case {
+        rounds,
+        ..two_by_one()
+    };
+    let answer = job.run().unwrap();
+    let (price, floor, slack) = totals;
+    assert_eq!(answer.flow, [flow]);
+    assert_eq!(answer.work, [0, 0]);
+    assert_eq!(answer.figures, figures(outcome, moved, price, floor, slack));
+}
+
+#[test]
+fn runs_of_the_two_by_one_job() {
+    let steady = |allowance| Rounds {
+        quick: 0,
+        allowance,
+    };
+    assert_run(steady(16), -252, Spent, 16, (131_104, 131_040, 64));
+    assert_run(steady(17), -253, Settled, 17, (131_090, 131_054, 36));
+    assert_run(steady(100), -253, Settled, 17, (131_090, 131_054, 36));
+    let quick = Rounds {
+        quick: 3,
+        allowance: 0,
+    };
+    assert_run(quick, -157, Spent, 0, (150_674, 111_470, 39_204));
+}
+
+#[test]
+fn t_begins_as_in_the_document() {
+    assert_eq!(T_UNIT, 65_536);
+    assert_eq!(next_t(T_UNIT), 106_039);
+    assert_eq!(next_t(106_039), 143_754);
+}
+
+/// `root` is the largest whole number whose square is at most `square`.
+fn is_root(root: u64, square: u64) -> bool {
+    let (root, square) = (u128::from(root), u128::from(square));
+    root * root <= square && square < (root + 1) * (root + 1)
+}
+
+#[test]
+fn integer_square_root_law() {
+    let edges = [0, 1, 2, 1 << 59, (1 << 59) - 1, u64::MAX - 1, u64::MAX];
+    let sides = (1..2_000).chain([T_UNIT, (1 << 31) - 1, 1 << 31, u64::from(u32::MAX)]);
+    let around_squares = sides.flat_map(|side| {
+        let square = side * side;
+        [square - 1, square, square + 1]
+    });
+    for square in around_squares.chain(edges) {
+        assert!(is_root(square.isqrt(), square), "{square}");
+    }
+}
+
+#[test]
+fn t_never_falls_and_stays_in_range() {
+    let mut t = T_UNIT;
+    for _ in 0..4_096 {
+        let square = T_UNIT * T_UNIT + 4 * t * t;
+        let following = next_t(t);
+        assert!(square < 1 << 59);
+        assert!(following > t);
+        // T comes from the root by halving, so one of two roots leads to it.
+        let root = 2 * following - T_UNIT;
+        assert!(is_root(root, square) || is_root(root + 1, square));
+        t = following;
+    }
+}
+
+#[test]
+fn slack_above_zero_may_belong_to_the_best_image() {
+    let job = Case {
+        terms: Terms {
+            weight: 1_280,
+            low: 8,
+            high: 12,
+            ..two_by_one().terms
+        },
+        samples: vec![0, 20],
+        ..two_by_one()
+    };
+    for (flow, slack) in [(0, 2_621_440), (-1_280, 0)] {
+        let answer = job.check(&[flow]).unwrap();
+        assert_eq!(answer.image, [2_048, 3_072]);
+        assert_eq!(answer.figures.price, 11_010_048);
+        assert_eq!(answer.figures.slack, slack);
+    }
+}
+
+#[test]
+fn one_pixel() {
+    let job = Case {
+        terms: Terms {
+            width: 1,
+            ..two_by_one().terms
+        },
+        samples: vec![7],
+        ..two_by_one()
+    };
+    assert_eq!(job.grid().pair_count(), 0);
+    let answer = job.run().unwrap();
+    assert_eq!(answer.image, [1_792]);
+    assert_eq!(answer.figures, figures(Settled, 0, 0, 0, 0));
+    assert_eq!(job.check(&[]).unwrap().image, [1_792]);
+}
+
+#[test]
+fn limits_of_the_weight() {
+    let mut job = two_by_one();
+    job.terms.weight = 65_280;
+    let largest = job.tape(&[65_280]);
+    assert!(job.run().is_ok());
+    assert!(job.check(&[-65_280]).is_ok());
+    assert!(job.price(&[0, 0]).is_ok());
+    assert_eq!(job.check(&[65_281]), Err(refusal(8, 0)));
+    assert!(read_back(&largest, 2, 1).answer.is_ok());
+
+    job.terms.weight = 65_281;
+    assert_eq!(price(&job.terms, &job.samples, &[0, 0]), Err(refusal(2, 0)));
+    let mut beyond = largest;
+    beyond[6..8].copy_from_slice(&65_281_u16.to_le_bytes());
+    assert_eq!(read_back(&beyond, 2, 1).answer, Err(refusal(2, 5)));
+}
+
+#[test]
+fn limits_of_the_rounds() {
+    let mut job = two_by_one();
+    (job.rounds.quick, job.rounds.allowance) = (4_096, 65_535);
+    let mut tape = job.tape(&[]);
+    assert!(job.run().is_ok());
+    assert!(read_back(&tape, 2, 1).answer.is_ok());
+
+    job.rounds.quick = 4_097;
+    assert_eq!(job.run(), Err(refusal(10, 0)));
+    tape[11..13].copy_from_slice(&4_097_u16.to_le_bytes());
+    assert_eq!(read_back(&tape, 2, 1).answer, Err(refusal(10, 10)));
+}
+
+#[test]
+fn limits_of_the_size() {
+    let mut job = two_by_one();
+    (job.terms.width, job.terms.height) = (4_096, 256);
+    job.samples = (0..4_096 * 256).map(|pixel| pixel as u8).collect();
+    let (pixels, pairs) = (1_048_576, 2_092_800);
+    assert_eq!(job.grid().pixel_count(), pixels);
+    assert_eq!(job.grid().pair_count(), pairs);
+
+    let checked = job.check(&vec![0; pairs]).unwrap();
+    let priced = job.price(&checked.image).unwrap();
+    assert_eq!(priced.price, checked.figures.price);
+    let tape = job.tape(&[]);
+    let taken = read_back(&tape, pixels, pairs);
+    assert!(taken.answer.is_ok());
+    assert_eq!(taken.samples, job.samples);
+
+    job.terms.height = 257;
+    assert_eq!(
+        price(&job.terms, &job.samples, &checked.image),
+        Err(refusal(1, 0))
+    );
+    let mut beyond = tape;
+    beyond[3..5].copy_from_slice(&257_u16.to_le_bytes());
+    assert_eq!(read_back(&beyond, pixels, pairs).answer, Err(refusal(1, 0)));
+}
+
+#[test]
+fn empty_tape() {
+    assert_eq!(read_back(&[], 2, 1).answer, Err(refusal(13, 0)));
+}
