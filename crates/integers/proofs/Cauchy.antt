@@ -1,12 +1,12 @@
 -- The Cauchy–Schwarz inequality for finite sums of whole numbers, and its form for signs e j of −1, 0 and 1, in which
 -- only the terms with e j ≢ 0 count.
-use mathlib.Core.Path.{_≡_, refl, sym, ap, ap₂, _∙_}
+use mathlib.Core.Path.{_≡_, sym, ap, ap₂, _∙_}
 use Prim.Native.Nat.{ℕ, zero, suc, _<_}
 use lib.IntN.{ℤ, pos, _+ℤ_, _-ℤ_, _*ℤ_, *ℤ-comm}
 use lib.Signed.{_≤ℤ_, ≤ℤ-refl}
 use Rattle.integers.specs.Whole.{square}
 use Rattle.integers.specs.Sum.{total}
-use Rattle.integers.proofs.Parts.{parts, whole, by-≡, by-≤, of-≤}
+use Rattle.integers.proofs.Parts.{parts, whole, by-≤, of-≤}
 use Rattle.integers.proofs.Ring.{*ℤ-assoc, *ℤ-swap, square-+ℤ, square--ℤ, +ℤ-*ℤ-+ℤ}
 use Rattle.integers.proofs.Order.{square-nonneg}
 use Rattle.integers.proofs.Total.{total-cong, total-+ℤ, total--ℤ, total-*ℤ, total-*ℤʳ, total-nonneg}

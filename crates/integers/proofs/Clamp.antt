@@ -1,14 +1,14 @@
 -- The clamp: its three cases, its bounds, that it is the projection onto the interval, that it scales, and that a clamped
 -- step goes toward where it aims and no further.
-use mathlib.Core.Path.{_≡_, refl, sym, ap, ap₂, _∙_}
-use mathlib.Core.Logic.{_⊎_, inl, inr}
+use mathlib.Core.Path.{_≡_}
+use mathlib.Core.Logic.{inl, inr}
 use Prim.Native.Nat.{ℕ, zero, suc, _≤_}
 use lib.IntN.{ℤ, pos, natAbs, negℤ, _+ℤ_, _-ℤ_, _*ℤ_, zero-*ℤ}
-use lib.Signed.{_≤ℤ_, _<ℤ_, ltZ}
+use lib.Signed.{_≤ℤ_, _<ℤ_}
 use Rattle.integers.specs.Whole.{clamp}
-use Rattle.integers.proofs.Parts.{parts, whole, by-≡, by-≤, by-<, of-≤, of-<}
+use Rattle.integers.proofs.Parts.{parts, whole, by-≤, of-≤}
 use Rattle.integers.proofs.Order.{≤ℤ-total, <ℤ→≤ℤ, true-ltZ, false-ltZ, *ℤ-gaps, *ℤ-mono, *ℤ-strict, 0≤pos, 0<pos}
-use Rattle.integers.proofs.Absolute.{bounds→natAbs, natAbs→lower, natAbs→upper, between-natAbs}
+use Rattle.integers.proofs.Absolute.{bounds→natAbs, between-natAbs}
 
 -- ---- the three cases
 

@@ -1,15 +1,15 @@
 -- The order of whole numbers: its laws, how it goes with sum, negation and product, and the tests that decide it.
-use mathlib.Core.Path.{_≡_, refl, sym, ap, subst}
+use mathlib.Core.Path.{_≡_, refl, ap}
 use mathlib.Core.Logic.{_⊎_, inl, inr, _≢_}
 use mathlib.Core.Bool.{Bool, true, false, not}
-use Prim.Native.Nat.{ℕ, zero, suc, _+_, _*_, _≤_, _<_}
+use Prim.Native.Nat.{ℕ, zero, suc, _+_, _*_, _≤_}
 use native.Mathlib.Nat.{mul-le-mul-left, le-dest}
 use native.Mathlib.Omega.{arith}
-use lib.Dec.{T, eqb, eqb→eq, eqb-refl}
+use lib.Dec.{T, eqb→eq, eqb-refl}
 use lib.IntN.{ℤ, pos, negsuc, natAbs, negℤ, _+ℤ_, _-ℤ_, _*ℤ_}
 use lib.Signed.{leZ, ltZ, _≤ℤ_, _<ℤ_, leZ-yes, ltZ-yes, ltZ-no, pos-natAbs, yes-nonNeg, clashℤ}
 use Rattle.integers.specs.Whole.{square, sameZ}
-use Rattle.integers.proofs.Parts.{parts, whole, by-≡, by-≤, by-<, of-≤, of-<, up, down, one-part}
+use Rattle.integers.proofs.Parts.{parts, whole, by-≡, by-≤, by-<, of-≤, of-<}
 
 -- ---- an order
 

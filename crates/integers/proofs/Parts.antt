@@ -21,7 +21,7 @@ use lib.Dec.{T, ltb, ltb→lt, nltb→le, le→leb, leb→le, lt→ltb}
 use lib.IntN.{ℤ, pos, negsuc, natAbs, negℤ, subℕ, _+ℤ_, _*ℤ_}
 use lib.Signed.{_≤ℤ_, _<ℤ_}
 
--- ---- the two parts, of which one is 0
+-- ---- the two parts: one of them is 0
 
 abbrev pub up : ℤ → ℕ
 up (pos n) = n
@@ -34,10 +34,6 @@ down (negsuc n) = suc n
 pub natAbs-parts : (x : ℤ) → natAbs x ≡ up x + down x
 natAbs-parts (pos n) = omega arith
 natAbs-parts (negsuc n) = omega arith
-
-pub one-part : (x : ℤ) → up x * down x ≡ 0
-one-part (pos n) = omega arith
-one-part (negsuc n) = omega arith
 
 -- ---- the parts of a sum, of a negation, of a product
 

@@ -1,20 +1,14 @@
--- The grid of document 01 as a problem: sizes, readings, box and pairs.
+-- The grid of document 01 as a problem: sizes, readings, box and pairs. `Terms`, declared in src/lib.rt, are the numbers
+-- of a job without its rounds: width, height, weight W, and the box's ends low and high.
 use mathlib.Core.Bool.{Bool, _&&_}
 use mathlib.Core.List.{List, _++_}
 use Prim.Native.Nat.{ℕ, _+_, _-_, _*_}
 use lib.Dec.{leb}
 use lib.IntN.{ℤ, pos}
 use lib.ListN.{getD}
+pub use Rattle.model.specs.declared.Terms.{Terms}
 use Rattle.model.specs.Lists.{table, chain}
 use Rattle.model.specs.Problem.{Pair, Problem}
-
--- Terms of a job without its rounds: size, weight W and box
-pub record Terms : Type 0 where
-  pub width : ℕ
-  pub height : ℕ
-  pub weight : ℕ
-  pub low : ℕ
-  pub high : ℕ
 
 -- Width and height are each 1 to 4,096, their product at most 1,048,576
 unfoldable pub sizeAllowed : ℕ → ℕ → Bool

@@ -5,9 +5,11 @@ use Prim.Native.Nat.{ℕ, zero, suc, _+_, _-_, _*_, _/_, _%_, _^_}
 use lib.Dec.{eqb, leb, ltb}
 use lib.IntN.{ℤ, pos, negsuc, subℕ}
 use lib.ListN.{length, getD}
+pub use Rattle.model.specs.declared.Entry.{Entry}
+pub use Rattle.model.specs.declared.Entry.the-variants.{End, Size, WeightBox, RoundLimits, Sample, Flow}
 use Rattle.model.specs.Lists.{chain, overwritten, at}
 use Rattle.model.specs.Grid.{Terms}
-use Rattle.model.specs.Verdict.{Verdict, accept, refuse, Row, row, firstRefusal, left}
+use Rattle.model.specs.Verdict.{Verdict, Accept, Refuse, Row, row, firstRefusal, left}
 use Rattle.model.specs.Calls.{
   Rounds,
   pixelsOf,
@@ -48,14 +50,8 @@ fromFour b0 b1 b2 b3 = signed (b0 + 256 * (b1 + 256 * (b2 + 256 * b3)))
 
 -- ---- Records
 
--- A record is its kind with its numbers: 0 end, 1 size, 2 weight and box, 3 rounds, 4 one sample, 5 one flow number
-pub data Entry : Type 0 where
-  End : Entry
-  Size : ℕ → ℕ → Entry
-  WeightBox : ℕ → ℕ → ℕ → Entry
-  RoundLimits : ℕ → ℕ → Entry
-  Sample : ℕ → Entry
-  Flow : ℤ → Entry
+-- A record (`Entry`, declared in src/lib.rt) is its kind with its numbers: 0 end, 1 size, 2 weight and box, 3 rounds,
+-- 4 one sample, 5 one flow number
 
 -- the length of the body, for kinds 0 to 5
 abbrev pub bodyLengths : List ℕ
@@ -194,8 +190,8 @@ pub data Reading : Type 0 where
   whole : Progress → Reading
 
 abbrev pub unless : Verdict → Reading → Reading
-unless accept r = r
-unless (refuse number place) r = turned number place
+unless Accept r = r
+unless (Refuse number place) r = turned number place
 
 -- Records from offset o on; every record takes a byte at least, so as many records as bytes are enough
 unfoldable pub readFrom : ℕ → List ℕ → ℕ → ℕ → ℕ → Progress → Reading
@@ -205,8 +201,8 @@ readFrom (suc k) tape samplesLent flowLent o p =
     let entry : Entry = decoded kind (λ i. getD tape (o + 1 + i) 0) in
     let next : Progress = absorbed p entry in
     elim (firstRefusal (recordRows tape o p ++ entryRows o samplesLent flowLent next entry)) [
-      | refuse number place ↦ turned number place
-      | accept ↦
+      | Refuse number place ↦ turned number place
+      | Accept ↦
           elim (eqb kind 0) [
             | true ↦ whole p
             | false ↦ readFrom k tape samplesLent flowLent (o + 1 + bodyLength kind) next
@@ -308,8 +304,8 @@ pub record WriteAnswer : Type 0 where
   pub count : ℕ
 
 abbrev pub writeOf : Verdict → ℕ → WriteAnswer
-writeOf accept n = record { number = 0; place = 0; count = n }
-writeOf (refuse number place) n = record { number = number; place = place; count = 0 }
+writeOf Accept n = record { number = 0; place = 0; count = n }
+writeOf (Refuse number place) n = record { number = number; place = place; count = 0 }
 
 unfoldable pub writeAnswer : Terms → Rounds → List ℕ → List ℤ → List ℕ → WriteAnswer
 writeAnswer t r samples numbers output =

@@ -106,7 +106,7 @@ twoByTwo a g =
       terms = record { width = 2; height = 2; weight = 256; low = 0; high = 255 };
       samples = 0 ∷ 10 ∷ 20 ∷ 40 ∷ [];
       asked = a;
-      expected = g
+      expected = g;
     }
 
 abbrev pub pair : ℕ → ℕ → List ℤ

@@ -1,0 +1,146 @@
+-- Whole divisions: on division k the flow's image is k times its image, price, floor and slack are k² times as large, and
+-- the certificate holds there too, against every image of the multiplied box. Assumes nothing.
+use mathlib.Core.Path.{_≡_, refl, sym, ap, ap₂, _∙_, subst, fun-ext}
+use mathlib.Core.Bool.{Bool, true, false, cond}
+use Prim.Native.Nat.{ℕ, _*_, _<_, _≤_}
+use native.Mathlib.Nat.{mul-le-mul-left}
+use native.Mathlib.Omega.{arith}
+use lib.Dec.{eqb}
+use lib.IntN.{ℤ, pos, natAbs, _+ℤ_, _-ℤ_, _*ℤ_, *ℤ-zero}
+use lib.Signed.{_≤ℤ_}
+use Rattle.integers.specs.Whole.{abs, square, clamp}
+use Rattle.integers.specs.Sum.{total}
+use Rattle.integers.proofs.Parts.{parts, whole, by-≡}
+use Rattle.integers.proofs.Ring.{*ℤ--ℤ, square-*ℤ}
+use Rattle.integers.proofs.Order.{*ℤ-mono, 0≤pos}
+use Rattle.integers.proofs.Absolute.{natAbs-product}
+use Rattle.integers.proofs.Clamp.{clamp-scale}
+use Rattle.integers.proofs.Total.{total-cong, total-*ℤ}
+use Rattle.model.specs.Problem.{
+  Problem,
+  pairCount,
+  firstOf,
+  secondOf,
+  fall,
+  misfit,
+  price,
+  Feasible,
+  pull,
+  image,
+  floor,
+  slack,
+  divided,
+  times,
+}
+use Rattle.certificate.specs.Demand.{Certified, Scaled, Certificate}
+use Rattle.certificate.proofs.Lagrangian.{Sound}
+use Rattle.certificate.proofs.Distance.{certified}
+
+-- a common factor comes out of a sum of two terms, the second doubled
+factored : (c a b : ℤ) → c *ℤ a +ℤ pos 2 *ℤ (c *ℤ b) ≡ c *ℤ (a +ℤ pos 2 *ℤ b)
+factored c a b = by-≡ (search parts depth 12) (omega whole)
+
+module _ (k : ℕ) (p : Problem) where
+  pub fall-scale : (x : ℕ → ℤ) (j : ℕ) → fall (divided k p) (times k x) j ≡ pos k *ℤ fall p x j
+  unfolding fall
+  fall-scale x j = sym (*ℤ--ℤ (pos k) (x (firstOf p j)) (x (secondOf p j)))
+
+  pub pull-scale : (f : ℕ → ℤ) (i : ℕ) → pull (divided k p) (times k f) i ≡ pos k *ℤ pull p f i
+  unfolding pull
+  pull-scale f i =
+      ap₂ (λ (a b : ℤ). a -ℤ b) (at-end (firstOf p)) (at-end (secondOf p))
+      ∙ sym (*ℤ--ℤ (pos k) (flow-at (firstOf p)) (flow-at (secondOf p)))
+    where
+      flow-at : (ℕ → ℕ) → ℤ
+      flow-at end = total (pairCount p) (λ j. cond (eqb (end j) i) (f j) (pos 0))
+
+      out : (b : Bool) (a : ℤ) → cond b (pos k *ℤ a) (pos 0) ≡ pos k *ℤ cond b a (pos 0)
+      out true a = refl
+      out false a = sym (*ℤ-zero (pos k))
+
+      at-end : (end : ℕ → ℕ) → total (pairCount p) (λ j. cond (eqb (end j) i) (pos k *ℤ f j) (pos 0)) ≡ pos k *ℤ flow-at end
+      at-end end =
+          total-cong (pairCount p) (λ j _. out (eqb (end j) i) (f j))
+          ∙ total-*ℤ (pairCount p) (pos k) (λ j. cond (eqb (end j) i) (f j) (pos 0))
+
+  pub image-scale : (f : ℕ → ℤ) (i : ℕ) → image (divided k p) (times k f) i ≡ pos k *ℤ image p f i
+  unfolding image
+  image-scale f i =
+      ap (λ (q : ℤ). clamp (pos k *ℤ p .low) (pos k *ℤ p .high) (pos k *ℤ p .reading i -ℤ q)) (pull-scale f i)
+      ∙ ap (clamp (pos k *ℤ p .low) (pos k *ℤ p .high)) (sym (*ℤ--ℤ (pos k) (p .reading i) (pull p f i)))
+      ∙ clamp-scale (p .low) (p .high) (p .reading i -ℤ pull p f i) k
+
+  image-times : (f : ℕ → ℤ) → image (divided k p) (times k f) ≡ times k (image p f)
+  image-times f = fun-ext (image-scale f)
+
+  pub misfit-scale : (x : ℕ → ℤ) → misfit (divided k p) (times k x) ≡ pos (k * k) *ℤ misfit p x
+  unfolding misfit
+  misfit-scale x =
+      total-cong (p .pixels) (λ i _.
+      ap square (sym (*ℤ--ℤ (pos k) (x i) (p .reading i))) ∙ square-*ℤ (pos k) (x i -ℤ p .reading i))
+      ∙ total-*ℤ (p .pixels) (pos (k * k)) (λ i. square (x i -ℤ p .reading i))
+
+  pub price-scale : (x : ℕ → ℤ) → price (divided k p) (times k x) ≡ pos (k * k) *ℤ price p x
+  unfolding price
+  price-scale x =
+      ap₂ (λ (a b : ℤ). a +ℤ pos 2 *ℤ b) (misfit-scale x)
+      (total-cong (pairCount p) (λ j _. pair j)
+      ∙ total-*ℤ (pairCount p) (pos (k * k)) (λ j. pos (p .weight j) *ℤ abs (fall p x j)))
+      ∙ factored (pos (k * k)) (misfit p x) (total (pairCount p) (λ j. pos (p .weight j) *ℤ abs (fall p x j)))
+    where
+      pair : (j : ℕ) → pos (k * p .weight j) *ℤ abs (fall (divided k p) (times k x) j) ≡ pos (k * k) *ℤ (pos (p .weight j) *ℤ abs (fall p x j))
+      pair j =
+          ap (λ (d : ℤ). pos (k * p .weight j) *ℤ abs d) (fall-scale x j)
+          ∙ ap (λ (n : ℕ). pos (k * p .weight j * n)) (natAbs-product (pos k) (fall p x j))
+          ∙ ap pos (omega arith)
+
+  pub floor-scale : (f : ℕ → ℤ) → floor (divided k p) (times k f) ≡ pos (k * k) *ℤ floor p f
+  unfolding floor
+  floor-scale f =
+      ap₂ (λ (a b : ℤ). a +ℤ pos 2 *ℤ b) (ap (misfit (divided k p)) (image-times f) ∙ misfit-scale (image p f))
+      (total-cong (pairCount p) (λ j _. pair j)
+      ∙ total-*ℤ (pairCount p) (pos (k * k)) (λ j. f j *ℤ fall p (image p f) j))
+      ∙ factored (pos (k * k)) (misfit p (image p f)) (total (pairCount p) (λ j. f j *ℤ fall p (image p f) j))
+    where
+      product : (a d : ℤ) → (pos k *ℤ a) *ℤ (pos k *ℤ d) ≡ (pos k *ℤ pos k) *ℤ (a *ℤ d)
+      product a d = by-≡ (search parts depth 12) (omega whole)
+
+      pair : (j : ℕ) → (pos k *ℤ f j) *ℤ fall (divided k p) (image (divided k p) (times k f)) j ≡ pos (k * k) *ℤ (f j *ℤ fall p (image p f) j)
+      pair j =
+          ap (λ (x : ℕ → ℤ). (pos k *ℤ f j) *ℤ fall (divided k p) x j) (image-times f)
+          ∙ ap (λ (d : ℤ). (pos k *ℤ f j) *ℤ d) (fall-scale (image p f) j)
+          ∙ product (f j) (fall p (image p f) j)
+
+  pub scales : (f : ℕ → ℤ) → Scaled p f k
+  scales f =
+      record {
+        images = image-scale f;
+        prices = price-of-image;
+        floors = floor-scale f;
+        slacks = slack-of;
+      }
+    where
+      price-of-image : price (divided k p) (image (divided k p) (times k f)) ≡ pos (k * k) *ℤ price p (image p f)
+      price-of-image = ap (price (divided k p)) (image-times f) ∙ price-scale (image p f)
+
+      slack-of : slack (divided k p) (times k f) ≡ pos (k * k) *ℤ slack p f
+      slack-of =
+          unfold slack in
+          ap₂ (λ (a b : ℤ). a -ℤ b) price-of-image (floor-scale f)
+          ∙ sym (*ℤ--ℤ (pos (k * k)) (price p (image p f)) (floor p f))
+
+  sound-scale : Sound p → Sound (divided k p)
+  sound-scale s = record { box = *ℤ-mono (0≤pos k) (s .box); first-in = s .first-in; second-in = s .second-in }
+
+  feasible-scale : (f : ℕ → ℤ) → Feasible p f → Feasible (divided k p) (times k f)
+  feasible-scale f within j l =
+      subst (λ (n : ℕ). n ≤ k * p .weight j) (sym (natAbs-product (pos k) (f j))) (mul-le-mul-left k (within j l))
+
+-- The certificate of a flow within the weights
+pub certificate : (p : Problem) → Sound p → (f : ℕ → ℤ) → Feasible p f → Certificate p f
+certificate p sound f within =
+    record {
+      here = certified p sound f within;
+      divisions = λ k _. certified (divided k p) (sound-scale k p sound) (times k f) (feasible-scale k p f within);
+      scaled = λ k. scales k p f;
+    }

@@ -1,0 +1,6 @@
+-- The certificate, for any pair system.
+--     Lagrangian  the function whose minimum over the box a flow's image is
+pub mod Lagrangian
+pub mod Congruence
+pub mod Distance
+pub mod Division

@@ -1,0 +1,2 @@
+-- What the certificate says.
+pub mod Demand

@@ -1,0 +1,2 @@
+// Demand 3, the certificate, proved of the definitions: for every pair system, every flow, every
+// image of the box and every whole division. There is no code here.
