@@ -1,14 +1,14 @@
 -- The absolute value: of sums and products, what a bound on it says, and the pair law, by which a flow within its weight
 -- pulls at most as hard as the weight.
 use mathlib.Core.Path.{_≡_, refl, sym, ap, ap₂, _∙_}
-use Prim.Native.Nat.{ℕ, zero, suc, _+_, _*_, _≤_, zero-le}
-use native.Mathlib.Nat.{mul-le-mul-right, le-of-mul-le-mul-left, zero-lt-suc}
+use Prim.Native.Nat.{ℕ, zero, suc, _+_, _*_, _≤_}
+use native.Mathlib.Nat.{mul-le-mul-right}
 use lib.IntN.{ℤ, pos, negsuc, natAbs, negℤ, _+ℤ_, _-ℤ_, _*ℤ_}
 use lib.Signed.{_≤ℤ_}
 use Rattle.integers.specs.Whole.{square, abs}
 use Rattle.integers.proofs.Parts.{parts, whole, by-≡, by-≤, of-≤, natAbs-parts}
 use Rattle.integers.proofs.Ring.{*ℤ-negℤ, negℤ-*ℤ}
-use Rattle.integers.proofs.Order.{≤ℤ-trans, ≤→pos, pos→≤, 0≤pos, negℤ-mono, pos-natAbs-nonneg}
+use Rattle.integers.proofs.Order.{≤ℤ-trans, ≤→pos, pos-natAbs-nonneg}
 
 pub natAbs-neg : (x : ℤ) → natAbs (negℤ x) ≡ natAbs x
 natAbs-neg (pos zero) = refl
@@ -20,6 +20,13 @@ natAbs-product (pos a) (pos b) = refl
 natAbs-product (pos a) (negsuc b) = natAbs-neg (pos (a * suc b))
 natAbs-product (negsuc a) (pos b) = natAbs-neg (pos (suc a * b))
 natAbs-product (negsuc a) (negsuc b) = refl
+
+pub square-natAbs : (x : ℤ) → square x ≡ pos (natAbs x * natAbs x)
+square-natAbs (pos n) = refl
+square-natAbs (negsuc n) = refl
+
+pub natAbs-square : (x : ℤ) → natAbs (square x) ≡ natAbs x * natAbs x
+natAbs-square x = natAbs-product x x
 
 pub natAbs-zero : {x : ℤ} → natAbs x ≡ 0 → x ≡ pos 0
 natAbs-zero {x} h = by-≡ (search parts depth 12) (omega (whole, natAbs-parts x))
@@ -60,45 +67,6 @@ natAbs-difference x y = rw (← natAbs-neg y) (natAbs-sum x (negℤ y))
 pub natAbs-within : {x y : ℤ} {k : ℕ} → pos 0 ≤ℤ x → x ≤ℤ pos k → pos 0 ≤ℤ y → y ≤ℤ pos k → natAbs (x -ℤ y) ≤ k
 natAbs-within {x} {y} x₀ x₁ y₀ y₁ =
     bounds→natAbs (x -ℤ y) (by-≤ (search parts depth 12) (omega whole)) (by-≤ (search parts depth 12) (omega whole))
-
--- ---- the square
-
-pub natAbs-square : (x : ℤ) → natAbs (square x) ≡ natAbs x * natAbs x
-natAbs-square x = natAbs-product x x
-
-pub square-natAbs : (x : ℤ) → square x ≡ pos (natAbs x * natAbs x)
-square-natAbs (pos n) = refl
-square-natAbs (negsuc n) = refl
-
--- ---- a number c between 0 and d, said by one product
-
-module _ (c d : ℤ) (h : pos 0 ≤ℤ (c *ℤ (d -ℤ c))) where
-  square-≤-between : square c ≤ℤ (c *ℤ d)
-  square-≤-between = by-≤ (search parts depth 12) (omega (whole, of-≤ h (search parts depth 12)))
-
-  pub between-natAbs : natAbs c ≤ natAbs d
-  between-natAbs =
-      shrink (natAbs c) (natAbs d)
-      (rw natAbs-product at (pos→≤ (≤ℤ-trans (rw (square-natAbs c) at square-≤-between) (≤-abs (c *ℤ d)))))
-    where
-      shrink : (m n : ℕ) → m * m ≤ m * n → m ≤ n
-      shrink zero n l = zero-le
-      shrink (suc m) n l = le-of-mul-le-mul-left l (zero-lt-suc m)
-
-pub between-self : (d : ℤ) → pos 0 ≤ℤ (d *ℤ (d -ℤ d))
-between-self d = by-≤ (search parts depth 12) (omega whole)
-
-pub between-nonneg : (c d : ℤ) → pos 0 ≤ℤ (c *ℤ (d -ℤ c)) → pos 0 ≤ℤ d → pos 0 ≤ℤ c
-between-nonneg (pos n) d h k = 0≤pos n
-between-nonneg (negsuc n) (pos m) h k = absurd (omega (whole, of-≤ h (search parts depth 12)))
-between-nonneg (negsuc n) (negsuc m) h k = absurd (k .le)
-
-pub between-nonpos : (c d : ℤ) → pos 0 ≤ℤ (c *ℤ (d -ℤ c)) → d ≤ℤ pos 0 → c ≤ℤ pos 0
-between-nonpos c d h k = by-≤ (search parts depth 12) (omega (whole, of-≤ turned (search parts depth 12)))
-  where
-    turned : pos 0 ≤ℤ negℤ c
-    turned =
-        between-nonneg (negℤ c) (negℤ d) (by-≤ (search parts depth 12) (omega (whole, of-≤ h (search parts depth 12)))) (negℤ-mono k)
 
 -- ---- the pair law
 

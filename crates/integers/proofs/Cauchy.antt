@@ -11,6 +11,8 @@ use Rattle.integers.proofs.Ring.{*ℤ-assoc, *ℤ-swap, square-+ℤ, sq
 use Rattle.integers.proofs.Order.{square-nonneg}
 use Rattle.integers.proofs.Total.{total-cong, total-+ℤ, total--ℤ, total-*ℤ, total-*ℤʳ, total-nonneg}
 
+-- The sum of the squares of e j t − x j s is not negative. Taken at s = e m and t = x m, it is what the inequality gains
+-- when the terms at m come in.
 square-of-cross : (e x s t : ℤ) → square (e *ℤ t -ℤ x *ℤ s) ≡ e *ℤ e *ℤ (t *ℤ t) -ℤ pos 2 *ℤ (e *ℤ x *ℤ (t *ℤ s)) +ℤ x *ℤ x *ℤ (s *ℤ s)
 square-of-cross e x s t = square--ℤ (e *ℤ t) (x *ℤ s) ∙ rw (*ℤ-swap e t e t, *ℤ-swap e t x s, *ℤ-swap x s x s)
 

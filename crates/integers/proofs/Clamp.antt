@@ -8,7 +8,8 @@ use lib.Signed.{_≤ℤ_, _<ℤ_}
 use Rattle.integers.specs.Whole.{clamp}
 use Rattle.integers.proofs.Parts.{parts, whole, by-≤, of-≤}
 use Rattle.integers.proofs.Order.{≤ℤ-total, <ℤ→≤ℤ, true-ltZ, false-ltZ, *ℤ-gaps, *ℤ-mono, *ℤ-strict, 0≤pos, 0<pos}
-use Rattle.integers.proofs.Absolute.{bounds→natAbs, between-natAbs}
+use Rattle.integers.proofs.Absolute.{bounds→natAbs}
+use Rattle.integers.proofs.Between.{between-natAbs}
 
 -- ---- the three cases
 

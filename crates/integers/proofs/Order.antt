@@ -49,8 +49,22 @@ pub ≤→gap : {a b : ℤ} → a ≤ℤ b → pos 0 ≤ℤ (b -ℤ a)
 pub gap→≤ : {a b : ℤ} → pos 0 ≤ℤ (b -ℤ a) → a ≤ℤ b
 gap→≤ h = by-≤ (search parts depth 12) (omega (whole, of-≤ h (search parts depth 12)))
 
-pub +ℤ-nonneg : {a b : ℤ} → pos 0 ≤ℤ a → pos 0 ≤ℤ b → pos 0 ≤ℤ (a +ℤ b)
-+ℤ-nonneg h k = by-≤ (search parts depth 12) (omega whole)
+-- ---- natural numbers
+
+pub ≤→pos : {m n : ℕ} → m ≤ n → pos m ≤ℤ pos n
+≤→pos h = by-≤ (search parts depth 12) (omega whole)
+
+pub pos→≤ : {m n : ℕ} → pos m ≤ℤ pos n → m ≤ n
+pos→≤ h = omega whole
+
+pub 0≤pos : (n : ℕ) → pos 0 ≤ℤ pos n
+0≤pos n = by-≤ (search parts depth 12) (omega whole)
+
+pub 0<pos : (n : ℕ) → pos 0 <ℤ pos (suc n)
+0<pos n = by-< (search parts depth 12) (omega whole)
+
+pub pos-natAbs-nonneg : {x : ℤ} → pos 0 ≤ℤ x → pos (natAbs x) ≡ x
+pos-natAbs-nonneg {x} h = pos-natAbs x (yes-nonNeg h)
 
 -- ---- product
 
@@ -76,30 +90,13 @@ pub *ℤ-strict : {c a b : ℤ} → pos 0 <ℤ c → a <ℤ b → (c *ℤ a) <�
     by-< (search parts depth 12) (omega (whole, gaps (of-< h (search parts depth 12)) (of-< k (search parts depth 12))))
 
 pub square-nonneg : (x : ℤ) → pos 0 ≤ℤ square x
-square-nonneg (pos n) = by-≤ (search parts depth 12) (omega whole)
-square-nonneg (negsuc n) = by-≤ (search parts depth 12) (omega whole)
+square-nonneg (pos n) = 0≤pos (n * n)
+square-nonneg (negsuc n) = 0≤pos (suc n * suc n)
 
 pub square-zero : {x : ℤ} → square x ≡ pos 0 → x ≡ pos 0
 square-zero {x = pos zero} h = refl
 square-zero {x = pos (suc n)} h = absurd (omega whole)
 square-zero {x = negsuc n} h = absurd (omega whole)
-
--- ---- natural numbers
-
-pub ≤→pos : {m n : ℕ} → m ≤ n → pos m ≤ℤ pos n
-≤→pos h = by-≤ (search parts depth 12) (omega whole)
-
-pub pos→≤ : {m n : ℕ} → pos m ≤ℤ pos n → m ≤ n
-pos→≤ h = omega whole
-
-pub 0≤pos : (n : ℕ) → pos 0 ≤ℤ pos n
-0≤pos n = by-≤ (search parts depth 12) (omega whole)
-
-pub 0<pos : (n : ℕ) → pos 0 <ℤ pos (suc n)
-0<pos n = by-< (search parts depth 12) (omega whole)
-
-pub pos-natAbs-nonneg : {x : ℤ} → pos 0 ≤ℤ x → pos (natAbs x) ≡ x
-pos-natAbs-nonneg {x} h = pos-natAbs x (yes-nonNeg h)
 
 -- ---- the tests
 
@@ -110,7 +107,7 @@ T→true : {t : Bool} → T t → t ≡ true
 T→true {t = true} u = refl
 T→true {t = false} u = absurd u
 
--- a test that fails where the fact that it decides does not hold, and only there
+-- a test fails where it cannot pass, and one that failed did not pass
 fails : (t : Bool) → (T t → ⊥) → t ≡ false
 fails true f = absurd (f tt)
 fails false f = refl

@@ -12,7 +12,9 @@
 --     by-≤ (search parts depth 12) (omega (whole, of-≤ h (search parts depth 12)))
 --
 -- What is not linear, such as that a square is not negative, is handed over too. `natAbs x` is an unknown of its own:
--- `natAbs-parts x` ties it to x.
+-- `natAbs-parts x` ties it to x. `omega` takes at most 64 monomials, which is degree 2 in some five unknowns: where an
+-- expression grows past that, a helper over variables makes a product one unknown (`sums` in Cauchy). Ring and Order are
+-- made of such lines.
 use mathlib.Core.Path.{_≡_, refl, ap}
 use mathlib.Core.Bool.{Bool, true, false, not, cond}
 use Prim.Native.Nat.{ℕ, zero, suc, _+_, _*_, _-_, _≤_, _<_}
@@ -40,7 +42,7 @@ natAbs-parts (negsuc n) = omega arith
 parts-sub : (a b : ℕ) → up (subℕ a b) + b ≡ a + down (subℕ a b)
 parts-sub a b = go (ltb a b) (ltb→lt a b) (nltb→le a b)
   where
-    go : (t : Bool) → (T t → a < b) → (T (not t) → b ≤ a) → up (cond t (negsuc (b - suc a)) (pos (a - b))) + b ≡ a + down (cond t (negsuc (b - suc a)) (pos (a - b)))
+    go : (t : Bool) → (T t → a < b) → (T (not t) → b ≤ a) → let z = cond t (negsuc (b - suc a)) (pos (a - b)) in up z + b ≡ a + down z
     go true h k = omega (arith, h tt)
     go false h k = omega (arith, k tt)
 
@@ -105,59 +107,60 @@ parts-≡ h = rw h
 pub ruleset whole = (arith, parts-≤, parts-<, parts-≡)
 
 -- ---- an expression as a difference of two natural numbers
+--
+-- `search` looks for the shallowest proof, and of the lemmas that fit it tries one with fewer premises first. To have it
+-- take an expression apart as far as it goes, and only then call what is left an unknown, all proofs of `Diff k x` are
+-- made equally deep, by the index k, and `unknown` is given the most premises.
 
--- how many operations deep an expression may still be taken apart
 pub data Depth : Type 0 where
   none : Depth
   more : Depth → Depth
 
--- a proof of this is as deep as its index
+-- has one proof, which is as deep as k
 pub data Reach : Depth → Type 0 where
   end : Reach none
   on : {k : Depth} → Reach k → Reach (more k)
 
--- x is `plus − minus`
+-- x is `plus − minus`, taken apart at most k operations deep
 pub record Diff (k : Depth) (x : ℤ) : Type 0 where
   pub plus : ℕ
   pub minus : ℕ
   pub is : plus + down x ≡ up x + minus
 
+abbrev pub unknown : {k : Depth} {x : ℤ} → Reach k → Reach none → Reach none → Diff k x
+unknown {x} r s t = record { plus = up x; minus = down x; is = refl }
+
+abbrev pub number : {k : Depth} {n : ℕ} → Reach k → Diff k (pos n)
+number {n} r = record { plus = n; minus = 0; is = refl }
+
+abbrev pub negative : {k : Depth} {n : ℕ} → Reach k → Diff k (negsuc n)
+negative {n} r = record { plus = 0; minus = suc n; is = refl }
+
+pub negation-is : {k : Depth} {x : ℤ} (a : Diff k x) → a .minus + down (negℤ x) ≡ up (negℤ x) + a .plus
+negation-is {x} a = omega (arith, up-neg x, down-neg x)
+
+abbrev pub negation : {k : Depth} {x : ℤ} → Diff k x → Diff (more k) (negℤ x)
+negation a = record { plus = a .minus; minus = a .plus; is = negation-is a }
+
 module _ {k : Depth} {x y : ℤ} (a : Diff k x) (b : Diff k y) where
   pub sum-is : a .plus + b .plus + down (x +ℤ y) ≡ up (x +ℤ y) + (a .minus + b .minus)
   sum-is = omega (arith, parts-sum x y)
 
-  pub negation-is : a .minus + down (negℤ x) ≡ up (negℤ x) + a .plus
-  negation-is = omega (arith, up-neg x, down-neg x)
+  abbrev pub sum : Diff (more k) (x +ℤ y)
+  sum = record { plus = a .plus + b .plus; minus = a .minus + b .minus; is = sum-is }
 
   pub product-is : a .plus * b .plus + a .minus * b .minus + down (x *ℤ y) ≡ up (x *ℤ y) + (a .plus * b .minus + a .minus * b .plus)
   product-is =
       omega (arith, parts-product x y, ap (λ t. t * b .plus) (a .is), ap (λ t. t * b .minus) (a .is), ap (λ t. up x * t) (b .is), ap (λ t. down x * t) (b .is))
 
+  abbrev pub product : Diff (more k) (x *ℤ y)
+  product =
+      record { plus = a .plus * b .plus + a .minus * b .minus; minus = a .plus * b .minus + a .minus * b .plus; is = product-is }
+
   pub compare-is : a .plus + b .minus + (up y + down x) ≡ b .plus + a .minus + (up x + down y)
   compare-is = omega arith
 
-abbrev pub number : {k : Depth} {n : ℕ} → Reach k → Diff k (pos n)
-number {n} r = record { plus = n; minus = 0; is = refl }
-
-abbrev pub below : {k : Depth} {n : ℕ} → Reach k → Diff k (negsuc n)
-below {n} r = record { plus = 0; minus = suc n; is = refl }
-
-abbrev pub negation : {k : Depth} {x : ℤ} → Diff k x → Diff (more k) (negℤ x)
-negation a = record { plus = a .minus; minus = a .plus; is = negation-is a a }
-
-abbrev pub sum : {k : Depth} {x y : ℤ} → Diff k x → Diff k y → Diff (more k) (x +ℤ y)
-sum a b = record { plus = a .plus + b .plus; minus = a .minus + b .minus; is = sum-is a b }
-
-abbrev pub product : {k : Depth} {x y : ℤ} → Diff k x → Diff k y → Diff (more k) (x *ℤ y)
-product a b =
-    record { plus = a .plus * b .plus + a .minus * b .minus; minus = a .plus * b .minus + a .minus * b .plus; is = product-is a b }
-
--- `search` looks for the shallowest proof, and tries a lemma with fewer premises first. So that it takes an expression apart
--- as far as it goes, an unknown is as deep as anything else (`Reach`), and has the most premises.
-abbrev pub unknown : {k : Depth} {x : ℤ} → Reach k → Reach none → Reach none → Diff k x
-unknown {x} r s t = record { plus = up x; minus = down x; is = refl }
-
--- x and y stand to one another as `low` and `high`
+-- x is to y as the natural number `low` is to `high`
 pub record Compare (x y : ℤ) : Type 0 where
   pub low : ℕ
   pub high : ℕ
@@ -166,11 +169,13 @@ pub record Compare (x y : ℤ) : Type 0 where
 abbrev pub nine : Depth
 nine = more (more (more (more (more (more (more (more (more none))))))))
 
+-- A proof of `Reach nine` is ten lemmas deep, and `unknown` and `compare` add one each: hence `depth 12`. `compare` asks
+-- for it first, so that a search that is not that deep fails at once.
 abbrev pub compare : {x y : ℤ} → Reach nine → Diff nine x → Diff nine y → Compare x y
 compare r a b = record { low = a .plus + b .minus; high = b .plus + a .minus; is = compare-is a b }
 
 -- what `search` is handed
-pub ruleset parts = (compare, number, below, negation, sum, product, unknown, Reach.end, Reach.on)
+pub ruleset parts = (compare, unknown, number, negative, negation, sum, product, Reach.end, Reach.on)
 
 -- ---- from natural numbers, and back
 

@@ -7,9 +7,10 @@ use native.Mathlib.Nat.{div-mul-le-self, div-add-mod', mod-lt, div-eq-of-lt, mul
 use lib.IntN.{ℤ, pos, negsuc, natAbs, negℤ, negℤ-negℤ, _+ℤ_, _-ℤ_, _*ℤ_}
 use lib.Signed.{_≤ℤ_, remZ}
 use Rattle.integers.specs.Whole.{quotient}
-use Rattle.integers.proofs.Parts.{parts, whole, by-≡, by-≤, of-≤}
+use Rattle.integers.proofs.Parts.{parts, whole, by-≡}
 use Rattle.integers.proofs.Order.{≤→pos, 0≤pos, *ℤ-nonneg, *ℤ-nonpos, pos-natAbs-nonneg, negℤ-mono, ≤ℤ-total, <ℤ→≤ℤ}
-use Rattle.integers.proofs.Absolute.{between-self, natAbs-neg, natAbs-product, square-natAbs, between-natAbs, between-nonneg, between-nonpos, natAbs-zero}
+use Rattle.integers.proofs.Absolute.{natAbs-neg, natAbs-product, natAbs-zero, square-natAbs}
+use Rattle.integers.proofs.Between.{between-self, between-natAbs, between-nonneg, between-nonpos}
 
 pub quotient-neg : (x : ℤ) (b : ℕ) → quotient (negℤ x) (pos b) ≡ negℤ (quotient x (pos b))
 quotient-neg (pos zero) b = rw zero-div
@@ -47,9 +48,11 @@ quotient-nonneg (pos n) b h = 0≤pos (n / b)
 quotient-nonneg (negsuc n) b h = absurd (h .le)
 
 pub quotient-nonpos : (x : ℤ) (b : ℕ) → x ≤ℤ pos 0 → quotient x (pos b) ≤ℤ pos 0
-quotient-nonpos x b h = by-≤ (search parts depth 12) (omega (whole, of-≤ (rw (quotient-neg x b) at (quotient-nonneg (negℤ x) b (negℤ-mono h))) (search parts depth 12)))
+quotient-nonpos x b h =
+    rw (negℤ-negℤ (quotient x (pos b))) at (negℤ-mono (rw (quotient-neg x b) at (quotient-nonneg (negℤ x) b (negℤ-mono h))))
 
--- what lies between 0 and the quotient, as the quotient itself does, has the sign of x
+-- ---- progress: a step d between 0 and the quotient goes the way of x, and pays for its square b times over
+
 module _ (x : ℤ) (b : ℕ) (d : ℤ) (h : pos 0 ≤ℤ (d *ℤ (quotient x (pos b) -ℤ d))) where
   pub step-sign : pos 0 ≤ℤ (x *ℤ d)
   step-sign =
@@ -58,12 +61,15 @@ module _ (x : ℤ) (b : ℕ) (d : ℤ) (h : pos 0 ≤ℤ (d *ℤ (quotient x (po
         | inr k ↦ *ℤ-nonpos (<ℤ→≤ℤ k) (between-nonpos d (quotient x (pos b)) h (quotient-nonpos x b (<ℤ→≤ℤ k)))
       ]
 
-  -- and pays for its square b times over
+  step-natAbs : natAbs d * b ≤ natAbs x
+  step-natAbs = le-trans (mul-le-mul-right b (between-natAbs d (quotient x (pos b)) h)) (natAbs-quotient-≤ x b)
+
   pub step-progress : (pos b *ℤ (d *ℤ d)) ≤ℤ (x *ℤ d)
   step-progress =
       rw (square-natAbs d, ← pos-natAbs-nonneg step-sign, natAbs-product x d)
-      (≤→pos (omega (whole, mul-le-mul-right (natAbs d) (le-trans (mul-le-mul-right b (between-natAbs d (quotient x (pos b)) h)) (natAbs-quotient-≤ x b)))))
+      (≤→pos (omega (whole, mul-le-mul-right (natAbs d) step-natAbs)))
 
+-- as the quotient itself does
 module _ (x : ℤ) (b : ℕ) where
   pub quotient-sign : pos 0 ≤ℤ (x *ℤ quotient x (pos b))
   quotient-sign = step-sign x b (quotient x (pos b)) (between-self (quotient x (pos b)))

@@ -1,4 +1,4 @@
--- The laws of finite sums.
+-- The laws of finite sums: term by term, two sums, order and bounds, and one term against the whole.
 use mathlib.Core.Path.{_≡_, refl, sym, ap, ap₂, _∙_}
 use mathlib.Core.Logic.{inl, inr}
 use mathlib.Core.Bool.{Bool, true, false, cond}
@@ -83,7 +83,7 @@ unfolding total
 natAbs-total zero g l = zero-le
 natAbs-total (suc n) g l = omega (arith, natAbs-sum (total n g) (g n), natAbs-total n g (below-suc l), l n (le-refl (suc n)))
 
--- ---- one term
+-- ---- one term: a sum in which only the term at k counts
 
 module _ (k : ℕ) (g : ℕ → ℤ) where
   total-skip : (n : ℕ) → n ≤ k → total n (λ i. cond (eqb k i) (g i) (pos 0)) ≡ pos 0
@@ -97,6 +97,8 @@ module _ (k : ℕ) (g : ℕ → ℤ) where
         | inl e ↦ rw (total-skip n (omega arith), eq-eqb k n e) (+ℤ-idl (g n) ∙ ap g (sym e))
         | inr l ↦ rw (total-pick n l, ne-eqb k n (omega arith)) (+ℤ-idr (g k))
       ]
+
+-- ---- terms that are not negative
 
 cond-≤ : (t : Bool) {x : ℤ} → pos 0 ≤ℤ x → cond t x (pos 0) ≤ℤ x
 cond-≤ true {x} h = ≤ℤ-refl x

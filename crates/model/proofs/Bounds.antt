@@ -1,0 +1,162 @@
+-- Sizes within limits never overflow 64 bits: on an allowed job every price of an image of the box, and every floor of a
+-- flow within the weight, is at most `largest` in size, and twice that is below 2⁶³. Assumes nothing.
+use mathlib.Core.Path.{_≡_, refl, sym, ap, _∙_, subst}
+use mathlib.Core.Bool.{Bool, true, false, _&&_}
+use mathlib.Core.List.{List}
+use Prim.Native.Nat.{ℕ, _+_, _-_, _*_, _^_, _≤_, _<_}
+use native.Mathlib.Nat.{mul-le-mul, le-trans}
+use native.Mathlib.Omega.{arith}
+use borrow.Author.Tests.{leb-true}
+use lib.Dec.{leb, lit<}
+use lib.IntN.{ℤ, pos, natAbs, _+ℤ_, _-ℤ_, _*ℤ_}
+use lib.ListN.{length, getD}
+use lib.Signed.{_≤ℤ_}
+use Rattle.integers.specs.Whole.{abs, square}
+use Rattle.integers.specs.Sum.{total}
+use Rattle.integers.proofs.Order.{≤ℤ-trans, ≤→pos, 0≤pos}
+use Rattle.integers.proofs.Absolute.{natAbs-product, natAbs-sum, natAbs-difference, natAbs-square, natAbs-within}
+use Rattle.integers.proofs.Clamp.{clamp-≥, clamp-≤}
+use Rattle.integers.proofs.Total.{natAbs-total}
+use Rattle.model.specs.Problem.{Pair, pairCount, firstOf, secondOf, fall, misfit, price, Feasible, pull, image, floor, slack, InBox}
+use Rattle.model.specs.Grid.{Terms, sizeAllowed, weightAllowed, boxAllowed, readingOf, lowEnd, highEnd, gridPairs, grid}
+use Rattle.model.proofs.Pairs.{pair-count, neighbours, first-inside, second-inside}
+
+-- ---- what the tests of the terms say
+
+both-left : (a b : Bool) → (a && b) ≡ true → a ≡ true
+both-left true b e = refl
+both-left false b e = e
+
+both-right : (a b : Bool) → (a && b) ≡ true → b ≡ true
+both-right true b e = e
+both-right false b e = absurd-path e
+  where
+    absurd-path : false ≡ true → b ≡ true
+    absurd-path q = cc
+
+pub record SizeLimits (w h : ℕ) : Type 0 where
+  pub width-least : 1 ≤ w
+  pub width-most : w ≤ 4096
+  pub height-least : 1 ≤ h
+  pub height-most : h ≤ 4096
+  pub pixels-most : w * h ≤ 1048576
+
+pub size-limits : (w h : ℕ) → sizeAllowed w h ≡ true → SizeLimits w h
+unfolding sizeAllowed
+size-limits w h e =
+    let a = leb 1 w && leb w 4096 in
+    let b = leb 1 h && leb h 4096 in
+    let c = leb (w * h) 1048576 in
+    let ab : (a && b) ≡ true = both-left (a && b) c e in
+    record {
+      width-least = leb-true 1 w (both-left (leb 1 w) (leb w 4096) (both-left a b ab));
+      width-most = leb-true w 4096 (both-right (leb 1 w) (leb w 4096) (both-left a b ab));
+      height-least = leb-true 1 h (both-left (leb 1 h) (leb h 4096) (both-right a b ab));
+      height-most = leb-true h 4096 (both-right (leb 1 h) (leb h 4096) (both-right a b ab));
+      pixels-most = leb-true (w * h) 1048576 (both-right (a && b) c e);
+    }
+
+-- ---- the bound
+
+-- 256 × 255 sub-units: the largest image value, reading and weight
+abbrev pub most : ℕ
+most = 65280
+
+-- the data term of 2²⁰ pixels, and four times that for 2²¹ pairs, each of them doubled
+abbrev pub largest : ℕ
+largest = 5 * (1048576 * (most * most))
+
+pub largest-fits : 2 * largest < 2 ^ 63
+largest-fits = lit< tt
+
+pub pairs-most : (w h : ℕ) → length (gridPairs w h) ≤ 2 * (w * h)
+pairs-most w h = omega (arith, pair-count w h)
+
+-- the data term plus twice a sum over pairs, as price and floor are made
+two-sums : (n m : ℕ) (s c : ℤ) → natAbs s ≤ n * (most * most) → natAbs c ≤ m * (most * most) → n ≤ 1048576 → m ≤ 2 * n →
+    natAbs (s +ℤ pos 2 *ℤ c) ≤ largest
+two-sums n m s c u v h k = omega (arith, natAbs-sum s (pos 2 *ℤ c), natAbs-product (pos 2) c)
+
+-- An allowed job: the size and the weight pass their tests, the box and the samples are bytes
+pub record Allowed (t : Terms) (samples : List ℕ) : Type 0 where
+  pub size : sizeAllowed (t .width) (t .height) ≡ true
+  pub weight : weightAllowed (t .weight) ≡ true
+  pub box : boxAllowed (t .low) (t .high) ≡ true
+  pub high-byte : t .high ≤ 255
+  pub bytes : (i : ℕ) → getD samples i 0 ≤ 255
+
+module _ (t : Terms) (samples : List ℕ) (ok : Allowed t samples) where
+  -- image values and readings are 0 to 65,280
+  value-least : (x : ℕ → ℤ) → InBox (grid t samples) x → (i : ℕ) → i < t .width * t .height → pos 0 ≤ℤ x i
+  unfolding lowEnd
+  value-least x inside i l = ≤ℤ-trans (0≤pos (256 * t .low)) (inside i l .0)
+
+  value-most : (x : ℕ → ℤ) → InBox (grid t samples) x → (i : ℕ) → i < t .width * t .height → x i ≤ℤ pos most
+  unfolding highEnd
+  value-most x inside i l = ≤ℤ-trans (inside i l .1) (≤→pos (omega (arith, ok .high-byte)))
+
+  reading-bounds : (i : ℕ) → (pos 0 ≤ℤ readingOf (getD samples i 0)) × (readingOf (getD samples i 0) ≤ℤ pos most)
+  unfolding readingOf
+  reading-bounds i = (0≤pos (256 * getD samples i 0), ≤→pos (omega (arith, ok .bytes i)))
+
+  weight-most : t .weight ≤ most
+  unfolding weightAllowed
+  weight-most = leb-true (t .weight) most (ok .weight)
+
+  module _ (x : ℕ → ℤ) (inside : InBox (grid t samples) x) where
+    misfit-bound : natAbs (misfit (grid t samples) x) ≤ t .width * t .height * (most * most)
+    unfolding misfit
+    misfit-bound = natAbs-total (t .width * t .height) _ (λ i l. each i l)
+      where
+        each : (i : ℕ) → i < t .width * t .height → natAbs (square (x i -ℤ readingOf (getD samples i 0))) ≤ most * most
+        each i l =
+            let d : natAbs (x i -ℤ readingOf (getD samples i 0)) ≤ most =
+            natAbs-within (value-least x inside i l) (value-most x inside i l) (reading-bounds i .0) (reading-bounds i .1)
+            in
+            subst (λ (n : ℕ). n ≤ most * most) (sym (natAbs-square (x i -ℤ readingOf (getD samples i 0)))) (mul-le-mul d d)
+
+    pub fall-bound : (j : ℕ) → j < pairCount (grid t samples) → natAbs (fall (grid t samples) x j) ≤ most
+    unfolding fall
+    fall-bound j l =
+        let n = neighbours (t .width) (t .height) j (record { first = 0; second = 0 }) l in
+        let a : firstOf (grid t samples) j < t .width * t .height = first-inside (t .width) (t .height) _ n in
+        let b : secondOf (grid t samples) j < t .width * t .height = second-inside (t .width) (t .height) _ n in
+        natAbs-within (value-least x inside _ a) (value-most x inside _ a) (value-least x inside _ b) (value-most x inside _ b)
+
+    -- the data term plus twice a sum over pairs of terms that a weight times a fall bounds
+    objective-bound : (c : ℕ → ℤ) → ((j : ℕ) → j < pairCount (grid t samples) → natAbs (c j) ≤ most * most) →
+        natAbs (misfit (grid t samples) x +ℤ pos 2 *ℤ total (pairCount (grid t samples)) c) ≤ largest
+    objective-bound c each =
+        two-sums (t .width * t .height) (pairCount (grid t samples)) (misfit (grid t samples) x)
+        (total (pairCount (grid t samples)) c) misfit-bound (natAbs-total (pairCount (grid t samples)) c each)
+        (size-limits (t .width) (t .height) (ok .size) .pixels-most)
+        (pairs-most (t .width) (t .height))
+
+    pub price-bound : natAbs (price (grid t samples) x) ≤ largest
+    unfolding price
+    price-bound = objective-bound _ (λ j l.
+        subst (λ (n : ℕ). n ≤ most * most) (sym (natAbs-product (pos (t .weight)) (abs (fall (grid t samples) x j))))
+        (mul-le-mul weight-most (fall-bound j l)))
+
+  image-inside : (f : ℕ → ℤ) → InBox (grid t samples) (image (grid t samples) f)
+  unfolding image lowEnd highEnd boxAllowed
+  image-inside f i l =
+      let z : ℤ = readingOf (getD samples i 0) -ℤ pull (grid t samples) f i in
+      let o : pos (256 * t .low) ≤ℤ pos (256 * t .high) = ≤→pos (omega (arith, leb-true (t .low) (t .high) (ok .box))) in
+      (clamp-≥ (pos (256 * t .low)) (pos (256 * t .high)) z o, clamp-≤ (pos (256 * t .low)) (pos (256 * t .high)) z o)
+
+  module _ (f : ℕ → ℤ) (within : Feasible (grid t samples) f) where
+    pub floor-bound : natAbs (floor (grid t samples) f) ≤ largest
+    unfolding floor
+    floor-bound = objective-bound (image (grid t samples) f) (image-inside f) _ (λ j l.
+        subst (λ (n : ℕ). n ≤ most * most) (sym (natAbs-product (f j) (fall (grid t samples) (image (grid t samples) f) j)))
+        (mul-le-mul (le-trans (within j l) weight-most)
+        (fall-bound (image (grid t samples) f) (image-inside f) j l)))
+
+    pub slack-bound : natAbs (slack (grid t samples) f) ≤ 2 * largest
+    unfolding slack
+    slack-bound =
+        let x : ℕ → ℤ = image (grid t samples) f in
+        let a : natAbs (price (grid t samples) x) ≤ largest = price-bound x (image-inside f) in
+        let b : natAbs (floor (grid t samples) f) ≤ largest = floor-bound in
+        omega (arith, natAbs-difference (price (grid t samples) x) (floor (grid t samples) f))
