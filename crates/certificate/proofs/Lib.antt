@@ -4,3 +4,4 @@ pub mod Lagrangian
 pub mod Congruence
 pub mod Distance
 pub mod Division
+pub mod Ascent

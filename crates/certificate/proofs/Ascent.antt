@@ -1,0 +1,205 @@
+-- How much a change of the flow raises the floor: by what its falls gain, less the squared pulls of the change; and those
+-- pulls are bounded by the largest degree. Assumes nothing.
+use mathlib.Core.Path.{_≡_, refl, sym, ap, ap₂, _∙_, subst, subst₂}
+use mathlib.Core.Bool.{Bool, true, false, cond}
+use Prim.Native.Nat.{ℕ, zero, suc, _+_, _*_, _<_, _≤_}
+use native.Mathlib.Omega.{arith}
+use lib.Dec.{eqb}
+use lib.IntN.{ℤ, pos, _+ℤ_, _-ℤ_, _*ℤ_, *ℤ-comm}
+use lib.Signed.{_≤ℤ_, ≤ℤ-refl}
+use Rattle.integers.specs.Whole.{square}
+use Rattle.integers.specs.Sum.{total}
+use Rattle.integers.proofs.Parts.{parts, whole, by-≡, by-≤, of-≤, of-≡}
+use Rattle.integers.proofs.Ring.{+ℤ-*ℤ, *ℤ-+ℤ}
+use Rattle.integers.proofs.Order.{≤ℤ-trans, *ℤ-mono, +ℤ-mono, 0≤pos, ≤→pos, ≡→≤ℤ, square-nonneg, *ℤ-nonneg}
+use Rattle.integers.proofs.Total.{
+  total-cong,
+  total-+ℤ,
+  total--ℤ,
+  total-*ℤ,
+  total-*ℤʳ,
+  total-exchange,
+  total-mono,
+  total-nonneg,
+  total-pick
+}
+use Rattle.integers.proofs.Cauchy.{cauchy-schwarz-signs}
+use Rattle.model.specs.Problem.{
+  Problem,
+  pairCount,
+  firstOf,
+  secondOf,
+  fall,
+  misfit,
+  pull,
+  image,
+  floor,
+  distance
+}
+use Rattle.model.proofs.Degree.{countWhere, degree}
+use Rattle.certificate.proofs.Lagrangian.{Sound, adjoint, lagrangian, floor-is, image-in-box, minimum}
+
+-- ---- the ascent inequality
+
+lagrangian-sum : (p : Problem) (f e x : ℕ → ℤ) →
+  lagrangian p (λ j. f j +ℤ e j) x ≡ lagrangian p f x +ℤ pos 2 *ℤ total (pairCount p) (λ j. e j *ℤ fall p x j)
+unfolding lagrangian
+lagrangian-sum p f e x =
+    ap (λ (s : ℤ). misfit p x +ℤ pos 2 *ℤ s)
+    (total-cong (pairCount p) (λ j _. +ℤ-*ℤ (f j) (e j) (fall p x j))
+    ∙ total-+ℤ (pairCount p) (λ j. f j *ℤ fall p x j) (λ j. e j *ℤ fall p x j))
+    ∙ regroup (misfit p x) (total (pairCount p) (λ j. f j *ℤ fall p x j)) (total (pairCount p) (λ j. e j *ℤ fall p x j))
+  where
+    regroup : (c a b : ℤ) → c +ℤ pos 2 *ℤ (a +ℤ b) ≡ (c +ℤ pos 2 *ℤ a) +ℤ pos 2 *ℤ b
+    regroup c a b = by-≡ (search parts depth 12) (omega whole)
+
+-- one pixel, with x and z its values before and after, q the pull of the change: (x − z − q)² ≥ 0
+pixel-square : (x z q : ℤ) → (pos 2 *ℤ (q *ℤ x) -ℤ square q) ≤ℤ (square (x -ℤ z) +ℤ pos 2 *ℤ (q *ℤ z))
+pixel-square x z q = by-≤ (search parts depth 12) (omega (whole, of-≤ (square-nonneg (x -ℤ z -ℤ q)) (search parts depth 12)))
+
+module _ (p : Problem) (sound : Sound p) (e : ℕ → ℤ) where
+  -- 2 × the sum over pixels of pull × value, by pairs
+  doubled : (x : ℕ → ℤ) →
+    total (p .pixels) (λ i. pos 2 *ℤ (pull p e i *ℤ x i)) ≡ pos 2 *ℤ total (pairCount p) (λ j. e j *ℤ fall p x j)
+  doubled x =
+      total-*ℤ (p .pixels) (pos 2) (λ i. pull p e i *ℤ x i) ∙ ap (λ (s : ℤ). pos 2 *ℤ s) (sym (adjoint p sound e x))
+
+  -- the squares of all pixels together
+  squares : (x z : ℕ → ℤ) →
+    (pos 2 *ℤ total (pairCount p) (λ j. e j *ℤ fall p x j) -ℤ total (p .pixels) (λ i. square (pull p e i)))
+    ≤ℤ (distance p x z +ℤ pos 2 *ℤ total (pairCount p) (λ j. e j *ℤ fall p z j))
+  unfolding distance
+  squares x z =
+      let n : ℕ = p .pixels in
+      let q : ℕ → ℤ = pull p e in
+      subst₂ _≤ℤ_
+      (total--ℤ n (λ i. pos 2 *ℤ (q i *ℤ x i)) (λ i. square (q i))
+      ∙ ap (λ (s : ℤ). s -ℤ total n (λ i. square (q i))) (doubled x))
+      (total-+ℤ n (λ i. square (x i -ℤ z i)) (λ i. pos 2 *ℤ (q i *ℤ z i))
+      ∙ ap (λ (s : ℤ). total n (λ i. square (x i -ℤ z i)) +ℤ s) (doubled z))
+      (total-mono n (λ i _. pixel-square (x i) (z i) (q i)))
+
+  -- For a change e of the flow f: floor + 2 × the sum of change × fall − the squared pulls of e ≤ floor after
+  pub ascent : (f : ℕ → ℤ) →
+    (floor p f
+    +ℤ (pos 2 *ℤ total (pairCount p) (λ j. e j *ℤ fall p (image p f) j) -ℤ total (p .pixels) (λ i. square (pull p e i))))
+    ≤ℤ floor p (λ j. f j +ℤ e j)
+  ascent f =
+      let g : ℕ → ℤ = λ j. f j +ℤ e j in
+      let x : ℕ → ℤ = image p f in
+      let z : ℕ → ℤ = image p g in
+      let a : ℤ = pos 2 *ℤ total (pairCount p) (λ j. e j *ℤ fall p x j) -ℤ total (p .pixels) (λ i. square (pull p e i)) in
+      subst₂ (λ (u v : ℤ). (u +ℤ a) ≤ℤ v) (sym (floor-is p f)) (sym (floor-is p g ∙ lagrangian-sum p f e z))
+      (combine (lagrangian p f x) (lagrangian p f z) (distance p x z) a (pos 2 *ℤ total (pairCount p) (λ j. e j *ℤ fall p z j))
+      (minimum p sound f z (image-in-box p sound g)) (squares x z))
+    where
+      combine : (lx lz d a b : ℤ) → (lx +ℤ d) ≤ℤ lz → a ≤ℤ (d +ℤ b) → (lx +ℤ a) ≤ℤ (lz +ℤ b)
+      combine lx lz d a b h k =
+          by-≤ (search parts depth 12) (omega (whole, of-≤ h (search parts depth 12), of-≤ k (search parts depth 12)))
+
+-- ---- the degree
+
+-- 1 where a test holds, else 0
+bit : Bool → ℤ
+bit b = cond b (pos 1) (pos 0)
+
+-- how pixel i lies in pair j: 1 as first, −1 as second, 0 as neither (or as both)
+incidence : Problem → ℕ → ℕ → ℤ
+incidence p i j = bit (eqb (firstOf p j) i) -ℤ bit (eqb (secondOf p j) i)
+
+sign-cubed : (a b : Bool) → (bit a -ℤ bit b) *ℤ (bit a -ℤ bit b) *ℤ (bit a -ℤ bit b) ≡ bit a -ℤ bit b
+unfolding bit
+sign-cubed true true = refl
+sign-cubed true false = refl
+sign-cubed false true = refl
+sign-cubed false false = refl
+
+sign-squared : (a b : Bool) → ((bit a -ℤ bit b) *ℤ (bit a -ℤ bit b)) ≤ℤ (bit a +ℤ bit b)
+unfolding bit
+sign-squared true true = record { le = tt }
+sign-squared true false = record { le = tt }
+sign-squared false true = record { le = tt }
+sign-squared false false = record { le = tt }
+
+signed-choice : (a b : Bool) (x : ℤ) → cond a x (pos 0) -ℤ cond b x (pos 0) ≡ (bit a -ℤ bit b) *ℤ x
+unfolding bit
+signed-choice true true x = by-≡ (search parts depth 12) (omega whole)
+signed-choice true false x = by-≡ (search parts depth 12) (omega whole)
+signed-choice false true x = by-≡ (search parts depth 12) (omega whole)
+signed-choice false false x = by-≡ (search parts depth 12) (omega whole)
+
+pull-by-incidence : (p : Problem) (e : ℕ → ℤ) (i : ℕ) → pull p e i ≡ total (pairCount p) (λ j. incidence p i j *ℤ e j)
+unfolding pull incidence
+pull-by-incidence p e i =
+    sym (total--ℤ (pairCount p) (λ j. cond (eqb (firstOf p j) i) (e j) (pos 0)) (λ j. cond (eqb (secondOf p j) i) (e j) (pos 0)))
+    ∙ total-cong (pairCount p) (λ j _. signed-choice (eqb (firstOf p j) i) (eqb (secondOf p j) i) (e j))
+
+count-total : (m : ℕ) (test : ℕ → Bool) → total m (λ j. bit (test j)) ≡ pos (countWhere m test)
+unfolding total countWhere bit
+count-total zero test = refl
+count-total (suc m) test = ap (λ (s : ℤ). s +ℤ bit (test m)) (count-total m test) ∙ last (test m)
+  where
+    last : (b : Bool) → pos (countWhere m test) +ℤ cond b (pos 1) (pos 0) ≡ pos (countWhere m test + cond b 1 0)
+    last true = refl
+    last false = refl
+
+mono-left : (u v s : ℤ) → pos 0 ≤ℤ s → u ≤ℤ v → (u *ℤ s) ≤ℤ (v *ℤ s)
+mono-left u v s h k = subst₂ _≤ℤ_ (*ℤ-comm s u) (*ℤ-comm s v) (*ℤ-mono h k)
+
+module _ (p : Problem) (sound : Sound p) (d : ℕ) (degrees : (i : ℕ) → i < p .pixels → degree p i ≤ d) (e : ℕ → ℤ) where
+  -- the squared incidence
+  met : ℕ → ℕ → ℤ
+  met i j = incidence p i j *ℤ incidence p i j
+
+  met-bits : (i j : ℕ) → met i j ≤ℤ (bit (eqb (firstOf p j) i) +ℤ bit (eqb (secondOf p j) i))
+  unfolding met incidence
+  met-bits i j = sign-squared (eqb (firstOf p j) i) (eqb (secondOf p j) i)
+
+  -- a pixel meets at most d pairs ..
+  pairs-met : (i : ℕ) → i < p .pixels → total (pairCount p) (met i) ≤ℤ pos d
+  unfolding degree
+  pairs-met i l =
+      ≤ℤ-trans (total-mono (pairCount p) (λ j _. met-bits i j))
+      (≤ℤ-trans (≡→≤ℤ (total-+ℤ (pairCount p) (λ j. bit (eqb (firstOf p j) i)) (λ j. bit (eqb (secondOf p j) i))
+      ∙ ap₂ (λ (a b : ℤ). a +ℤ b) (count-total (pairCount p) (λ j. eqb (firstOf p j) i)) (count-total (pairCount p) (λ j. eqb (secondOf p j) i))))
+      (≤→pos (degrees i l)))
+
+  -- .. and a pair at most two pixels
+  pixels-met : (j : ℕ) → j < pairCount p → total (p .pixels) (λ i. met i j) ≤ℤ pos 2
+  unfolding bit
+  pixels-met j l =
+      ≤ℤ-trans (total-mono (p .pixels) (λ i _. met-bits i j))
+      (≡→≤ℤ (total-+ℤ (p .pixels) (λ i. bit (eqb (firstOf p j) i)) (λ i. bit (eqb (secondOf p j) i))
+      ∙ ap₂ (λ (a b : ℤ). a +ℤ b)
+      (total-pick (firstOf p j) (λ _. pos 1) (p .pixels) (sound .first-in j l))
+      (total-pick (secondOf p j) (λ _. pos 1) (p .pixels) (sound .second-in j l))))
+
+  -- the squares of the change at the pairs that pixel i meets
+  around : ℕ → ℤ
+  around i = total (pairCount p) (λ j. met i j *ℤ (e j *ℤ e j))
+
+  pixel-pull : (i : ℕ) → i < p .pixels → square (pull p e i) ≤ℤ (pos d *ℤ around i)
+  unfolding met around incidence
+  pixel-pull i l =
+      subst (λ (q : ℤ). square q ≤ℤ (pos d *ℤ around i)) (sym (pull-by-incidence p e i))
+      (≤ℤ-trans
+      (cauchy-schwarz-signs (incidence p i) e (pairCount p) (λ j _. sign-cubed (eqb (firstOf p j) i) (eqb (secondOf p j) i)))
+      (mono-left (total (pairCount p) (met i)) (pos d) (around i)
+      (total-nonneg (pairCount p) (λ j _. *ℤ-nonneg (square-nonneg (incidence p i j)) (square-nonneg (e j))))
+      (pairs-met i l)))
+
+  -- The squared pulls of a change are at most 2 × the largest degree × its squares
+  pub pull-degree : total (p .pixels) (λ i. square (pull p e i)) ≤ℤ (pos (2 * d) *ℤ total (pairCount p) (λ j. square (e j)))
+  unfolding around
+  pull-degree =
+      let n : ℕ = p .pixels in
+      let m : ℕ = pairCount p in
+      ≤ℤ-trans (total-mono n pixel-pull)
+      (≤ℤ-trans (≡→≤ℤ (total-*ℤ n (pos d) around ∙ ap (λ (s : ℤ). pos d *ℤ s) (total-exchange n m (λ i j. met i j *ℤ (e j *ℤ e j)))))
+      (≤ℤ-trans (*ℤ-mono (0≤pos d) (total-mono m (λ j l.
+        ≤ℤ-trans (≡→≤ℤ (total-*ℤʳ n (λ i. met i j) (e j *ℤ e j)))
+        (mono-left (total n (λ i. met i j)) (pos 2) (e j *ℤ e j) (square-nonneg (e j)) (pixels-met j l)))))
+      (≡→≤ℤ (ap (λ (s : ℤ). pos d *ℤ s) (total-*ℤ m (pos 2) (λ j. square (e j))) ∙ doubled-degree (total m (λ j. square (e j)))))))
+    where
+      doubled-degree : (s : ℤ) → pos d *ℤ (pos 2 *ℤ s) ≡ pos (2 * d) *ℤ s
+      doubled-degree s = by-≡ (search parts depth 12) (omega whole)
