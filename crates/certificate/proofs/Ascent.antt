@@ -21,7 +21,7 @@ use Rattle.integers.proofs.Total.{
   total-exchange,
   total-mono,
   total-nonneg,
-  total-pick
+  total-pick,
 }
 use Rattle.integers.proofs.Cauchy.{cauchy-schwarz-signs}
 use Rattle.model.specs.Problem.{
@@ -34,7 +34,7 @@ use Rattle.model.specs.Problem.{
   pull,
   image,
   floor,
-  distance
+  distance,
 }
 use Rattle.model.proofs.Degree.{countWhere, degree}
 use Rattle.certificate.proofs.Lagrangian.{Sound, adjoint, lagrangian, floor-is, image-in-box, minimum}
@@ -42,7 +42,7 @@ use Rattle.certificate.proofs.Lagrangian.{Sound, adjoint, lagrangian, f
 -- ---- the ascent inequality
 
 lagrangian-sum : (p : Problem) (f e x : ℕ → ℤ) →
-  lagrangian p (λ j. f j +ℤ e j) x ≡ lagrangian p f x +ℤ pos 2 *ℤ total (pairCount p) (λ j. e j *ℤ fall p x j)
+    lagrangian p (λ j. f j +ℤ e j) x ≡ lagrangian p f x +ℤ pos 2 *ℤ total (pairCount p) (λ j. e j *ℤ fall p x j)
 unfolding lagrangian
 lagrangian-sum p f e x =
     ap (λ (s : ℤ). misfit p x +ℤ pos 2 *ℤ s)
@@ -60,14 +60,14 @@ pixel-square x z q = by-≤ (search parts depth 12) (omega (whole, of-≤ (squar
 module _ (p : Problem) (sound : Sound p) (e : ℕ → ℤ) where
   -- 2 × the sum over pixels of pull × value, by pairs
   doubled : (x : ℕ → ℤ) →
-    total (p .pixels) (λ i. pos 2 *ℤ (pull p e i *ℤ x i)) ≡ pos 2 *ℤ total (pairCount p) (λ j. e j *ℤ fall p x j)
+      total (p .pixels) (λ i. pos 2 *ℤ (pull p e i *ℤ x i)) ≡ pos 2 *ℤ total (pairCount p) (λ j. e j *ℤ fall p x j)
   doubled x =
       total-*ℤ (p .pixels) (pos 2) (λ i. pull p e i *ℤ x i) ∙ ap (λ (s : ℤ). pos 2 *ℤ s) (sym (adjoint p sound e x))
 
   -- the squares of all pixels together
   squares : (x z : ℕ → ℤ) →
-    (pos 2 *ℤ total (pairCount p) (λ j. e j *ℤ fall p x j) -ℤ total (p .pixels) (λ i. square (pull p e i)))
-    ≤ℤ (distance p x z +ℤ pos 2 *ℤ total (pairCount p) (λ j. e j *ℤ fall p z j))
+      (pos 2 *ℤ total (pairCount p) (λ j. e j *ℤ fall p x j) -ℤ total (p .pixels) (λ i. square (pull p e i)))
+      ≤ℤ (distance p x z +ℤ pos 2 *ℤ total (pairCount p) (λ j. e j *ℤ fall p z j))
   unfolding distance
   squares x z =
       let n : ℕ = p .pixels in
@@ -81,9 +81,9 @@ module _ (p : Problem) (sound : Sound p) (e : ℕ → ℤ) where
 
   -- For a change e of the flow f: floor + 2 × the sum of change × fall − the squared pulls of e ≤ floor after
   pub ascent : (f : ℕ → ℤ) →
-    (floor p f
-    +ℤ (pos 2 *ℤ total (pairCount p) (λ j. e j *ℤ fall p (image p f) j) -ℤ total (p .pixels) (λ i. square (pull p e i))))
-    ≤ℤ floor p (λ j. f j +ℤ e j)
+      (floor p f
+      +ℤ (pos 2 *ℤ total (pairCount p) (λ j. e j *ℤ fall p (image p f) j) -ℤ total (p .pixels) (λ i. square (pull p e i))))
+      ≤ℤ floor p (λ j. f j +ℤ e j)
   ascent f =
       let g : ℕ → ℤ = λ j. f j +ℤ e j in
       let x : ℕ → ℤ = image p f in
@@ -197,8 +197,8 @@ module _ (p : Problem) (sound : Sound p) (d : ℕ) (degrees : (i : ℕ) → i < 
       ≤ℤ-trans (total-mono n pixel-pull)
       (≤ℤ-trans (≡→≤ℤ (total-*ℤ n (pos d) around ∙ ap (λ (s : ℤ). pos d *ℤ s) (total-exchange n m (λ i j. met i j *ℤ (e j *ℤ e j)))))
       (≤ℤ-trans (*ℤ-mono (0≤pos d) (total-mono m (λ j l.
-        ≤ℤ-trans (≡→≤ℤ (total-*ℤʳ n (λ i. met i j) (e j *ℤ e j)))
-        (mono-left (total n (λ i. met i j)) (pos 2) (e j *ℤ e j) (square-nonneg (e j)) (pixels-met j l)))))
+      ≤ℤ-trans (≡→≤ℤ (total-*ℤʳ n (λ i. met i j) (e j *ℤ e j)))
+      (mono-left (total n (λ i. met i j)) (pos 2) (e j *ℤ e j) (square-nonneg (e j)) (pixels-met j l)))))
       (≡→≤ℤ (ap (λ (s : ℤ). pos d *ℤ s) (total-*ℤ m (pos 2) (λ j. square (e j))) ∙ doubled-degree (total m (λ j. square (e j)))))))
     where
       doubled-degree : (s : ℤ) → pos d *ℤ (pos 2 *ℤ s) ≡ pos (2 * d) *ℤ s

@@ -5,3 +5,7 @@ pub mod Congruence
 pub mod Distance
 pub mod Division
 pub mod Ascent
+pub mod Rounding
+pub mod Step
+pub mod Steady
+pub mod Grid

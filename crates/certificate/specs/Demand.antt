@@ -1,9 +1,16 @@
--- Demand 3 for one problem and one flow, as a contract cites it.
+-- Demand 3: for one problem and one flow, then for check and run, as their contracts cite it.
+use mathlib.Core.Bool.{true}
+use mathlib.Core.List.{List}
 use mathlib.Core.Logic.{_↔_}
 use mathlib.Core.Path.{_≡_}
-use Prim.Native.Nat.{ℕ, _*_, _≤_, _<_}
+use Prim.Native.Nat.{ℕ, _+_, _*_, _≤_, _<_}
 use lib.IntN.{ℤ, pos, _+ℤ_, _*ℤ_}
-use lib.Signed.{_≤ℤ_}
+use lib.Signed.{_≤ℤ_, _<ℤ_}
+use Rattle.model.specs.Lists.{at}
+use Rattle.model.specs.declared.Terms.{Terms}
+use Rattle.model.specs.declared.Rounds.{Rounds}
+use Rattle.model.specs.Grid.{grid}
+use Rattle.model.specs.Calls.{pairsOf, quickFlow, ending}
 use Rattle.model.specs.Problem.{
   Problem,
   price,
@@ -37,3 +44,20 @@ pub record Certificate (p : Problem) (f : ℕ → ℤ) : Type 0 where
   pub here : Certified p f
   pub divisions : (k : ℕ) → 1 ≤ k → Certified (divided k p) (times k f)
   pub scaled : (k : ℕ) → Scaled p f k
+
+-- Demand 3 for check: the certificate of the flow that it was sent
+abbrev pub CheckDemand : Terms → List ℕ → List ℤ → Type 0
+CheckDemand t samples flow = Certificate (grid t samples) (at flow)
+
+-- Demand 3 for run: the certificate of the flow that it leaves; moved × 8 is at most the slack of the flow that the quick
+-- rounds leave; a settled run's slack is at most 28 × weight × pairs; and a run settles whenever 8 × (allowance + 1)
+-- exceeds the slack of the flow that the quick rounds leave
+pub record RunDemand (t : Terms) (r : Rounds) (samples : List ℕ) : Type 0 where
+  pub certificate : Certificate (grid t samples) (at (ending t r samples .flow))
+  pub moved : pos (8 * ending t r samples .moved) ≤ℤ slack (grid t samples) (at (quickFlow t r samples))
+  pub settled :
+      ending t r samples .settled ≡ true →
+      slack (grid t samples) (at (ending t r samples .flow)) ≤ℤ pos (28 * (t .weight * pairsOf t))
+  pub settles :
+      slack (grid t samples) (at (quickFlow t r samples)) <ℤ pos (8 * (r .allowance + 1)) →
+      ending t r samples .settled ≡ true
