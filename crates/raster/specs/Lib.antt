@@ -1,0 +1,2 @@
+-- What the passes over a raster's buffers compute.
+pub mod Stencil

@@ -1,0 +1,29 @@
+-- The grid's definitions as a pass sees them: a pixel with its up to four pairs, a pair with its two pixels. That they are
+-- the definitions of crate `model` is proved in proofs/Stencil.antt.
+use mathlib.Core.Bool.{Bool, not, cond}
+use Prim.Native.Nat.{ℕ, _+_, _-_, _*_}
+use lib.Dec.{ltb}
+use lib.IntN.{ℤ, pos, negℤ, _+ℤ_, _-ℤ_}
+use Rattle.integers.specs.Whole.{clamp, sameZ}
+use Rattle.model.specs.Rounds.{eighth}
+
+-- the number of the pair of a pixel and the one to its right
+abbrev pub rightPair : ℕ → ℕ → ℕ → ℕ → ℕ
+rightPair w h row column = w * (h - 1) + (row * (w - 1) + column)
+
+-- The pull on a pixel (the divergence): its pairs with the pixel below and to the right, less those with the pixel above
+-- and to the left
+unfoldable pub gathered : ℕ → ℕ → (ℕ → ℤ) → ℕ → ℕ → ℤ
+gathered w h f row column =
+    (cond (ltb (row + 1) h) (f (row * w + column)) (pos 0)
+    +ℤ cond (ltb (column + 1) w) (f (rightPair w h row column)) (pos 0))
+    -ℤ (cond (ltb 0 row) (f ((row - 1) * w + column)) (pos 0)
+    +ℤ cond (ltb 0 column) (f (rightPair w h row (column - 1))) (pos 0))
+
+-- The number of a pair after a step, from its number f and its pixels' values x and y
+unfoldable pub stepValue : ℤ → ℤ → ℤ → ℤ → ℤ
+stepValue weight f x y = clamp (negℤ weight) weight (f +ℤ eighth (x -ℤ y))
+
+-- whether the step would change it
+abbrev pub moves : ℤ → ℤ → ℤ → ℤ → Bool
+moves weight f x y = not (sameZ (stepValue weight f x y) f)

@@ -1,0 +1,1 @@
+// Passes over a raster's buffers.
