@@ -1,0 +1,3 @@
+-- Laws of the passes.
+--     Stencil     the stencil's definitions are the model's
+pub mod Stencil
