@@ -2,7 +2,7 @@
 use mathlib.Core.Path.{_≡_, refl, sym, ap, _∙_, subst}
 use mathlib.Core.Bool.{Bool, true, false, cond}
 use Prim.Native.Nat.{ℕ, zero, suc, _+_, _*_, _/_, _^_, _≤_, _<_, zero-le}
-use native.Mathlib.Nat.{mul-le-mul, div-le-self, le-trans, lt-of-lt-of-le, not-le-of-lt}
+use native.Mathlib.Nat.{mul-le-mul, le-trans, le-antisymm, not-le-of-lt}
 use native.Mathlib.Decide.{decLe}
 use native.Mathlib.Omega.{arith}
 use lib.Dec.{T, leb, leb→le, nleb→lt}
@@ -53,6 +53,16 @@ root-largest n s h = by (decLe s (root n))
 -- .. whose square is at most n
 pub root-square : (n : ℕ) → root n * root n ≤ n
 root-square n = root-is n .below
+
+-- there is only one such number
+pub root-unique : (n r : ℕ) → r * r ≤ n → n < (r + 1) * (r + 1) → r ≡ root n
+root-unique n r h k = le-antisymm (root-largest n r h) (by (decLe (root n) r))
+  where
+    by : Dec (root n ≤ r) → root n ≤ r
+    by (yes l) = l
+    by (no g) =
+        let l : r + 1 ≤ root n = omega (arith, g) in
+        absurd (not-le-of-lt k (le-trans (mul-le-mul l l) (root-square n)))
 
 -- T grows by at most 65,536 in a round, and never falls below 65,536
 pub momentum-grows : (t : ℕ) → nextMomentum t ≤ t + 65536

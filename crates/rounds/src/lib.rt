@@ -1,0 +1,2 @@
+// The rounds of document 01: quick rounds with their momentum, and steady rounds.
+pub mod momentum;
