@@ -1,5 +1,7 @@
 -- Laws of the rounds.
 --     Squares     numbers with a small square
 --     Reciprocal  multiplying by a reciprocal is dividing
+--     Quick       the bounds of T and R
 pub mod Squares
 pub mod Reciprocal
+pub mod Quick

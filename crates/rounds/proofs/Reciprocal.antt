@@ -16,8 +16,9 @@ use native.Mathlib.Nat.{
 }
 use native.Mathlib.Omega.{arith}
 use lib.Dec.{lit<}
-use lib.IntN.{ℤ, pos, negsuc, natAbs, negℤ, _*ℤ_, *ℤ-comm}
+use lib.IntN.{ℤ, pos, negsuc, natAbs, negℤ, _*ℤ_}
 use Rattle.integers.specs.Whole.{quotient}
+use Rattle.integers.proofs.Quotient.{quotient-neg}
 use Rattle.rounds.specs.Reciprocal.{Reciprocal}
 
 -- a quotient from its two bounds
@@ -67,3 +68,12 @@ module _ (a b : ℕ) (p : zero < b) (l : a ≤ b) where
       let second = div-add-mod' y b in
       let last = mod-lt y p in
       record { above = omega arith; near = omega arith }
+
+-- the same for whole numbers, rounded toward zero
+pub quotient-exact : (a b m : ℕ) (x : ℤ) → zero < b → Reciprocal a b m → natAbs x * b < 2 ^ 46 →
+  quotient (x *ℤ pos m) (pos (2 ^ 46)) ≡ quotient (pos a *ℤ x) (pos b)
+quotient-exact a b m (pos n) p r small = ap pos (reciprocal-exact a b m n p r small)
+quotient-exact a b m (negsuc n) p r small =
+    quotient-neg (pos (suc n * m)) (2 ^ 46)
+    ∙ ap (λ (k : ℕ). negℤ (pos k)) (reciprocal-exact a b m (suc n) p r small)
+    ∙ sym (quotient-neg (pos (a * suc n)) b)
