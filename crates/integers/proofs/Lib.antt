@@ -1,4 +1,5 @@
--- The laws of whole numbers: how they are proved (Parts), then those of each operation, and of finite sums.
+-- The laws of whole numbers: how they are proved (Parts), then those of each operation, of finite sums, and of signed
+-- machine arithmetic (Machine).
 pub mod Parts
 pub mod Ring
 pub mod Order
@@ -8,3 +9,4 @@ pub mod Clamp
 pub mod Quotient
 pub mod Total
 pub mod Cauchy
+pub mod Machine
