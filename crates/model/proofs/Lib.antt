@@ -1,11 +1,13 @@
 -- The laws of the definitions.
 --     Values      the values marked ● in document 01
+--     Refusals    of the first refusal
 --     Lists       of `table`, `chain` and `firstWhere`
 --     Root        the root is the largest whole number whose square is at most n
 --     Pairs       how many pairs there are, and which two pixels each has
 --     Degree      a pixel lies in at most 4 pairs
 --     Bounds      price, floor and slack of an allowed job fit 64 bits
 pub mod Values
+pub mod Refusals
 pub mod Lists
 pub mod Root
 pub mod Pairs

@@ -1,0 +1,44 @@
+-- Laws of the first refusal, by which a call's code goes down the rows of its table. Assumes nothing.
+use mathlib.Core.Path.{_≡_, refl, ap, _∙_}
+use mathlib.Core.Bool.{Bool, true, false}
+use mathlib.Core.List.{List, [], _∷_, _++_}
+use Rattle.model.specs.Verdict.{Verdict, Accept, Refuse, Row, orElse, firstRefusal, decided}
+
+pub accepted : firstRefusal [] ≡ Accept
+unfolding firstRefusal
+accepted = refl
+
+module _ (r : Row) (rows : List Row) where
+  -- the first row applies
+  pub refused : r .applies ≡ true → firstRefusal (r ∷ rows) ≡ Refuse (r .number) (r .place)
+  unfolding firstRefusal
+  refused e = ap (λ (t : Bool). orElse t (Refuse (r .number) (r .place)) (firstRefusal rows)) e
+
+  -- it does not: the rows below it decide
+  pub passed : r .applies ≡ false → firstRefusal (r ∷ rows) ≡ firstRefusal rows
+  unfolding firstRefusal
+  passed e = ap (λ (t : Bool). orElse t (Refuse (r .number) (r .place)) (firstRefusal rows)) e
+
+-- the rows of two tables, one after the other
+pub firstRefusal-append : (upper lower : List Row) →
+    firstRefusal (upper ++ lower) ≡ decided (firstRefusal upper) (firstRefusal lower) Refuse
+unfolding firstRefusal
+firstRefusal-append [] lower = refl
+firstRefusal-append (r ∷ upper) lower = split (r .applies) (firstRefusal-append upper lower)
+  where
+    split : (t : Bool) → firstRefusal (upper ++ lower) ≡ decided (firstRefusal upper) (firstRefusal lower) Refuse →
+        orElse t (Refuse (r .number) (r .place)) (firstRefusal (upper ++ lower))
+        ≡ decided (orElse t (Refuse (r .number) (r .place)) (firstRefusal upper)) (firstRefusal lower) Refuse
+    split true ih = refl
+    split false ih = ih
+
+-- a row of an accepted table does not apply, and the rows below it accept
+pub accepted-row : (r : Row) (rows : List Row) → firstRefusal (r ∷ rows) ≡ Accept →
+    (r .applies ≡ false) × (firstRefusal rows ≡ Accept)
+unfolding firstRefusal
+accepted-row r rows h = split (r .applies) refl h
+  where
+    split : (t : Bool) → r .applies ≡ t → orElse t (Refuse (r .number) (r .place)) (firstRefusal rows) ≡ Accept →
+        (r .applies ≡ false) × (firstRefusal rows ≡ Accept)
+    split true e k = let z : _≡_ {A = Bool} true false = cc in (e ∙ z, cc)
+    split false e k = (e, k)

@@ -1,0 +1,5 @@
+-- The laws of the terms' limits.
+--     Size        what an allowed size says of the sides, of the pixels and of the pairs
+--     Accepted    what accepted terms say
+pub mod Size
+pub mod Accepted
