@@ -2,6 +2,8 @@
 --     Squares     numbers with a small square
 --     Reciprocal  multiplying by a reciprocal is dividing
 --     Quick       the bounds of T and R
+--     Ahead       one extrapolated number
 pub mod Squares
 pub mod Reciprocal
 pub mod Quick
+pub mod Ahead
