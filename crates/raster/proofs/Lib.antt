@@ -1,0 +1,2 @@
+-- Laws that the passes' proofs share.
+pub mod Fill
