@@ -1,6 +1,6 @@
 -- Signed machine arithmetic: an operation on numbers that fit their width, whose result fits it, is the operation on whole
 -- numbers. A signed local is its bits, and `toZ w (ofZ w z)` is what the machine reads back from those of z.
-use mathlib.Core.Path.{_≡_, refl, sym, ap, _∙_}
+use mathlib.Core.Path.{_≡_, refl, sym, ap, ap₂, _∙_}
 use mathlib.Core.Logic.{_≢_}
 use mathlib.Core.Bool.{Bool, true, false}
 use Prim.Native.Nat.{ℕ, zero, suc, _+_, _*_, _/_, _^_, _≤_, _<_, zero-le}
@@ -29,15 +29,24 @@ mag-quotient (pos m) (pos n) h = div-le-self m n
 mag-quotient (negsuc m) (pos n) h = mag-negℤ (suc m / n) (div-le-self (suc m) n)
 mag-quotient a (negsuc n) h = absurd (h .lt)
 
--- ---- an operation on numbers that fit
-
 module _ (w : Width) where
   pub fits : {z : ℤ} → natAbs z < 2 ^ hbits w → SFits w z
   fits {z} h = record { sfits = lt-of-le-of-lt (mag-≤ z) h }
 
-  -- a call's result, from the range that its `.ok` gives
-  pub read : {z : ℤ} → mag z < 2 ^ hbits w → toZ w (ofZ w z) ≡ z
-  read {z} h = toZ-ofZ w z (record { sfits = h })
+  -- ---- the result of a call, as the next operation reads it: from its range (`.ok`), its equation (`.ensures`) and what
+  -- its own arguments are
+
+  module _ {r : ℤ} (ok : mag r < 2 ^ hbits w) where
+    pub read : toZ w (ofZ w r) ≡ r
+    read = toZ-ofZ w r (record { sfits = ok })
+
+    pub called : {a x : ℤ} (f : ℤ → ℤ) → r ≡ f a → a ≡ x → toZ w (ofZ w r) ≡ f x
+    called f e p = read ∙ e ∙ ap f p
+
+    pub called₂ : {a b x y : ℤ} (f : ℤ → ℤ → ℤ) → r ≡ f a b → a ≡ x → b ≡ y → toZ w (ofZ w r) ≡ f x y
+    called₂ f e p q = read ∙ e ∙ ap₂ f p q
+
+  -- ---- an operation on numbers that fit
 
   module _ {a : ℤ} (f : ℤ → ℤ) (fa : SFits w a) (ok : SFits w (f a)) where
     pub one-fits : SFits w (f (toZ w (ofZ w a)))

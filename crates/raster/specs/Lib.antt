@@ -1,2 +1,3 @@
 -- What the passes over a raster's buffers compute.
 pub mod Stencil
+pub mod Limits

@@ -1,1 +1,2 @@
 // Passes over a raster's buffers.
+pub mod leaf;

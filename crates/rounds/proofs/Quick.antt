@@ -23,23 +23,23 @@ excess t h = by-≡ (search parts depth 12) (omega whole)
 
 -- R at one pair: within three times what bounds the two flows
 pub extrapolate-bound : (t next w : ℕ) (earlier now : ℤ) → 65536 ≤ t → t ≤ next → natAbs earlier ≤ w → natAbs now ≤ w →
-  natAbs (extrapolate t next earlier now) ≤ 3 * w
+    natAbs (extrapolate t next earlier now) ≤ 3 * w
 unfolding extrapolate
 extrapolate-bound t next w earlier now h l e n =
     let x : ℤ = now -ℤ earlier in
     let a : ℤ = pos t -ℤ pos 65536 in
     let d : natAbs x ≤ 2 * w = omega (arith, natAbs-difference now earlier) in
     let q : natAbs (quotient (a *ℤ x) (pos next)) ≤ natAbs x =
-        subst (λ (k : ℕ). k ≤ natAbs x) (sym (natAbs-quotient (a *ℤ x) next))
-        (div-le-of-le-mul next (subst (λ (k : ℕ). k ≤ next * natAbs x) (sym (natAbs-product a x))
-        (mul-le-mul-right (natAbs x) (subst (λ (z : ℤ). natAbs z ≤ next) (sym (excess t h)) (omega arith)))))
+    subst (λ (k : ℕ). k ≤ natAbs x) (sym (natAbs-quotient (a *ℤ x) next))
+    (div-le-of-le-mul next (subst (λ (k : ℕ). k ≤ next * natAbs x) (sym (natAbs-product a x))
+    (mul-le-mul-right (natAbs x) (subst (λ (z : ℤ). natAbs z ≤ next) (sym (excess t h)) (omega arith)))))
     in
     omega (arith, natAbs-sum now (quotient (a *ℤ x) (pos next)))
 
 -- and by the reciprocal of its quotient
 pub extrapolate-is : (t next m w : ℕ) (earlier now : ℤ) → 65536 ≤ t → zero < next → Reciprocal (t - 65536) next m →
-  natAbs (now -ℤ earlier) * next < 70368744177664 →
-  now +ℤ quotient ((now -ℤ earlier) *ℤ pos m) (pos 70368744177664) ≡ extrapolate t next earlier now
+    natAbs (now -ℤ earlier) * next < 70368744177664 →
+    now +ℤ quotient ((now -ℤ earlier) *ℤ pos m) (pos 70368744177664) ≡ extrapolate t next earlier now
 unfolding extrapolate
 extrapolate-is t next m w earlier now h p r small =
     ap (λ (z : ℤ). now +ℤ z)

@@ -71,7 +71,7 @@ module _ (a b : ℕ) (p : zero < b) (l : a ≤ b) where
 
 -- the same for whole numbers, rounded toward zero
 pub quotient-exact : (a b m : ℕ) (x : ℤ) → zero < b → Reciprocal a b m → natAbs x * b < 2 ^ 46 →
-  quotient (x *ℤ pos m) (pos (2 ^ 46)) ≡ quotient (pos a *ℤ x) (pos b)
+    quotient (x *ℤ pos m) (pos (2 ^ 46)) ≡ quotient (pos a *ℤ x) (pos b)
 quotient-exact a b m (pos n) p r small = ap pos (reciprocal-exact a b m n p r small)
 quotient-exact a b m (negsuc n) p r small =
     quotient-neg (pos (suc n * m)) (2 ^ 46)

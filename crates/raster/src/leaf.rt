@@ -1,0 +1,77 @@
+// What one pixel or one pair computes to. The passes call these for each element.
+
+use integers::signed;
+ghost use mathlib.Core.Path.{_≡_};
+ghost use Prim.Native.Nat.{_+_, _*_, _^_, _≤_, _<_};
+ghost use lib.IntN.{pos, natAbs, _+ℤ_, _-ℤ_, _*ℤ_};
+ghost use Rattle.integers.specs.Whole.{square, clamp};
+ghost use Rattle.model.specs.Grid.{readingOf};
+ghost use Rattle.raster.specs.Stencil.{stepValue, moves};
+ghost use Rattle.raster.specs.Limits.{PairLimits, PixelLimits};
+
+// The value of a sample, in sub-units.
+pub fn reading(s: u8) -> i32
+    ensures { λ r. ⌜ r ≡ readingOf s ⌝ }
+{
+    signed::natural(256 * (s as u32))
+}
+
+// The number of a pair after a step, from its number and its pixels' values.
+pub fn step_value(f: i32, x: i32, y: i32, weight: i32) -> i32
+    requires { ⌜ PairLimits weight f x y ⌝ }
+    ensures { λ r. ⌜ r ≡ stepValue weight f x y ⌝ }
+{
+    let share = signed::quotient(signed::sub(x, y), 8);
+    signed::clamped(signed::neg(weight), weight, signed::add(f, share))
+}
+
+// Whether a step would change the number of a pair.
+pub fn would_move(f: i32, x: i32, y: i32, weight: i32) -> bool
+    requires { ⌜ PairLimits weight f x y ⌝ }
+    ensures { λ r. ⌜ r ≡ moves weight f x y ⌝ }
+{
+    !signed::same(step_value(f, x, y, weight), f)
+}
+
+// The squared difference of a value and its sample's reading.
+pub fn squared_misfit(x: i32, s: u8) -> u64
+    requires { ⌜ natAbs x ≤ 2 ^ 20 ⌝ }
+    ensures { λ r. ⌜ pos r ≡ square (x -ℤ readingOf s) ⌝ }
+{
+    let d = signed::magnitude(signed::sub(x, reading(s))) as u64;
+    d * d
+}
+
+// The size of a pair's fall.
+pub fn variation(x: i32, y: i32) -> u64
+    requires { ⌜ natAbs x + natAbs y < 2 ^ 31 ⌝ }
+    ensures { λ r. ⌜ r ≡ natAbs (x -ℤ y) ⌝ }
+{
+    signed::magnitude(signed::sub(x, y)) as u64
+}
+
+// A pair's number times its fall.
+pub fn product(f: i32, x: i32, y: i32) -> i64
+    requires { ⌜ natAbs x + natAbs y < 2 ^ 31 ⌝ }
+    ensures { λ r. ⌜ r ≡ f *ℤ (x -ℤ y) ⌝ }
+{
+    signed::mul_wide(signed::wide(f), signed::wide(signed::sub(x, y)))
+}
+
+// A pixel of a flow's image, from its reading b and the numbers of its pairs with the pixels
+// around it.
+pub fn pixel_value(
+    b: i32,
+    below: i32,
+    right: i32,
+    above: i32,
+    left: i32,
+    low: i32,
+    high: i32,
+) -> i32
+    requires { ⌜ PixelLimits b below right above left ⌝ }
+    ensures { λ r. ⌜ r ≡ clamp low high (b -ℤ ((below +ℤ right) -ℤ (above +ℤ left))) ⌝ }
+{
+    let pull = signed::sub(signed::add(below, right), signed::add(above, left));
+    signed::clamped(low, high, signed::sub(b, pull))
+}
