@@ -1,7 +1,8 @@
 -- Laws of the first refusal, by which a call's code goes down the rows of its table. Assumes nothing.
-use mathlib.Core.Path.{_≡_, refl, ap, _∙_}
+use mathlib.Core.Path.{_≡_, refl, sym, ap, ap₂, _∙_}
 use mathlib.Core.Bool.{Bool, true, false}
 use mathlib.Core.List.{List, [], _∷_, _++_}
+use Prim.Native.Nat.{ℕ}
 use Rattle.model.specs.Verdict.{Verdict, Accept, Refuse, Row, orElse, firstRefusal, decided}
 
 pub accepted : firstRefusal [] ≡ Accept
@@ -42,3 +43,15 @@ accepted-row r rows h = split (r .applies) refl h
         (r .applies ≡ false) × (firstRefusal rows ≡ Accept)
     split true e k = let z : _≡_ {A = Bool} true false = cc in (e ∙ z, cc)
     split false e k = (e, k)
+
+-- a table whose upper rows refuse, and one whose upper rows accept
+module _ (upper lower : List Row) where
+  pub upper-refuses : {number place : ℕ} → firstRefusal upper ≡ Refuse number place → firstRefusal (upper ++ lower) ≡ Refuse number place
+  upper-refuses e = firstRefusal-append upper lower ∙ ap (λ (v : Verdict). decided v (firstRefusal lower) Refuse) e
+
+  pub upper-accepts : firstRefusal upper ≡ Accept → firstRefusal (upper ++ lower) ≡ firstRefusal lower
+  upper-accepts e = firstRefusal-append upper lower ∙ ap (λ (v : Verdict). decided v (firstRefusal lower) Refuse) e
+
+  -- the first of two verdicts that refuses is that of their rows, one after the other
+  pub joined : {v a b : Verdict} → v ≡ decided a b Refuse → a ≡ firstRefusal upper → b ≡ firstRefusal lower → v ≡ firstRefusal (upper ++ lower)
+  joined e f g = e ∙ ap₂ (λ (x y : Verdict). decided x y Refuse) f g ∙ sym (firstRefusal-append upper lower)

@@ -1,0 +1,2 @@
+-- What the calls' contracts cite beside the model's definitions.
+pub mod Answers
