@@ -2,14 +2,14 @@
 -- writes a slice, one value a turn, has it for its invariant. Assumes nothing.
 use mathlib.Core.Path.{_≡_, refl, sym, ap, ap₂, _∙_}
 use mathlib.Core.List.{List, [], _∷_, _++_, append-assoc, append-nil}
-use Prim.Native.Nat.{ℕ, zero, suc, _+_, _-_, _≤_, _<_}
+use Prim.Native.Nat.{ℕ, zero, suc, _+_, _-_, _≤_, _<_, zero-le}
 use native.Mathlib.Nat.{add-zero, add-suc}
 use native.Mathlib.Numerals.{add-one}
 use native.Mathlib.Omega.{arith}
-use lib.ListN.{length, getD, take, drop, set, length-append, length-drop}
+use lib.ListN.{length, getD, take, drop, set, length-append, length-drop, length-set}
 use lib.Seq.{drop-cons, drop-length, drop-drop, drop-at, take-at, set-at, append-snoc, getD-append-add, getD-drop}
 use Rattle.model.specs.Lists.{table}
-use Rattle.model.proofs.Lists.{length-table, getD-table}
+use Rattle.model.proofs.Lists.{length-table}
 
 module _ {A : Type 0} where
   abbrev pub filled : ℕ → (ℕ → A) → List A → List A
@@ -54,3 +54,33 @@ module _ {A : Type 0} where
     filled-part a n =
         rw (take-at (table a g) (drop a e) a (length-table a g), drop-at (table a g) (drop a e) a (length-table a g), drop-drop n a e, table-append a n g)
         (sym (append-assoc (table a g) (table n (λ i. g (a + i))) (drop (a + n) e)))
+
+-- ---- the invariant of a loop that fills: the list `now`, of which k values of `entry` are filled
+
+pub record Filling {A : Type 0} (g : ℕ → A) (entry : List A) (k : ℕ) (now : List A) : Type 0 where
+  pub within : k ≤ length entry
+  pub long : length now ≡ length entry
+  pub is : now ≡ filled k g entry
+
+module _ {A : Type 0} (g : ℕ → A) (e : List A) where
+  pub filling-none : Filling g e 0 e
+  filling-none = record { within = zero-le; long = refl; is = sym (filled-none g e) }
+
+module _ {A : Type 0} {g : ℕ → A} {e : List A} {k : ℕ} {l : List A} (f : Filling g e k l) where
+  pub filling-more : {x : A} → k < length e → x ≡ g k → Filling g e (k + 1) (set l k x)
+  filling-more h q =
+      record {
+        within = omega arith;
+        long = length-set l k _ ∙ f .long;
+        is = rw (q, f .is) (filled-more g e k h);
+      }
+
+  pub filling-all : length e ≤ k → l ≡ table (length e) g
+  filling-all h = f .is ∙ rw (k-is) (filled-all g e)
+    where
+      k-is : k ≡ length e
+      k-is = omega (arith, f .within)
+
+  -- what is not filled yet is as it was
+  pub filling-rest : (i : ℕ) (d : A) → k ≤ i → getD l i d ≡ getD e i d
+  filling-rest i d h = rw (f .is) (getD-filled-rest g e k i d h)

@@ -1,5 +1,13 @@
 -- Laws that the passes' proofs share.
 --     Stencil     the stencil's definitions are the model's
---     Fill        a buffer filled from the front
+--     Fill        a buffer that is filled from the front
+--     Search      a search from the front
+--     Moving      the answer of a search for a moving pair
+--     Elements    the numbers of buffers within limits
+--     Sums        running sums, and that they fit 64 bits
 pub mod Stencil
 pub mod Fill
+pub mod Search
+pub mod Moving
+pub mod Elements
+pub mod Sums

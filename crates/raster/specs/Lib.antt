@@ -1,3 +1,4 @@
 -- What the passes over a raster's buffers compute.
 pub mod Stencil
 pub mod Limits
+pub mod Run

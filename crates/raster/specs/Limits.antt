@@ -1,6 +1,9 @@
 -- Limits on the numbers of a pass, within which no machine operation overflows.
-use Prim.Native.Nat.{ℕ, _^_, _≤_}
+use mathlib.Core.List.{List}
+use Prim.Native.Nat.{ℕ, _+_, _^_, _≤_}
 use lib.IntN.{ℤ, natAbs}
+use lib.ListN.{length}
+use Rattle.model.specs.Lists.{at}
 
 -- a pair's weight, its number f and its pixels' values x and y
 pub record PairLimits (weight f x y : ℤ) : Type 0 where
@@ -16,3 +19,27 @@ pub record PixelLimits (b below right above left : ℤ) : Type 0 where
   pub right-most : natAbs right ≤ 2 ^ 20
   pub above-most : natAbs above ≤ 2 ^ 20
   pub left-most : natAbs left ≤ 2 ^ 20
+
+-- every number of a buffer is at most k in size
+abbrev pub Within : ℕ → List ℤ → Type 0
+Within k buffer = (i : ℕ) → natAbs (at buffer i) ≤ k
+
+-- the numbers of a run of pairs, the pixels' values, the distance of a pair's pixels, and the weight
+pub record StepLimits (flow image : List ℤ) (stride : ℕ) (weight : ℤ) : Type 0 where
+  pub reach : length flow + stride ≤ length image
+  pub weight-most : natAbs weight ≤ 2 ^ 20
+  pub flow-most : Within (2 ^ 20) flow
+  pub image-most : Within (2 ^ 20) image
+
+-- the pixels' values, the distance of a pair's pixels, and how many pairs there are
+pub record VariationLimits (image : List ℤ) (stride count : ℕ) : Type 0 where
+  pub reach : count + stride ≤ length image
+  pub count-most : count ≤ 2 ^ 21
+  pub image-most : Within (2 ^ 20) image
+
+-- the numbers of a run of pairs, the pixels' values, and the distance of a pair's pixels
+pub record FallLimits (flow image : List ℤ) (stride : ℕ) : Type 0 where
+  pub reach : length flow + stride ≤ length image
+  pub count-most : length flow ≤ 2 ^ 21
+  pub flow-most : Within (2 ^ 20) flow
+  pub image-most : Within (2 ^ 20) image

@@ -1,2 +1,3 @@
 // Passes over a raster's buffers.
 pub mod leaf;
+pub mod pairs;

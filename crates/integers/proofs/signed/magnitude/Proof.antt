@@ -9,9 +9,9 @@ use lib.Signed.{_≤ℤ_, nonNeg, natAbs-le, yes-nonNeg}
 use mir.Syntax.{w32, w64}
 use mir.Val.{Fits, SFits, toZ, ofZ}
 use mir.ValLaws.{toZ-ofZ}
-use Rattle.integers.proofs.Ring.{zero--ℤ}
 use Rattle.integers.proofs.Order.{<ℤ→≤ℤ, negℤ-mono}
 use Rattle.integers.proofs.Absolute.{natAbs-neg}
+use Rattle.integers.proofs.Ring.{zero--ℤ}
 use Rattle.integers.proofs.Machine.{read, <-read, ≥-read, fits}
 use Rattle.integers.proofs.signed.magnitude.Statement.{statement}
 use Rattle.integers.proofs.signed.magnitude.Tie as tie

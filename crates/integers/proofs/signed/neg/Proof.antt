@@ -1,7 +1,7 @@
 -- `integers::signed::neg` meets its contract. Assumes nothing.
 use mathlib.Core.Path.{_∙_}
 use native.Mathlib.Omega.{arith}
-use lib.IntN.{ℤ, pos, negℤ, natAbs, _-ℤ_}
+use lib.IntN.{ℤ, pos, natAbs, _-ℤ_}
 use Prim.Native.Nat.{_^_, _<_}
 use mir.Syntax.{w32}
 use mir.Val.{SFits}

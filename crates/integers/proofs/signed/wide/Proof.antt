@@ -1,9 +1,8 @@
 -- `integers::signed::wide` meets its contract. Assumes nothing.
-use mathlib.Core.Path.{_∙_, ap}
 use native.Mathlib.Omega.{arith}
 use lib.IntN.{ℤ}
 use mir.Syntax.{w32, w64}
-use mir.Val.{ofZ, toZ, SFits}
+use mir.Val.{SFits}
 use mir.ValLaws.{toZ-ofZ}
 use Rattle.integers.proofs.signed.wide.Statement.{statement}
 use Rattle.integers.proofs.signed.wide.Tie as tie

@@ -1,10 +1,7 @@
 -- `raster::leaf::would_move` meets its contract. Assumes nothing.
-use mathlib.Core.Path.{ap, ap₂, _∙_}
-use mathlib.Core.Bool.{not}
 use borrow.Author.Needs.{needs}
 use mir.Syntax.{w32}
 use mir.ValLaws.{toZ-ofZ}
-use Rattle.integers.specs.Whole.{sameZ}
 use Rattle.integers.proofs.Machine.{read}
 use Rattle.raster.proofs.leaf.would_move.Statement.{statement}
 use Rattle.raster.proofs.leaf.would_move.Tie as tie
@@ -19,7 +16,7 @@ returns : tie.Need-returns
 returns c =
     let s = c .before .before in
     let e = c .before .step-value in
-    rw (c .same .ensures, read w32 (e .ok), e .ensures, toZ-ofZ w32 _ (s .fits .f), toZ-ofZ w32 _ (s .fits .x), toZ-ofZ w32 _ (s .fits .y), toZ-ofZ w32 _ (s .fits .weight))
+    rw (c .same .ensures, read w32 {r = e .result} (e .ok), e .ensures, toZ-ofZ w32 (s .args .f) (s .fits .f), toZ-ofZ w32 _ (s .fits .x), toZ-ofZ w32 _ (s .fits .y), toZ-ofZ w32 _ (s .fits .weight))
 
 pub would-move-spec : {M : Type 1} → statement M
 would-move-spec = tie.close (tie.spec step-value-requires same-requires returns)

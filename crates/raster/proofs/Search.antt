@@ -1,0 +1,26 @@
+-- A search from the front: the test failed at every index passed. A loop that looks for the first index at which a test
+-- holds has it for its invariant. Assumes nothing.
+use mathlib.Core.Path.{_≡_}
+use mathlib.Core.Bool.{Bool, true, false}
+use Prim.Native.Nat.{ℕ, _+_, _<_}
+use native.Mathlib.Nat.{le-of-lt, le-refl, lt-irrefl}
+use borrow.Author.Count.{below-none, below-more}
+use Rattle.model.specs.Lists.{firstWhere}
+use Rattle.model.proofs.Lists.{firstWhere-is}
+
+module _ (test : ℕ → Bool) where
+  abbrev pub Passed : ℕ → Type 0
+  Passed k = (i : ℕ) → i < k → test i ≡ false
+
+  pub passed-none : Passed 0
+  passed-none = below-none (λ i. test i ≡ false)
+
+  pub passed-more : (k : ℕ) → Passed k → test k ≡ false → Passed (k + 1)
+  passed-more k p h = below-more (λ i. test i ≡ false) k p h
+
+  module _ {n k : ℕ} (p : Passed k) where
+    pub search-found : k < n → test k ≡ true → firstWhere n test ≡ k
+    search-found h t = firstWhere-is n test k (record { within = le-of-lt h; before = p; found = λ _. t })
+
+    pub search-ended : k ≡ n → firstWhere n test ≡ n
+    search-ended e = rw e at (firstWhere-is n test k (record { within = rw e (le-refl n); before = p; found = λ h. absurd (lt-irrefl n (rw e at h)) }))
