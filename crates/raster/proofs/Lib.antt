@@ -5,9 +5,13 @@
 --     Moving      the answer of a search for a moving pair
 --     Elements    the numbers of buffers within limits
 --     Sums        running sums, and that they fit 64 bits
+--     Rows        a buffer worked on row by row
+--     RowSteps    a step of one row's pairs
 pub mod Stencil
 pub mod Fill
 pub mod Search
 pub mod Moving
 pub mod Elements
 pub mod Sums
+pub mod Rows
+pub mod RowSteps

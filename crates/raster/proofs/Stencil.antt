@@ -55,7 +55,7 @@ pixel-injective w r c s d b k e =
     (q, omega arith)
 
 -- horizontal pair k joins the pixel at row k / (w − 1) and column k % (w − 1) to the next
-horizontal-here : (w row column : ℕ) → column < w - 1 →
+pub horizontal-here : (w row column : ℕ) → column < w - 1 →
     row * (w - 1) + column + (row * (w - 1) + column) / (w - 1) ≡ pixel w row column
 horizontal-here w row column c =
     let q : (column + (w - 1) * row) / (w - 1) ≡ row = add-mul-div-left column row (omega arith) ∙ ap (λ (n : ℕ). n + row) (div-eq-of-lt c) ∙ omega arith in

@@ -1,0 +1,75 @@
+-- A buffer worked on row by row: what a row's part of it reads, that it keeps its limits, and what the whole holds once a
+-- filled part has come back. Assumes nothing.
+use mathlib.Core.Path.{_≡_, refl, sym, ap, ap₂, _∙_, subst}
+use mathlib.Core.List.{List}
+use Prim.Native.Nat.{ℕ, zero, suc, _+_, _-_, _*_, _/_, _≤_, _<_, zero-le, min}
+use native.Mathlib.Nat.{mul-le-mul-right}
+use native.Mathlib.Decide.{decLt}
+use native.Mathlib.Omega.{arith}
+use lib.IntN.{ℤ, pos, natAbs}
+use lib.ListN.{length, getD, take, drop, length-take, length-drop, List·getD-eq-default}
+use lib.Seq.{getD-take, getD-drop, drop-at}
+use borrow.Rule.Slice.PartMut.{putMid}
+use Rattle.model.specs.Lists.{at, table}
+use Rattle.model.proofs.Lists.{length-table}
+use Rattle.raster.specs.Limits.{Within}
+use Rattle.raster.specs.Whole.{rowPixel}
+use Rattle.raster.proofs.Fill.{filled, filled-part}
+use Rattle.raster.proofs.Stencil.{horizontal-here}
+
+-- the rows end where the buffer does: `row` rows of a numbers each lie before `start`
+pub row-end : (row h a start length : ℕ) → row < h → start ≡ row * a → length ≡ h * a → start + a ≤ length
+row-end row h a start length l e f = let q : suc row * a ≤ h * a = mul-le-mul-right a l in omega arith
+
+-- the count that the machine computes for a part
+pub part-count : (a n : ℕ) → a + n - a ≡ n
+part-count a n = omega arith
+
+module _ {A : Type 0} where
+  pub part-at : (a n : ℕ) (l : List A) (i : ℕ) (d : A) → i < n → getD (take n (drop a l)) i d ≡ getD l (a + i) d
+  part-at a n l i d h = getD-take n (drop a l) i d h ∙ getD-drop a l i d
+
+  pub part-length : (a n : ℕ) (l : List A) → a + n ≤ length l → length (take n (drop a l)) ≡ n
+  part-length a n l h = simp (length-take, length-drop) (omega arith)
+
+  -- past what is filled a buffer is as it was
+  pub rest-is : (a : ℕ) (g : ℕ → A) (e : List A) {l : List A} → l ≡ filled a g e → drop a l ≡ drop a e
+  rest-is a g e p = ap (drop a) p ∙ drop-at (table a g) (drop a e) a (length-table a g)
+
+  -- a part of n values from a on has come back filled
+  pub put-part : (a n : ℕ) (g : ℕ → A) (e : List A) {l part : List A} → l ≡ filled a g e → part ≡ table n (λ i. g (a + i)) →
+    putMid a (a + n - a) l part ≡ filled (a + n) g e
+  put-part a n g e {l} {part} p q =
+      ap (λ (k : ℕ). putMid a k l part) (part-count a n)
+      ∙ ap₂ (λ (x y : List A). putMid a n x y) p q
+      ∙ filled-part g e a n
+
+-- a part keeps the limits of the whole
+pub part-within : {k : ℕ} (a n : ℕ) (l : List ℤ) → Within k l → Within k (take n (drop a l))
+part-within {k} a n l h i = by (decLt i n)
+  where
+    by : Dec (i < n) → natAbs (at (take n (drop a l)) i) ≤ k
+    by (yes b) = subst (λ (z : ℤ). natAbs z ≤ k) (sym (part-at a n l i (pos 0) b)) (h (a + i))
+    by (no g) =
+        subst (λ (z : ℤ). natAbs z ≤ k)
+        (sym (List·getD-eq-default (take n (drop a l)) (pos 0) {n = i} (simp length-take (omega (arith, g))))) zero-le
+
+-- ---- the horizontal pairs of a row of w pixels
+
+-- the first pixel of the row's pair c, as all horizontal pairs are counted
+pub row-pixel : (w row start c : ℕ) → start ≡ row * (w - 1) → c < w - 1 → rowPixel w (start + c) ≡ row * w + c
+row-pixel w row start c e l = ap (λ (s : ℕ). rowPixel w (s + c)) e ∙ horizontal-here w row c l
+
+-- the row's part of the image
+pub row-value : (w row start c : ℕ) (image : List ℤ) → start ≡ row * w → c < w →
+  at (take (start + w - start) (drop start image)) c ≡ at image (row * w + c)
+row-value w row start c image e l =
+    ap (λ (n : ℕ). at (take n (drop start image)) c) (part-count start w)
+    ∙ part-at start w image c (pos 0) l
+    ∙ ap (λ (s : ℕ). at image (s + c)) e
+
+-- the row's part of a flow that is filled up to it
+pub row-flow : (start a c : ℕ) (g : ℕ → ℤ) (e : List ℤ) {l : List ℤ} → l ≡ filled start g e → c < a →
+  at (take (start + a - start) (drop start l)) c ≡ at e (start + c)
+row-flow start a c g e p b =
+    ap₂ (λ (n : ℕ) (m : List ℤ). at (take n m) c) (part-count start a) (rest-is start g e p) ∙ part-at start a e c (pos 0) b

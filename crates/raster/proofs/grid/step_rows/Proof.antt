@@ -1,0 +1,162 @@
+-- `raster::grid::step_rows` meets its contract. Assumes nothing.
+use mathlib.Core.Path.{_≡_, sym, ap, _∙_}
+use mathlib.Core.List.{List}
+use Prim.Native.Nat.{ℕ, _+_, _-_, _*_, _≤_, _<_}
+use native.Mathlib.Omega.{arith}
+use borrow.Author.Needs.{needs}
+use lib.IntN.{ℤ, pos}
+use lib.ListN.{length}
+use mir.Syntax.{w32}
+use mir.Val.{toZ, ofZ}
+use mir.ValLaws.{toZ-ofZ}
+use Rattle.model.specs.Lists.{table}
+use Rattle.model.proofs.Lists.{length-table}
+use Rattle.raster.specs.Whole.{RowLimits, rowStep}
+use Rattle.raster.proofs.Fill.{filled, filled-none, length-filled, filled-all}
+use Rattle.raster.proofs.Rows.{row-end, part-count, part-length, part-within, rest-is}
+use Rattle.raster.proofs.RowSteps.{row-stepped}
+use Rattle.raster.proofs.grid.step_rows.Statement.{statement}
+use Rattle.raster.proofs.grid.step_rows.Tie as tie
+
+abbrev Inv-loop : tie.InvT-loop
+Inv-loop flow₀ image width height weight across at₀ start₀ row₀ flow at start row =
+    (row ≤ height) × (at ≡ row * across) × (start ≡ row * width) × (flow ≡ filled at (rowStep width (toZ w32 weight) flow₀ image) flow₀)
+
+abbrev μ-loop : tie.MeasureT-loop
+μ-loop flow₀ image width height weight across at₀ start₀ row₀ flow at start row = height - row
+
+sub-across : tie.Need-sub-across Inv-loop μ-loop
+sub-across c = search needs
+
+module _ (c : tie.In-loop Inv-loop μ-loop) where
+  -- this row's stretch ends within the flow, and its pixels within the image
+  stretch : c .before .loop .at + (c .before .before .args .width - 1) ≤ length (c .before .before .args .flow .now)
+  stretch =
+      let s = c .before .before in
+      row-end (c .before .loop .row) (s .args .height) (s .args .width - 1) (c .before .loop .at) (length (s .args .flow .now))
+      (c .loop-test .taken) (c .before .loop .inv .1) (s .pre .flow-length)
+
+  pixels : c .before .loop .start + c .before .before .args .width ≤ length (c .before .before .args .image .now)
+  pixels =
+      let s = c .before .before in
+      row-end (c .before .loop .row) (s .args .height) (s .args .width) (c .before .loop .start) (length (s .args .image .now))
+      (c .loop-test .taken) (c .before .loop .inv .2) (s .pre .image-length ∙ omega arith)
+
+  same-size : length (c .before .loop .flow) ≡ length (c .before .before .args .flow .now)
+  same-size = ap length (c .before .loop .inv .3) ∙ length-filled _ (c .before .before .args .flow .now) (c .before .loop .at) (omega (arith, stretch))
+
+loop-holds : tie.Need-loop-holds Inv-loop μ-loop
+loop-holds c = (omega arith, omega arith, omega arith, sym (filled-none _ _))
+
+add-step-pairs : tie.Need-add-step-pairs Inv-loop μ-loop
+add-step-pairs c = omega (arith, stretch c)
+
+mul-step-pairs : tie.Need-mul-step-pairs Inv-loop μ-loop
+mul-step-pairs c = omega (arith, stretch c, c .before .before .good .0 .1)
+
+sub-step-pairs : tie.Need-sub-step-pairs Inv-loop μ-loop
+sub-step-pairs c = search needs
+
+part-step-pairs-start : tie.Need-part-step-pairs-start Inv-loop μ-loop
+part-step-pairs-start c = search needs
+
+part-step-pairs-end : tie.Need-part-step-pairs-end Inv-loop μ-loop
+part-step-pairs-end c = omega (arith, stretch c, same-size c)
+
+add-step-pairs-2 : tie.Need-add-step-pairs-2 Inv-loop μ-loop
+add-step-pairs-2 c = omega (arith, pixels (c .before))
+
+mul-step-pairs-2 : tie.Need-mul-step-pairs-2 Inv-loop μ-loop
+mul-step-pairs-2 c = omega (arith, pixels (c .before), c .before .before .before .good .1 .0 .1)
+
+sub-step-pairs-2 : tie.Need-sub-step-pairs-2 Inv-loop μ-loop
+sub-step-pairs-2 c = search needs
+
+part-step-pairs-start-2 : tie.Need-part-step-pairs-start-2 Inv-loop μ-loop
+part-step-pairs-start-2 c = search needs
+
+part-step-pairs-end-2 : tie.Need-part-step-pairs-end-2 Inv-loop μ-loop
+part-step-pairs-end-2 c = pixels (c .before)
+
+step-pairs-requires : tie.Need-step-pairs-requires Inv-loop μ-loop
+step-pairs-requires c κs =
+    let i = c .before .before in
+    let s = i .before .before in
+    let l = i .before .loop in
+    let w = s .args .width in
+    let p = s .pre in
+    let f = part-length (l .at) (w - 1) (l .flow) (omega (arith, stretch i, same-size i)) in
+    let x = part-length (l .start) w (s .args .image .now) (pixels i) in
+    record {
+      reach = rw (part-count (l .at) (w - 1), part-count (l .start) w) (omega (arith, f, x, p .width-least));
+      weight-most = rw (toZ-ofZ w32 _ (s .fits .weight)) (p .weight-most);
+      flow-most = rw (rest-is (l .at) _ (s .args .flow .now) (l .inv .3)) (part-within (l .at) (l .at + (w - 1) - l .at) (s .args .flow .now) (p .flow-most));
+      image-most = part-within (l .start) (l .start + w - l .start) (s .args .image .now) (p .image-most)
+    }
+
+add-at : tie.Need-add-at Inv-loop μ-loop
+add-at c = omega (arith, stretch (c .before .before .before .before))
+
+add-start : tie.Need-add-start Inv-loop μ-loop
+add-start c = omega (arith, pixels (c .before .before .before .before))
+
+add-row : tie.Need-add-row Inv-loop μ-loop
+add-row c = search needs
+
+loop-less : tie.Need-loop-less Inv-loop μ-loop
+loop-less c = search needs
+
+loop-again : tie.Need-loop-again Inv-loop μ-loop
+loop-again c =
+    let i = c .before .before .before .before in
+    let s = i .before .before in
+    let l = i .before .loop in
+    (omega arith, omega (arith, l .inv .1), omega (arith, l .inv .2),
+    row-stepped (s .args .width) (l .row) (l .at) (l .start) (toZ w32 (ofZ w32 (s .args .weight))) (s .args .flow .now) (s .args .image .now)
+    (l .inv .3) (l .inv .1) (l .inv .2) (omega (arith, stretch i, same-size i)) (c .before .step-pairs .ensures))
+
+-- all rows are done: the whole flow is stepped
+ended : (c : tie.After-loop Inv-loop μ-loop) → let s = c .before .before in
+  (length (c .before .loop .flow) ≡ length (s .args .flow .now))
+  × (c .before .loop .flow ≡ table (length (s .args .flow .now)) (rowStep (s .args .width) (toZ w32 (ofZ w32 (s .args .weight))) (s .args .flow .now) (s .args .image .now)))
+ended c =
+    let s = c .before .before in
+    let l = c .before .loop in
+    let g = rowStep (s .args .width) (toZ w32 (ofZ w32 (s .args .weight))) (s .args .flow .now) (s .args .image .now) in
+    let e : l .row ≡ s .args .height = omega (arith, l .inv .0, c .loop-test .left) in
+    let n : l .at ≡ length (s .args .flow .now) = l .inv .1 ∙ ap (λ (k : ℕ). k * (s .args .width - 1)) e ∙ sym (s .pre .flow-length) in
+    let f = l .inv .3 ∙ ap (λ (k : ℕ). filled k g (s .args .flow .now)) n ∙ filled-all g (s .args .flow .now) in
+    (ap length f ∙ length-table (length (s .args .flow .now)) g, f)
+
+same-length : tie.Need-same-length Inv-loop μ-loop
+same-length c = ended c .0
+
+returns : tie.Need-returns Inv-loop μ-loop
+returns c = rw (toZ-ofZ w32 _ (c .before .before .fits .weight)) at (ended c .1)
+
+pub step-rows-spec : {M : Type 1} → statement M
+step-rows-spec =
+    tie.close
+    (tie.spec
+    Inv-loop
+    μ-loop
+    sub-across
+    loop-holds
+    add-step-pairs
+    mul-step-pairs
+    sub-step-pairs
+    part-step-pairs-start
+    part-step-pairs-end
+    add-step-pairs-2
+    mul-step-pairs-2
+    sub-step-pairs-2
+    part-step-pairs-start-2
+    part-step-pairs-end-2
+    step-pairs-requires
+    add-at
+    add-start
+    add-row
+    loop-less
+    loop-again
+    same-length
+    returns)

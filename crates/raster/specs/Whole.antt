@@ -1,0 +1,64 @@
+-- All pairs of a raster in buffers: pair j has its number at index j of the flow and its pixels, as document 01 numbers
+-- them, in the image.
+use mathlib.Core.Bool.{Bool}
+use mathlib.Core.List.{List}
+use Prim.Native.Nat.{ℕ, _+_, _-_, _*_, _/_, _^_, _≤_}
+use mathlib.Core.Path.{_≡_}
+use lib.IntN.{ℤ, natAbs, _-ℤ_}
+use lib.ListN.{length, getD}
+use Rattle.model.specs.Lists.{at}
+use Rattle.model.specs.Grid.{gridPairs}
+use Rattle.raster.specs.Stencil.{stepValue, moves}
+use Rattle.raster.specs.Limits.{Within}
+
+-- the pixels of pair j
+abbrev pub firstPixel : ℕ → ℕ → ℕ → ℕ
+firstPixel w h j = getD (gridPairs w h) j (record { first = 0; second = 0 }) .first
+
+abbrev pub secondPixel : ℕ → ℕ → ℕ → ℕ
+secondPixel w h j = getD (gridPairs w h) j (record { first = 0; second = 0 }) .second
+
+-- the number of pair j after a step
+abbrev pub gridStep : ℕ → ℕ → ℤ → List ℤ → List ℤ → ℕ → ℤ
+gridStep w h weight flow image j =
+    stepValue weight (at flow j) (at image (firstPixel w h j)) (at image (secondPixel w h j))
+
+-- whether a step would change it
+abbrev pub gridMoves : ℕ → ℕ → ℤ → List ℤ → List ℤ → ℕ → Bool
+gridMoves w h weight flow image j =
+    moves weight (at flow j) (at image (firstPixel w h j)) (at image (secondPixel w h j))
+
+-- the fall of pair j
+abbrev pub gridFall : ℕ → ℕ → List ℤ → ℕ → ℤ
+gridFall w h image j = at image (firstPixel w h j) -ℤ at image (secondPixel w h j)
+
+-- The horizontal pairs alone, counted through all rows: pair k has its first pixel in row k / (w − 1)
+abbrev pub rowPixel : ℕ → ℕ → ℕ
+rowPixel w k = k + k / (w - 1)
+
+abbrev pub rowStep : ℕ → ℤ → List ℤ → List ℤ → ℕ → ℤ
+rowStep w weight flow image k = stepValue weight (at flow k) (at image (rowPixel w k)) (at image (rowPixel w k + 1))
+
+-- a raster's size, the lengths of the horizontal pairs' numbers and of the image, and the sizes of their numbers
+pub record RowLimits (w h : ℕ) (weight : ℤ) (flow image : List ℤ) : Type 0 where
+  pub width-least : 1 ≤ w
+  pub flow-length : length flow ≡ h * (w - 1)
+  pub image-length : length image ≡ w * h
+  pub weight-most : natAbs weight ≤ 2 ^ 20
+  pub flow-most : Within (2 ^ 20) flow
+  pub image-most : Within (2 ^ 20) image
+
+-- a raster's size and lengths
+pub record GridSize (w h : ℕ) (flow image : List ℤ) : Type 0 where
+  pub width-least : 1 ≤ w
+  pub height-least : 1 ≤ h
+  pub pixels-most : w * h ≤ 2 ^ 20
+  pub flow-length : length flow ≡ length (gridPairs w h)
+  pub image-length : length image ≡ w * h
+
+-- and the sizes of its numbers
+pub record GridLimits (w h : ℕ) (weight : ℤ) (flow image : List ℤ) : Type 0 where
+  pub size : GridSize w h flow image
+  pub weight-most : natAbs weight ≤ 2 ^ 20
+  pub flow-most : Within (2 ^ 20) flow
+  pub image-most : Within (2 ^ 20) image
