@@ -6,7 +6,8 @@
 --     Elements    the numbers of buffers within limits
 --     Sums        running sums, and that they fit 64 bits
 --     Rows        a buffer worked on row by row
---     RowSteps    a step of one row's pairs
+--     Steps       a step by runs of pairs
+--     Whole       the two runs of all pairs
 pub mod Stencil
 pub mod Fill
 pub mod Search
@@ -14,4 +15,5 @@ pub mod Moving
 pub mod Elements
 pub mod Sums
 pub mod Rows
-pub mod RowSteps
+pub mod Steps
+pub mod Whole

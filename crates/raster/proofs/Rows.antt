@@ -38,13 +38,16 @@ module _ {A : Type 0} where
 
   -- a part of n values from a on has come back filled
   pub put-part : (a n : ℕ) (g : ℕ → A) (e : List A) {l part : List A} → l ≡ filled a g e → part ≡ table n (λ i. g (a + i)) →
-    putMid a (a + n - a) l part ≡ filled (a + n) g e
+      putMid a (a + n - a) l part ≡ filled (a + n) g e
   put-part a n g e {l} {part} p q =
       ap (λ (k : ℕ). putMid a k l part) (part-count a n)
       ∙ ap₂ (λ (x y : List A). putMid a n x y) p q
       ∙ filled-part g e a n
 
 -- a part keeps the limits of the whole
+pub drop-within : {k : ℕ} (a : ℕ) (l : List ℤ) → Within k l → Within k (drop a l)
+drop-within {k} a l h i = subst (λ (z : ℤ). natAbs z ≤ k) (sym (getD-drop a l i (pos 0))) (h (a + i))
+
 pub part-within : {k : ℕ} (a n : ℕ) (l : List ℤ) → Within k l → Within k (take n (drop a l))
 part-within {k} a n l h i = by (decLt i n)
   where
@@ -62,7 +65,7 @@ row-pixel w row start c e l = ap (λ (s : ℕ). rowPixel w (s + c)) e ∙ horizo
 
 -- the row's part of the image
 pub row-value : (w row start c : ℕ) (image : List ℤ) → start ≡ row * w → c < w →
-  at (take (start + w - start) (drop start image)) c ≡ at image (row * w + c)
+    at (take (start + w - start) (drop start image)) c ≡ at image (row * w + c)
 row-value w row start c image e l =
     ap (λ (n : ℕ). at (take n (drop start image)) c) (part-count start w)
     ∙ part-at start w image c (pos 0) l
@@ -70,6 +73,6 @@ row-value w row start c image e l =
 
 -- the row's part of a flow that is filled up to it
 pub row-flow : (start a c : ℕ) (g : ℕ → ℤ) (e : List ℤ) {l : List ℤ} → l ≡ filled start g e → c < a →
-  at (take (start + a - start) (drop start l)) c ≡ at e (start + c)
+    at (take (start + a - start) (drop start l)) c ≡ at e (start + c)
 row-flow start a c g e p b =
     ap₂ (λ (n : ℕ) (m : List ℤ). at (take n m) c) (part-count start a) (rest-is start g e p) ∙ part-at start a e c (pos 0) b

@@ -18,7 +18,12 @@ fn step_rows(flow: &mut [i32], image: &[i32], width: usize, height: usize, weigh
     let mut start = 0;
     let mut row = 0;
     while row < height {
-        pairs::step_pairs(&mut flow[at..at + across], &image[start..start + width], 1, weight);
+        pairs::step_pairs(
+            &mut flow[at..at + across],
+            &image[start..start + width],
+            1,
+            weight,
+        );
         at += across;
         start += width;
         row += 1;

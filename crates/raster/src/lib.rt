@@ -1,4 +1,4 @@
 // Passes over a raster's buffers.
+pub mod grid;
 pub mod leaf;
 pub mod pairs;
-pub mod grid;

@@ -14,7 +14,7 @@ use Rattle.model.proofs.Lists.{length-table}
 use Rattle.raster.specs.Whole.{RowLimits, rowStep}
 use Rattle.raster.proofs.Fill.{filled, filled-none, length-filled, filled-all}
 use Rattle.raster.proofs.Rows.{row-end, part-count, part-length, part-within, rest-is}
-use Rattle.raster.proofs.RowSteps.{row-stepped}
+use Rattle.raster.proofs.Steps.{row-stepped}
 use Rattle.raster.proofs.grid.step_rows.Statement.{statement}
 use Rattle.raster.proofs.grid.step_rows.Tie as tie
 
@@ -91,7 +91,7 @@ step-pairs-requires c κs =
       reach = rw (part-count (l .at) (w - 1), part-count (l .start) w) (omega (arith, f, x, p .width-least));
       weight-most = rw (toZ-ofZ w32 _ (s .fits .weight)) (p .weight-most);
       flow-most = rw (rest-is (l .at) _ (s .args .flow .now) (l .inv .3)) (part-within (l .at) (l .at + (w - 1) - l .at) (s .args .flow .now) (p .flow-most));
-      image-most = part-within (l .start) (l .start + w - l .start) (s .args .image .now) (p .image-most)
+      image-most = part-within (l .start) (l .start + w - l .start) (s .args .image .now) (p .image-most);
     }
 
 add-at : tie.Need-add-at Inv-loop μ-loop
@@ -110,15 +110,18 @@ loop-again : tie.Need-loop-again Inv-loop μ-loop
 loop-again c =
     let i = c .before .before .before .before in
     let s = i .before .before in
-    let l = i .before .loop in
-    (omega arith, omega (arith, l .inv .1), omega (arith, l .inv .2),
-    row-stepped (s .args .width) (l .row) (l .at) (l .start) (toZ w32 (ofZ w32 (s .args .weight))) (s .args .flow .now) (s .args .image .now)
-    (l .inv .3) (l .inv .1) (l .inv .2) (omega (arith, stretch i, same-size i)) (c .before .step-pairs .ensures))
+    let l = i .before .loop in (
+      omega arith,
+      omega (arith, l .inv .1),
+      omega (arith, l .inv .2),
+      row-stepped (s .args .width) (l .row) (l .at) (l .start) (toZ w32 (ofZ w32 (s .args .weight))) (s .args .flow .now) (s .args .image .now)
+          (l .inv .3) (l .inv .1) (l .inv .2) (omega (arith, stretch i, same-size i)) (c .before .step-pairs .ensures),
+    )
 
 -- all rows are done: the whole flow is stepped
 ended : (c : tie.After-loop Inv-loop μ-loop) → let s = c .before .before in
-  (length (c .before .loop .flow) ≡ length (s .args .flow .now))
-  × (c .before .loop .flow ≡ table (length (s .args .flow .now)) (rowStep (s .args .width) (toZ w32 (ofZ w32 (s .args .weight))) (s .args .flow .now) (s .args .image .now)))
+    (length (c .before .loop .flow) ≡ length (s .args .flow .now))
+    × (c .before .loop .flow ≡ table (length (s .args .flow .now)) (rowStep (s .args .width) (toZ w32 (ofZ w32 (s .args .weight))) (s .args .flow .now) (s .args .image .now)))
 ended c =
     let s = c .before .before in
     let l = c .before .loop in

@@ -1,0 +1,118 @@
+-- `raster::grid::step_grid` meets its contract: the vertical pairs, then the rows. Assumes nothing.
+use mathlib.Core.Path.{_≡_, sym, ap, _∙_}
+use mathlib.Core.List.{List, _++_}
+use Prim.Native.Nat.{ℕ, _+_, _-_, _*_, _≤_, _<_}
+use native.Mathlib.Omega.{arith}
+use borrow.Author.Needs.{needs}
+use lib.IntN.{ℤ, pos}
+use lib.ListN.{length, drop, length-drop}
+use lib.Seq.{length-take-le}
+use mir.Syntax.{w32}
+use mir.Val.{toZ, ofZ}
+use mir.ValLaws.{toZ-ofZ}
+use native.Mathlib.Nat.{le-of-eq}
+use Rattle.raster.specs.Whole.{gridStep}
+use Rattle.model.specs.Lists.{table}
+use Rattle.raster.proofs.Fill.{filled, length-filled}
+use Rattle.raster.proofs.Steps.{vertical-stepped, horizontal-stepped}
+use Rattle.raster.proofs.Rows.{part-within, drop-within}
+use Rattle.raster.proofs.Whole.{vertical, vertical-most, vertical-reach, all-pairs, upper-filled, lower-part, both-filled}
+use Rattle.raster.proofs.grid.step_grid.Statement.{statement}
+use Rattle.raster.proofs.grid.step_grid.Tie as tie
+
+sub-vertical : tie.Need-sub-vertical
+sub-vertical c = search needs
+
+-- after the vertical pairs: they are stepped, the others as they were
+upper : (c : tie.After-flow) → let s = c .before .before .before in
+    c .before .step-pairs .last .0 ++ drop (vertical (s .args .width) (s .args .height)) (s .args .flow .now)
+    ≡ filled (vertical (s .args .width) (s .args .height)) (gridStep (s .args .width) (s .args .height) (toZ w32 (ofZ w32 (s .args .weight))) (s .args .flow .now) (s .args .image .now)) (s .args .flow .now)
+upper c =
+    let s = c .before .before .before in
+    upper-filled _ (s .args .flow .now) (vertical (s .args .width) (s .args .height)) _ (all-pairs (s .pre .size)) (c .before .step-pairs .ensures ∙ vertical-stepped (s .args .width) (s .args .height) (toZ w32 (ofZ w32 (s .args .weight))) (s .args .flow .now) (s .args .image .now) (vertical-most (s .pre .size)))
+
+upper-most : (c : tie.After-flow) → let s = c .before .before .before in
+    s .args .width * (s .args .height - 1)
+    ≤ length (c .before .step-pairs .last .0 ++ drop (vertical (s .args .width) (s .args .height)) (s .args .flow .now))
+upper-most c =
+    let s = c .before .before .before in
+    rw (ap length (upper c)) (rw (length-filled _ (s .args .flow .now) (vertical (s .args .width) (s .args .height)) (vertical-most (s .pre .size))) (vertical-most (s .pre .size)))
+
+mul-vertical : tie.Need-mul-vertical
+mul-vertical c = omega (arith, vertical-most (c .pre .size))
+
+slice-relend-prefix-step-pairs : tie.Need-slice-relend-prefix-step-pairs
+slice-relend-prefix-step-pairs c = vertical-most (c .pre .size)
+
+slice-aggregate-step-pairs : tie.Need-slice-aggregate-step-pairs
+slice-aggregate-step-pairs c = sym (length-take-le _ _ (vertical-most (c .before .pre .size)))
+
+step-pairs-requires : tie.Need-step-pairs-requires
+step-pairs-requires c κs =
+    let s = c .before in
+    let p = s .pre in
+    record {
+      reach = rw (length-take-le _ _ (vertical-most (p .size))) (le-of-eq (vertical-reach (p .size)));
+      weight-most = rw (toZ-ofZ w32 _ (s .fits .weight)) (p .weight-most);
+      flow-most = part-within 0 (s .args .width * (s .args .height - 1)) (s .args .flow .now) (p .flow-most);
+      image-most = p .image-most;
+    }
+
+mul-step-rows : tie.Need-mul-step-rows
+mul-step-rows c = omega (arith, vertical-most (c .before .before .before .pre .size), c .before .before .before .good .0 .1)
+
+sub-step-rows : tie.Need-sub-step-rows
+sub-step-rows c = omega (arith, upper-most c)
+
+part-step-rows-start : tie.Need-part-step-rows-start
+part-step-rows-start c = upper-most c
+
+part-step-rows-end : tie.Need-part-step-rows-end
+part-step-rows-end c = search needs
+
+step-rows-requires : tie.Need-step-rows-requires
+step-rows-requires c κs =
+    let f = c .before in
+    let s = f .before .before .before in
+    let p = s .pre in
+    let e = lower-part _ (s .args .flow .now) (vertical (s .args .width) (s .args .height)) _ (all-pairs (p .size)) (upper f) in
+    record {
+      width-least = p .size .width-least;
+      flow-length = ap length e ∙ length-drop (vertical (s .args .width) (s .args .height)) (s .args .flow .now) ∙ omega (arith, all-pairs (p .size));
+      image-length = p .size .image-length;
+      weight-most = rw (toZ-ofZ w32 _ (s .fits .weight)) (p .weight-most);
+      flow-most = rw e (drop-within (vertical (s .args .width) (s .args .height)) (s .args .flow .now) (p .flow-most));
+      image-most = p .image-most;
+    }
+
+same-length : tie.Need-same-length
+same-length c = search needs
+
+returns : tie.Need-returns
+returns c =
+    let f = c .before .before .before in
+    let s = f .before .before .before in
+    let w = s .args .width in
+    let h = s .args .height in
+    let e = lower-part _ (s .args .flow .now) (vertical w h) _ (all-pairs (s .pre .size)) (upper f) in
+    rw (toZ-ofZ w32 _ (s .fits .weight)) at
+    (both-filled _ (s .args .flow .now) (vertical w h) (h * (w - 1)) (all-pairs (s .pre .size)) (upper f)
+    (c .before .step-rows .ensures ∙ horizontal-stepped w h (toZ w32 (ofZ w32 (s .args .weight))) (s .args .flow .now) (s .args .image .now) (all-pairs (s .pre .size)) e)
+    ∙ ap (λ (n : ℕ). table n (gridStep w h (toZ w32 (ofZ w32 (s .args .weight))) (s .args .flow .now) (s .args .image .now))) (sym (all-pairs (s .pre .size))))
+
+pub step-grid-spec : {M : Type 1} → statement M
+step-grid-spec =
+    tie.close
+    (tie.spec
+    sub-vertical
+    mul-vertical
+    slice-relend-prefix-step-pairs
+    slice-aggregate-step-pairs
+    step-pairs-requires
+    mul-step-rows
+    sub-step-rows
+    part-step-rows-start
+    part-step-rows-end
+    step-rows-requires
+    same-length
+    returns)
