@@ -1,14 +1,19 @@
 -- A step by runs: one row's run is its stretch of all horizontal pairs, and the vertical and the horizontal pairs are all
 -- pairs. Assumes nothing.
-use mathlib.Core.Path.{_≡_, refl, sym, ap, ap₂, _∙_}
+use mathlib.Core.Path.{_≡_, sym, ap, ap₂, _∙_, subst}
 use mathlib.Core.List.{List}
 use Prim.Native.Nat.{ℕ, _+_, _-_, _*_, _≤_, _<_}
+use native.Mathlib.Nat.{le-of-eq}
 use native.Mathlib.Omega.{arith}
-use lib.IntN.{ℤ, pos}
+use lib.IntN.{ℤ, pos, natAbs, negℤ, _+ℤ_, _-ℤ_}
 use lib.ListN.{length, take, drop, length-drop}
 use lib.Seq.{length-take-le, getD-take, getD-drop}
 use borrow.Rule.Slice.PartMut.{putMid}
+use Rattle.integers.proofs.Order.{≤ℤ-trans, negℤ-mono}
+use Rattle.integers.proofs.Absolute.{natAbs-neg, ≤-abs, bounds→natAbs}
+use Rattle.integers.proofs.Clamp.{Place, below, above, inside, clamp-place}
 use Rattle.model.specs.Lists.{at, table}
+use Rattle.model.specs.Rounds.{eighth}
 use Rattle.raster.specs.Stencil.{stepValue}
 use Rattle.raster.specs.Run.{stepAt}
 use Rattle.raster.specs.Whole.{rowStep, gridStep}
@@ -64,3 +69,15 @@ module _ (w h : ℕ) (weight : ℤ) (flow image : List ℤ) where
       ∙ ap (λ (n : ℕ). table n (rowStep w weight (drop (vertical w h) flow) image)) (length-drop (vertical w h) flow ∙ omega arith)
       ∙ table-cong (h * (w - 1)) (λ k b.
       step-cong weight (getD-drop (vertical w h) flow k (pos 0)) (ap (at image) (sym (horizontal-first w h k b))) (ap (at image) (sym (horizontal-second w h k b))))
+
+-- A stepped number is no larger than the weight
+pub step-most : (weight f x y : ℤ) → natAbs (stepValue weight f x y) ≤ natAbs weight
+unfolding stepValue
+step-most weight f x y = by (clamp-place (negℤ weight) weight (f +ℤ eighth (x -ℤ y)))
+  where
+    by : {z v : ℤ} → Place (negℤ weight) weight z v → natAbs v ≤ natAbs weight
+    by (below l e) = le-of-eq (ap natAbs e ∙ natAbs-neg weight)
+    by (above l k e) = le-of-eq (ap natAbs e)
+    by {z} (inside l k e) =
+        subst (λ (v : ℤ). natAbs v ≤ natAbs weight) (sym e)
+        (bounds→natAbs z (≤ℤ-trans (negℤ-mono (≤-abs weight)) l) (≤ℤ-trans k (≤-abs weight)))

@@ -1,2 +1,3 @@
 -- What the rounds' inner contracts cite beside the model's definitions.
 pub mod Reciprocal
+pub mod Ahead

@@ -1,2 +1,3 @@
 // The rounds of document 01: quick rounds with their momentum, and steady rounds.
 pub mod momentum;
+pub mod quick;

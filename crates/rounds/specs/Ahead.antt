@@ -1,0 +1,26 @@
+-- A quick round in buffers: the numbers ahead, by a fixed-point factor m in place of a quotient for each pair.
+use mathlib.Core.List.{List}
+use mathlib.Core.Path.{_≡_}
+use Prim.Native.Nat.{ℕ, _^_, _≤_}
+use lib.IntN.{ℤ, pos, natAbs, _+ℤ_, _-ℤ_, _*ℤ_}
+use lib.ListN.{length}
+use Rattle.integers.specs.Whole.{quotient}
+use Rattle.model.specs.Lists.{at}
+use Rattle.raster.specs.Limits.{Within, StepLimits}
+use Rattle.raster.specs.Run.{stepAt}
+
+-- a number ahead of now, by the change since earlier times m / 2⁴⁶, rounded toward zero
+abbrev pub aheadOf : ℕ → ℤ → ℤ → ℤ
+aheadOf m earlier now = now +ℤ quotient ((now -ℤ earlier) *ℤ pos m) (pos 70368744177664)
+
+-- the number ahead of pair j of a run, from the flow and the numbers ahead so far
+abbrev pub aheadAt : ℤ → ℕ → List ℤ → List ℤ → List ℤ → ℕ → ℕ → ℤ
+aheadAt weight m flow ahead image stride j = aheadOf m (at flow j) (stepAt weight ahead image stride j)
+
+-- within these limits no operation of a run overflows
+pub record AdvanceLimits (flow ahead image : List ℤ) (stride : ℕ) (weight : ℤ) (m : ℕ) : Type 0 where
+  pub step : StepLimits ahead image stride weight
+  pub same-length : length flow ≡ length ahead
+  pub weight-most : natAbs weight ≤ 65280
+  pub flow-most : Within 65280 flow
+  pub factor-most : m ≤ 2 ^ 46
