@@ -21,38 +21,36 @@ use Rattle.raster.proofs.Fill.{filled, table-cong}
 use Rattle.raster.proofs.Rows.{part-count, part-length, put-part, row-pixel, row-value, row-flow}
 use Rattle.raster.proofs.Whole.{vertical, vertical-first, vertical-second, horizontal-first, horizontal-second}
 
-module _ (w row start first : ℕ) (weight : ℤ) (flow image : List ℤ) {now : List ℤ} (p : now ≡ filled start (rowStep w weight flow image) flow)
-    (q : start ≡ row * (w - 1)) (r : first ≡ row * w)
-  where
-    -- the row's parts, with the counts that the machine computes
-    abbrev rowFlow : List ℤ
-    rowFlow = take (start + (w - 1) - start) (drop start now)
-
-    abbrev rowImage : List ℤ
-    rowImage = take (first + w - first) (drop first image)
-
-    row-step : (k : ℕ) → k < w - 1 → stepAt weight rowFlow rowImage 1 k ≡ rowStep w weight flow image (start + k)
-    row-step k b =
-        let f = row-flow start (w - 1) k (rowStep w weight flow image) flow p b in
-        let x = row-value w row first k image r (omega arith) in
-        let y = row-value w row first (k + 1) image r (omega arith) in
-        let i = row-pixel w row start k q b in
-        let j : row * w + (k + 1) ≡ row * w + k + 1 = omega arith in
-        ap (λ (v : ℤ). stepValue weight v (at rowImage k) (at rowImage (k + 1))) f
-        ∙ ap₂ (stepValue weight (at flow (start + k))) (x ∙ ap (at image) (sym i)) (y ∙ ap (at image) (j ∙ ap (λ (n : ℕ). n + 1) (sym i)))
-
-    pub row-stepped : start + (w - 1) ≤ length now → {part : List ℤ} → part ≡ table (length rowFlow) (stepAt weight rowFlow rowImage 1) →
-        putMid start (start + (w - 1) - start) now part ≡ filled (start + (w - 1)) (rowStep w weight flow image) flow
-    row-stepped l e =
-        put-part start (w - 1) (rowStep w weight flow image) flow p
-        (e
-        ∙ ap (λ (n : ℕ). table n (stepAt weight rowFlow rowImage 1))
-        (ap (λ (n : ℕ). length (take n (drop start now))) (part-count start (w - 1)) ∙ part-length start (w - 1) now l)
-        ∙ table-cong (w - 1) row-step)
-
 -- a step's value at other numbers that are the same
 step-cong : (weight : ℤ) {f f′ x x′ y y′ : ℤ} → f ≡ f′ → x ≡ x′ → y ≡ y′ → stepValue weight f x y ≡ stepValue weight f′ x′ y′
 step-cong weight p q r = λ i. stepValue weight (p i) (q i) (r i)
+
+-- One row, of flow and image: a flow that is filled up to the row's first pair, and the row's parts of both, with the
+-- counts that the machine computes
+module _ (w row start first : ℕ) (weight : ℤ) (g : ℕ → ℤ) (flow image : List ℤ) {now : List ℤ} (p : now ≡ filled start g flow)
+  (q : start ≡ row * (w - 1)) (r : first ≡ row * w)
+  where
+  abbrev rowFlow : List ℤ
+  rowFlow = take (start + (w - 1) - start) (drop start now)
+
+  abbrev rowImage : List ℤ
+  rowImage = take (first + w - first) (drop first image)
+
+  pub row-step : (k : ℕ) → k < w - 1 → stepAt weight rowFlow rowImage 1 k ≡ rowStep w weight flow image (start + k)
+  row-step k b =
+      let i = row-pixel w row start k q b in
+      let j : row * w + (k + 1) ≡ row * w + k + 1 = omega arith in
+      step-cong weight (row-flow start (w - 1) k g flow p b)
+      (row-value w row first k image r (omega arith) ∙ ap (at image) (sym i))
+      (row-value w row first (k + 1) image r (omega arith) ∙ ap (at image) (j ∙ ap (λ (n : ℕ). n + 1) (sym i)))
+
+  pub row-length : start + (w - 1) ≤ length now → length rowFlow ≡ w - 1
+  row-length l = ap (λ (n : ℕ). length (take n (drop start now))) (part-count start (w - 1)) ∙ part-length start (w - 1) now l
+
+  -- the row's run, stepped, is its stretch of all horizontal pairs
+  pub row-stepped : start + (w - 1) ≤ length now →
+    table (length rowFlow) (stepAt weight rowFlow rowImage 1) ≡ table (w - 1) (λ k. rowStep w weight flow image (start + k))
+  row-stepped l = ap (λ (n : ℕ). table n (stepAt weight rowFlow rowImage 1)) (row-length l) ∙ table-cong (w - 1) row-step
 
 module _ (w h : ℕ) (weight : ℤ) (flow image : List ℤ) where
   pub vertical-stepped : vertical w h ≤ length flow →

@@ -13,7 +13,7 @@ use Rattle.model.specs.Lists.{table}
 use Rattle.model.proofs.Lists.{length-table}
 use Rattle.raster.specs.Whole.{RowLimits, rowStep}
 use Rattle.raster.proofs.Fill.{filled, filled-none, length-filled, filled-all}
-use Rattle.raster.proofs.Rows.{row-end, part-count, part-length, part-within, rest-is}
+use Rattle.raster.proofs.Rows.{row-end, part-count, part-length, part-within, rest-is, put-part}
 use Rattle.raster.proofs.Steps.{row-stepped}
 use Rattle.raster.proofs.grid.step_rows.Statement.{statement}
 use Rattle.raster.proofs.grid.step_rows.Tie as tie
@@ -114,9 +114,10 @@ loop-again c =
       omega arith,
       omega (arith, l .inv .1),
       omega (arith, l .inv .2),
-      row-stepped (s .args .width) (l .row) (l .at) (l .start) (toZ w32 (ofZ w32 (s .args .weight))) (s .args .flow .now) (s .args .image .now)
-          (l .inv .3) (l .inv .1) (l .inv .2) (omega (arith, stretch i, same-size i)) (c .before .step-pairs .ensures),
-    )
+      put-part (l .at) (s .args .width - 1) _ (s .args .flow .now) (l .inv .3)
+    (c .before .step-pairs .ensures
+    ∙ row-stepped (s .args .width) (l .row) (l .at) (l .start) (toZ w32 (ofZ w32 (s .args .weight))) _ (s .args .flow .now) (s .args .image .now)
+    (l .inv .3) (l .inv .1) (l .inv .2) (omega (arith, stretch i, same-size i))))
 
 -- all rows are done: the whole flow is stepped
 ended : (c : tie.After-loop Inv-loop μ-loop) → let s = c .before .before in
