@@ -40,6 +40,10 @@ module _ {A : Type 0} where
     pub filled-all : filled (length e) g e ≡ table (length e) g
     filled-all = rw (drop-length e) (append-nil (table (length e) g))
 
+    -- filled to the end
+    pub filled-done : {k : ℕ} {l : List A} → l ≡ filled k g e → k ≡ length e → l ≡ table (length e) g
+    filled-done p q = p ∙ ap (λ n. filled n g e) q ∙ filled-all
+
     pub length-filled : (k : ℕ) → k ≤ length e → length (filled k g e) ≡ length e
     length-filled k h = simp (length-append, length-table, length-drop) (omega arith)
 

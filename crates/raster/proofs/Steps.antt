@@ -53,20 +53,27 @@ module _ (w row start first : ℕ) (weight : ℤ) (g : ℕ → ℤ) (flow image 
   row-stepped l = ap (λ (n : ℕ). table n (stepAt weight rowFlow rowImage 1)) (row-length l) ∙ table-cong (w - 1) row-step
 
 module _ (w h : ℕ) (weight : ℤ) (flow image : List ℤ) where
+  -- a pair of the vertical run, and one of the horizontal pairs
+  pub vertical-step : (j : ℕ) → j < vertical w h → stepAt weight (take (vertical w h) flow) image w j ≡ gridStep w h weight flow image j
+  vertical-step j b =
+      step-cong weight (getD-take (vertical w h) flow j (pos 0) b) (ap (at image) (sym (vertical-first w h j b))) (ap (at image) (sym (vertical-second w h j b)))
+
+  pub horizontal-step : (k : ℕ) → k < h * (w - 1) → rowStep w weight (drop (vertical w h) flow) image k ≡ gridStep w h weight flow image (vertical w h + k)
+  horizontal-step k b =
+      step-cong weight (getD-drop (vertical w h) flow k (pos 0)) (ap (at image) (sym (horizontal-first w h k b))) (ap (at image) (sym (horizontal-second w h k b)))
+
   pub vertical-stepped : vertical w h ≤ length flow →
-      table (length (take (vertical w h) flow)) (stepAt weight (take (vertical w h) flow) image w) ≡ table (vertical w h) (gridStep w h weight flow image)
+    table (length (take (vertical w h) flow)) (stepAt weight (take (vertical w h) flow) image w) ≡ table (vertical w h) (gridStep w h weight flow image)
   vertical-stepped l =
       ap (λ (n : ℕ). table n (stepAt weight (take (vertical w h) flow) image w)) (length-take-le (vertical w h) flow l)
-      ∙ table-cong (vertical w h) (λ j b.
-      step-cong weight (getD-take (vertical w h) flow j (pos 0) b) (ap (at image) (sym (vertical-first w h j b))) (ap (at image) (sym (vertical-second w h j b))))
+      ∙ table-cong (vertical w h) vertical-step
 
   pub horizontal-stepped : length flow ≡ vertical w h + h * (w - 1) → {part : List ℤ} → part ≡ drop (vertical w h) flow →
-      table (length part) (rowStep w weight part image) ≡ table (h * (w - 1)) (λ k. gridStep w h weight flow image (vertical w h + k))
-  horizontal-stepped size {part} e =
+    table (length part) (rowStep w weight part image) ≡ table (h * (w - 1)) (λ k. gridStep w h weight flow image (vertical w h + k))
+  horizontal-stepped size e =
       ap (λ (l : List ℤ). table (length l) (rowStep w weight l image)) e
       ∙ ap (λ (n : ℕ). table n (rowStep w weight (drop (vertical w h) flow) image)) (length-drop (vertical w h) flow ∙ omega arith)
-      ∙ table-cong (h * (w - 1)) (λ k b.
-      step-cong weight (getD-drop (vertical w h) flow k (pos 0)) (ap (at image) (sym (horizontal-first w h k b))) (ap (at image) (sym (horizontal-second w h k b))))
+      ∙ table-cong (h * (w - 1)) horizontal-step
 
 -- A stepped number is no larger than the weight
 pub step-most : (weight f x y : ℤ) → natAbs (stepValue weight f x y) ≤ natAbs weight

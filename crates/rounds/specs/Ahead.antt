@@ -8,6 +8,7 @@ use Rattle.integers.specs.Whole.{quotient}
 use Rattle.model.specs.Lists.{at}
 use Rattle.raster.specs.Limits.{Within, StepLimits}
 use Rattle.raster.specs.Run.{stepAt}
+use Rattle.raster.specs.Whole.{rowStep, RowLimits, gridStep, GridLimits}
 
 -- a number ahead of now, by the change since earlier times m / 2⁴⁶, rounded toward zero
 abbrev pub aheadOf : ℕ → ℤ → ℤ → ℤ
@@ -20,6 +21,27 @@ aheadAt weight m flow ahead image stride j = aheadOf m (at flow j) (stepAt weigh
 -- within these limits no operation of a run overflows
 pub record AdvanceLimits (flow ahead image : List ℤ) (stride : ℕ) (weight : ℤ) (m : ℕ) : Type 0 where
   pub step : StepLimits ahead image stride weight
+  pub same-length : length flow ≡ length ahead
+  pub weight-most : natAbs weight ≤ 65280
+  pub flow-most : Within 65280 flow
+  pub factor-most : m ≤ 2 ^ 46
+
+-- the same for the horizontal pairs alone, counted through all rows, and for all pairs
+abbrev pub rowAhead : ℕ → ℤ → ℕ → List ℤ → List ℤ → List ℤ → ℕ → ℤ
+rowAhead w weight m flow ahead image k = aheadOf m (at flow k) (rowStep w weight ahead image k)
+
+abbrev pub gridAhead : ℕ → ℕ → ℤ → ℕ → List ℤ → List ℤ → List ℤ → ℕ → ℤ
+gridAhead w h weight m flow ahead image j = aheadOf m (at flow j) (gridStep w h weight ahead image j)
+
+pub record RowAdvance (w h : ℕ) (flow ahead image : List ℤ) (weight : ℤ) (m : ℕ) : Type 0 where
+  pub rows : RowLimits w h weight ahead image
+  pub same-length : length flow ≡ length ahead
+  pub weight-most : natAbs weight ≤ 65280
+  pub flow-most : Within 65280 flow
+  pub factor-most : m ≤ 2 ^ 46
+
+pub record GridAdvance (w h : ℕ) (flow ahead image : List ℤ) (weight : ℤ) (m : ℕ) : Type 0 where
+  pub grid : GridLimits w h weight ahead image
   pub same-length : length flow ≡ length ahead
   pub weight-most : natAbs weight ≤ 65280
   pub flow-most : Within 65280 flow
