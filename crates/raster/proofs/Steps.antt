@@ -28,29 +28,29 @@ step-cong weight p q r = λ i. stepValue weight (p i) (q i) (r i)
 -- One row, of flow and image: a flow that is filled up to the row's first pair, and the row's parts of both, with the
 -- counts that the machine computes
 module _ (w row start first : ℕ) (weight : ℤ) (g : ℕ → ℤ) (flow image : List ℤ) {now : List ℤ} (p : now ≡ filled start g flow)
-  (q : start ≡ row * (w - 1)) (r : first ≡ row * w)
+    (q : start ≡ row * (w - 1)) (r : first ≡ row * w)
   where
-  abbrev rowFlow : List ℤ
-  rowFlow = take (start + (w - 1) - start) (drop start now)
+    abbrev rowFlow : List ℤ
+    rowFlow = take (start + (w - 1) - start) (drop start now)
 
-  abbrev rowImage : List ℤ
-  rowImage = take (first + w - first) (drop first image)
+    abbrev rowImage : List ℤ
+    rowImage = take (first + w - first) (drop first image)
 
-  pub row-step : (k : ℕ) → k < w - 1 → stepAt weight rowFlow rowImage 1 k ≡ rowStep w weight flow image (start + k)
-  row-step k b =
-      let i = row-pixel w row start k q b in
-      let j : row * w + (k + 1) ≡ row * w + k + 1 = omega arith in
-      step-cong weight (row-flow start (w - 1) k g flow p b)
-      (row-value w row first k image r (omega arith) ∙ ap (at image) (sym i))
-      (row-value w row first (k + 1) image r (omega arith) ∙ ap (at image) (j ∙ ap (λ (n : ℕ). n + 1) (sym i)))
+    pub row-step : (k : ℕ) → k < w - 1 → stepAt weight rowFlow rowImage 1 k ≡ rowStep w weight flow image (start + k)
+    row-step k b =
+        let i = row-pixel w row start k q b in
+        let j : row * w + (k + 1) ≡ row * w + k + 1 = omega arith in
+        step-cong weight (row-flow start (w - 1) k g flow p b)
+        (row-value w row first k image r (omega arith) ∙ ap (at image) (sym i))
+        (row-value w row first (k + 1) image r (omega arith) ∙ ap (at image) (j ∙ ap (λ (n : ℕ). n + 1) (sym i)))
 
-  pub row-length : start + (w - 1) ≤ length now → length rowFlow ≡ w - 1
-  row-length l = ap (λ (n : ℕ). length (take n (drop start now))) (part-count start (w - 1)) ∙ part-length start (w - 1) now l
+    pub row-length : start + (w - 1) ≤ length now → length rowFlow ≡ w - 1
+    row-length l = ap (λ (n : ℕ). length (take n (drop start now))) (part-count start (w - 1)) ∙ part-length start (w - 1) now l
 
-  -- the row's run, stepped, is its stretch of all horizontal pairs
-  pub row-stepped : start + (w - 1) ≤ length now →
-    table (length rowFlow) (stepAt weight rowFlow rowImage 1) ≡ table (w - 1) (λ k. rowStep w weight flow image (start + k))
-  row-stepped l = ap (λ (n : ℕ). table n (stepAt weight rowFlow rowImage 1)) (row-length l) ∙ table-cong (w - 1) row-step
+    -- the row's run, stepped, is its stretch of all horizontal pairs
+    pub row-stepped : start + (w - 1) ≤ length now →
+        table (length rowFlow) (stepAt weight rowFlow rowImage 1) ≡ table (w - 1) (λ k. rowStep w weight flow image (start + k))
+    row-stepped l = ap (λ (n : ℕ). table n (stepAt weight rowFlow rowImage 1)) (row-length l) ∙ table-cong (w - 1) row-step
 
 module _ (w h : ℕ) (weight : ℤ) (flow image : List ℤ) where
   -- a pair of the vertical run, and one of the horizontal pairs
@@ -63,13 +63,13 @@ module _ (w h : ℕ) (weight : ℤ) (flow image : List ℤ) where
       step-cong weight (getD-drop (vertical w h) flow k (pos 0)) (ap (at image) (sym (horizontal-first w h k b))) (ap (at image) (sym (horizontal-second w h k b)))
 
   pub vertical-stepped : vertical w h ≤ length flow →
-    table (length (take (vertical w h) flow)) (stepAt weight (take (vertical w h) flow) image w) ≡ table (vertical w h) (gridStep w h weight flow image)
+      table (length (take (vertical w h) flow)) (stepAt weight (take (vertical w h) flow) image w) ≡ table (vertical w h) (gridStep w h weight flow image)
   vertical-stepped l =
       ap (λ (n : ℕ). table n (stepAt weight (take (vertical w h) flow) image w)) (length-take-le (vertical w h) flow l)
       ∙ table-cong (vertical w h) vertical-step
 
   pub horizontal-stepped : length flow ≡ vertical w h + h * (w - 1) → {part : List ℤ} → part ≡ drop (vertical w h) flow →
-    table (length part) (rowStep w weight part image) ≡ table (h * (w - 1)) (λ k. gridStep w h weight flow image (vertical w h + k))
+      table (length part) (rowStep w weight part image) ≡ table (h * (w - 1)) (λ k. gridStep w h weight flow image (vertical w h + k))
   horizontal-stepped size e =
       ap (λ (l : List ℤ). table (length l) (rowStep w weight l image)) e
       ∙ ap (λ (n : ℕ). table n (rowStep w weight (drop (vertical w h) flow) image)) (length-drop (vertical w h) flow ∙ omega arith)

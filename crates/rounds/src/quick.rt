@@ -12,7 +12,14 @@ ghost use Rattle.rounds.specs.Ahead.{aheadAt, rowAhead, gridAhead, Advan
 
 // One run of pairs: flow holds the earlier iterate and gets the next one, ahead holds R and gets
 // the next R.
-fn advance_pairs(flow: &mut [i32], ahead: &mut [i32], image: &[i32], stride: usize, weight: i32, m: u64)
+fn advance_pairs(
+    flow: &mut [i32],
+    ahead: &mut [i32],
+    image: &[i32],
+    stride: usize,
+    weight: i32,
+    m: u64,
+)
     requires { ⌜ AdvanceLimits (now flow) (now ahead) (now image) stride weight m ⌝ }
     ensures { λ _. ⌜ now (flow .exit) ≡ table (length (now (flow .entry))) (stepAt weight (now (ahead .entry)) (now (image .entry)) stride) ⌝ }
     ensures { λ _. ⌜ now (ahead .exit) ≡ table (length (now (flow .entry))) (aheadAt weight m (now (flow .entry)) (now (ahead .entry)) (now (image .entry)) stride) ⌝ }
@@ -27,7 +34,15 @@ fn advance_pairs(flow: &mut [i32], ahead: &mut [i32], image: &[i32], stride: usi
 }
 
 // The horizontal pairs of all rows, a run for each.
-fn advance_rows(flow: &mut [i32], ahead: &mut [i32], image: &[i32], width: usize, height: usize, weight: i32, m: u64)
+fn advance_rows(
+    flow: &mut [i32],
+    ahead: &mut [i32],
+    image: &[i32],
+    width: usize,
+    height: usize,
+    weight: i32,
+    m: u64,
+)
     requires { ⌜ RowAdvance width height (now flow) (now ahead) (now image) weight m ⌝ }
     ensures { λ _. ⌜ now (flow .exit) ≡ table (length (now (flow .entry))) (rowStep width weight (now (ahead .entry)) (now (image .entry))) ⌝ }
     ensures { λ _. ⌜ now (ahead .exit) ≡ table (length (now (flow .entry))) (rowAhead width weight m (now (flow .entry)) (now (ahead .entry)) (now (image .entry))) ⌝ }
@@ -37,7 +52,14 @@ fn advance_rows(flow: &mut [i32], ahead: &mut [i32], image: &[i32], width: usize
     let mut start = 0;
     let mut row = 0;
     while row < height {
-        advance_pairs(&mut flow[at..at + across], &mut ahead[at..at + across], &image[start..start + width], 1, weight, m);
+        advance_pairs(
+            &mut flow[at..at + across],
+            &mut ahead[at..at + across],
+            &image[start..start + width],
+            1,
+            weight,
+            m,
+        );
         at += across;
         start += width;
         row += 1;
@@ -45,12 +67,35 @@ fn advance_rows(flow: &mut [i32], ahead: &mut [i32], image: &[i32], width: usize
 }
 
 // All pairs of a raster, from the image of the numbers ahead.
-pub fn advance_grid(flow: &mut [i32], ahead: &mut [i32], image: &[i32], width: usize, height: usize, weight: i32, m: u64)
+pub fn advance_grid(
+    flow: &mut [i32],
+    ahead: &mut [i32],
+    image: &[i32],
+    width: usize,
+    height: usize,
+    weight: i32,
+    m: u64,
+)
     requires { ⌜ GridAdvance width height (now flow) (now ahead) (now image) weight m ⌝ }
     ensures { λ _. ⌜ now (flow .exit) ≡ table (length (now (flow .entry))) (gridStep width height weight (now (ahead .entry)) (now (image .entry))) ⌝ }
     ensures { λ _. ⌜ now (ahead .exit) ≡ table (length (now (flow .entry))) (gridAhead width height weight m (now (flow .entry)) (now (ahead .entry)) (now (image .entry))) ⌝ }
 {
     let vertical = width * (height - 1);
-    advance_pairs(&mut flow[..vertical], &mut ahead[..vertical], image, width, weight, m);
-    advance_rows(&mut flow[vertical..], &mut ahead[vertical..], image, width, height, weight, m);
+    advance_pairs(
+        &mut flow[..vertical],
+        &mut ahead[..vertical],
+        image,
+        width,
+        weight,
+        m,
+    );
+    advance_rows(
+        &mut flow[vertical..],
+        &mut ahead[vertical..],
+        image,
+        width,
+        height,
+        weight,
+        m,
+    );
 }

@@ -115,9 +115,10 @@ loop-again c =
       omega (arith, l .inv .1),
       omega (arith, l .inv .2),
       put-part (l .at) (s .args .width - 1) _ (s .args .flow .now) (l .inv .3)
-    (c .before .step-pairs .ensures
-    ∙ row-stepped (s .args .width) (l .row) (l .at) (l .start) (toZ w32 (ofZ w32 (s .args .weight))) _ (s .args .flow .now) (s .args .image .now)
-    (l .inv .3) (l .inv .1) (l .inv .2) (omega (arith, stretch i, same-size i))))
+          (c .before .step-pairs .ensures
+          ∙ row-stepped (s .args .width) (l .row) (l .at) (l .start) (toZ w32 (ofZ w32 (s .args .weight))) _ (s .args .flow .now) (s .args .image .now)
+          (l .inv .3) (l .inv .1) (l .inv .2) (omega (arith, stretch i, same-size i))),
+    )
 
 -- all rows are done: the whole flow is stepped
 ended : (c : tie.After-loop Inv-loop μ-loop) → let s = c .before .before in

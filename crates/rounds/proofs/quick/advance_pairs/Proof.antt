@@ -34,9 +34,9 @@ small l h = element l (λ i. omega (arith, h i))
 
 -- the stepped number, as the next operation reads it
 next-is : (c : tie.After-step-value Inv-loop μ-loop) →
-  let s = c .before .before .before .before .before .before in
-  toZ w32 (ofZ w32 (c .step-value .result))
-  ≡ stepAt (toZ w32 (ofZ w32 (s .args .weight))) (s .args .ahead .now) (s .args .image .now) (s .args .stride) (c .before .before .before .before .before .loop .j)
+    let s = c .before .before .before .before .before .before in
+    toZ w32 (ofZ w32 (c .step-value .result))
+    ≡ stepAt (toZ w32 (ofZ w32 (s .args .weight))) (s .args .ahead .now) (s .args .image .now) (s .args .stride) (c .before .before .before .before .before .loop .j)
 next-is c =
     let s = c .before .before .before .before .before .before in
     let l = c .before .before .before .before .before .loop in
@@ -86,10 +86,11 @@ extrapolated-requires : tie.Need-extrapolated-requires Inv-loop μ-loop
 extrapolated-requires c κs =
     let v = c .before in
     let s = v .before .before .before .before .before .before in
-    let l = v .before .before .before .before .before .loop in
-    (rw (filling-rest (l .inv .0) (l .j) (pos 0) (le-refl (l .j)), small (s .args .flow .now) (s .pre .flow-most) (l .j)) (s .pre .flow-most (l .j)),
-    rw (next-is v) (le-trans (step-most (toZ w32 (ofZ w32 (s .args .weight))) _ _ _) (rw (toZ-ofZ w32 (s .args .weight) (s .fits .weight)) (s .pre .weight-most))),
-    s .pre .factor-most)
+    let l = v .before .before .before .before .before .loop in (
+      rw (filling-rest (l .inv .0) (l .j) (pos 0) (le-refl (l .j)), small (s .args .flow .now) (s .pre .flow-most) (l .j)) (s .pre .flow-most (l .j)),
+      rw (next-is v) (le-trans (step-most (toZ w32 (ofZ w32 (s .args .weight))) _ _ _) (rw (toZ-ofZ w32 (s .args .weight) (s .fits .weight)) (s .pre .weight-most))),
+      s .pre .factor-most,
+    )
 
 mul-t17 : tie.Need-mul-t17 Inv-loop μ-loop
 mul-t17 c = search needs
@@ -113,13 +114,14 @@ loop-again : tie.Need-loop-again Inv-loop μ-loop
 loop-again c =
     let v = c .before .before in
     let s = v .before .before .before .before .before .before in
-    let l = v .before .before .before .before .before .loop in
-    (filling-more (l .inv .0) (omega arith) (next-is v),
-    filling-more (l .inv .1) (omega (arith, s .pre .same-length))
-    (read w32 (c .extrapolated .ok) ∙ c .extrapolated .ensures
-    ∙ ap₂ (aheadOf (s .args .m))
-    (ap (λ (z : ℤ). toZ w32 (ofZ w32 z)) (filling-rest (l .inv .0) (l .j) (pos 0) (le-refl (l .j))) ∙ small (s .args .flow .now) (s .pre .flow-most) (l .j))
-    (next-is v)))
+    let l = v .before .before .before .before .before .loop in (
+      filling-more (l .inv .0) (omega arith) (next-is v),
+      filling-more (l .inv .1) (omega (arith, s .pre .same-length))
+          (read w32 (c .extrapolated .ok) ∙ c .extrapolated .ensures
+          ∙ ap₂ (aheadOf (s .args .m))
+          (ap (λ (z : ℤ). toZ w32 (ofZ w32 z)) (filling-rest (l .inv .0) (l .j) (pos 0) (le-refl (l .j))) ∙ small (s .args .flow .now) (s .pre .flow-most) (l .j))
+          (next-is v)),
+    )
 
 same-length : tie.Need-same-length Inv-loop μ-loop
 same-length c = search needs
@@ -130,9 +132,10 @@ same-length-2 c = search needs
 returns : tie.Need-returns Inv-loop μ-loop
 returns c =
     let s = c .before .before in
-    let i = c .before .loop .inv in
-    (rw (toZ-ofZ w32 _ (s .fits .weight)) at (filling-all (i .0) (omega arith)),
-    rw (toZ-ofZ w32 _ (s .fits .weight), ← s .pre .same-length) at (filling-all (i .1) (omega (arith, s .pre .same-length))))
+    let i = c .before .loop .inv in (
+      rw (toZ-ofZ w32 _ (s .fits .weight)) at (filling-all (i .0) (omega arith)),
+      rw (toZ-ofZ w32 _ (s .fits .weight), ← s .pre .same-length) at (filling-all (i .1) (omega (arith, s .pre .same-length))),
+    )
 
 pub advance-pairs-spec : {M : Type 1} → statement M
 advance-pairs-spec =

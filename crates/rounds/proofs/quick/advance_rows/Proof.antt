@@ -114,16 +114,16 @@ advance-pairs-requires c κs =
     let x = part-length (l .start) w (s .args .image .now) (pixels i) in
     record {
       step =
-        record {
-          reach = rw (part-count (l .at) (w - 1), part-count (l .start) w) (omega (arith, a, x, p .rows .width-least));
-          weight-most = rw (toZ-ofZ w32 _ (s .fits .weight)) (p .rows .weight-most);
-          flow-most = rw (rest-is (l .at) _ (s .args .ahead .now) (l .inv .4)) (part-within (l .at) (l .at + (w - 1) - l .at) (s .args .ahead .now) (p .rows .flow-most));
-          image-most = part-within (l .start) (l .start + w - l .start) (s .args .image .now) (p .rows .image-most)
-        };
+          record {
+            reach = rw (part-count (l .at) (w - 1), part-count (l .start) w) (omega (arith, a, x, p .rows .width-least));
+            weight-most = rw (toZ-ofZ w32 _ (s .fits .weight)) (p .rows .weight-most);
+            flow-most = rw (rest-is (l .at) _ (s .args .ahead .now) (l .inv .4)) (part-within (l .at) (l .at + (w - 1) - l .at) (s .args .ahead .now) (p .rows .flow-most));
+            image-most = part-within (l .start) (l .start + w - l .start) (s .args .image .now) (p .rows .image-most);
+          };
       same-length = rw (part-count (l .at) (w - 1)) (f ∙ sym a);
       weight-most = rw (toZ-ofZ w32 _ (s .fits .weight)) (p .weight-most);
       flow-most = rw (rest-is (l .at) _ (s .args .flow .now) (l .inv .3)) (part-within (l .at) (l .at + (w - 1) - l .at) (s .args .flow .now) (p .flow-most));
-      factor-most = p .factor-most
+      factor-most = p .factor-most;
     }
 
 add-at : tie.Need-add-at Inv-loop μ-loop
@@ -147,33 +147,39 @@ loop-again c =
     let weight = toZ w32 (ofZ w32 (s .args .weight)) in
     let fits : l .at + (w - 1) ≤ length (l .ahead) = omega (arith, stretch i, same-ahead i, s .pre .same-length) in
     let equal = row-length w (l .row) (l .at) (l .start) weight _ (s .args .flow .now) (s .args .image .now) (l .inv .3) (l .inv .1) (l .inv .2) (omega (arith, stretch i, same-flow i)) in
-    let both = row-length w (l .row) (l .at) (l .start) weight _ (s .args .ahead .now) (s .args .image .now) (l .inv .4) (l .inv .1) (l .inv .2) fits in
-    (omega arith, omega (arith, l .inv .1), omega (arith, l .inv .2),
-    put-part (l .at) (w - 1) _ (s .args .flow .now) (l .inv .3)
-    (rw (equal ∙ sym both) at (c .before .before .advance-pairs .ensures .0)
-    ∙ row-stepped w (l .row) (l .at) (l .start) weight _ (s .args .ahead .now) (s .args .image .now) (l .inv .4) (l .inv .1) (l .inv .2) fits),
-    put-part (l .at) (w - 1) _ (s .args .ahead .now) (l .inv .4)
-    (c .before .before .advance-pairs .ensures .1
-    ∙ row-ahead w (l .row) (l .at) (l .start) (s .args .m) weight _ _ (s .args .flow .now) (s .args .ahead .now) (s .args .image .now)
-    (l .inv .3) (l .inv .4) (l .inv .1) (l .inv .2) (omega (arith, stretch i, same-flow i))))
+    let both = row-length w (l .row) (l .at) (l .start) weight _ (s .args .ahead .now) (s .args .image .now) (l .inv .4) (l .inv .1) (l .inv .2) fits in (
+      omega arith,
+      omega (arith, l .inv .1),
+      omega (arith, l .inv .2),
+      put-part (l .at) (w - 1) _ (s .args .flow .now) (l .inv .3)
+          (rw (equal ∙ sym both) at (c .before .before .advance-pairs .ensures .0)
+          ∙ row-stepped w (l .row) (l .at) (l .start) weight _ (s .args .ahead .now) (s .args .image .now) (l .inv .4) (l .inv .1) (l .inv .2) fits),
+      put-part (l .at) (w - 1) _ (s .args .ahead .now) (l .inv .4)
+          (c .before .before .advance-pairs .ensures .1
+          ∙ row-ahead w (l .row) (l .at) (l .start) (s .args .m) weight _ _ (s .args .flow .now) (s .args .ahead .now) (s .args .image .now)
+          (l .inv .3) (l .inv .4) (l .inv .1) (l .inv .2) (omega (arith, stretch i, same-flow i))),
+    )
 
 -- all rows are done
 ended : (c : tie.After-loop Inv-loop μ-loop) → let s = c .before .before in
-  let n = length (s .args .flow .now) in
-  let weight = toZ w32 (ofZ w32 (s .args .weight)) in
-  (length (c .before .loop .flow) ≡ n)
-  × (length (c .before .loop .ahead) ≡ length (s .args .ahead .now))
-  × (c .before .loop .flow ≡ table n (rowStep (s .args .width) weight (s .args .ahead .now) (s .args .image .now)))
-  × (c .before .loop .ahead ≡ table n (rowAhead (s .args .width) weight (s .args .m) (s .args .flow .now) (s .args .ahead .now) (s .args .image .now)))
+    let n = length (s .args .flow .now) in
+    let weight = toZ w32 (ofZ w32 (s .args .weight)) in
+    (length (c .before .loop .flow) ≡ n)
+    × (length (c .before .loop .ahead) ≡ length (s .args .ahead .now))
+    × (c .before .loop .flow ≡ table n (rowStep (s .args .width) weight (s .args .ahead .now) (s .args .image .now)))
+    × (c .before .loop .ahead ≡ table n (rowAhead (s .args .width) weight (s .args .m) (s .args .flow .now) (s .args .ahead .now) (s .args .image .now)))
 ended c =
     let s = c .before .before in
     let l = c .before .loop in
     let e : l .row ≡ s .args .height = omega (arith, l .inv .0, c .loop-test .left) in
     let n : l .at ≡ length (s .args .ahead .now) = l .inv .1 ∙ ap (λ (k : ℕ). k * (s .args .width - 1)) e ∙ sym (s .pre .rows .flow-length) in
     let f = filled-done _ (s .args .flow .now) (l .inv .3) (n ∙ sym (s .pre .same-length)) in
-    let a = filled-done _ (s .args .ahead .now) (l .inv .4) n in
-    (ap length f ∙ length-table (length (s .args .flow .now)) _, ap length a ∙ length-table (length (s .args .ahead .now)) _, f,
-    rw (s .pre .same-length) a)
+    let a = filled-done _ (s .args .ahead .now) (l .inv .4) n in (
+      ap length f ∙ length-table (length (s .args .flow .now)) _,
+      ap length a ∙ length-table (length (s .args .ahead .now)) _,
+      f,
+      rw (s .pre .same-length) a,
+    )
 
 same-length : tie.Need-same-length Inv-loop μ-loop
 same-length c = ended c .0
