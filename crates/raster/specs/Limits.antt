@@ -1,4 +1,5 @@
 -- Limits on the numbers of a pass, within which no machine operation overflows.
+use mathlib.Core.Path.{_≡_}
 use mathlib.Core.List.{List}
 use Prim.Native.Nat.{ℕ, _+_, _^_, _≤_}
 use lib.IntN.{ℤ, natAbs}
@@ -42,4 +43,10 @@ pub record FallLimits (flow image : List ℤ) (stride : ℕ) : Type 0 where
   pub reach : length flow + stride ≤ length image
   pub count-most : length flow ≤ 2 ^ 21
   pub flow-most : Within (2 ^ 20) flow
+  pub image-most : Within (2 ^ 20) image
+
+-- the pixels' values and their samples
+pub record MisfitLimits (image : List ℤ) (samples : List ℕ) : Type 0 where
+  pub same-count : length image ≡ length samples
+  pub count-most : length image ≤ 2 ^ 20
   pub image-most : Within (2 ^ 20) image

@@ -1,3 +1,4 @@
 // Passes over a raster's buffers.
 pub mod leaf;
 pub mod pairs;
+pub mod pixels;
