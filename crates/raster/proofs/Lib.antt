@@ -4,8 +4,10 @@
 --     Moving      the answer of a search for a moving pair
 --     Elements    the numbers of buffers within limits
 --     Sums        running sums, and that they fit 64 bits
+--     Rows        a row of a flow's image
 pub mod Fill
 pub mod Search
 pub mod Moving
 pub mod Elements
 pub mod Sums
+pub mod Rows

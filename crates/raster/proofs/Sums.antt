@@ -5,7 +5,7 @@ use Prim.Native.Nat.{ℕ, _+_, _*_, _^_, _≤_, _<_}
 use native.Mathlib.Nat.{mul-le-mul}
 use native.Mathlib.Numerals.{add-one}
 use native.Mathlib.Omega.{arith}
-use lib.IntN.{ℤ, pos, natAbs, _+ℤ_, _-ℤ_, _*ℤ_}
+use lib.IntN.{ℤ, natAbs, _+ℤ_, _-ℤ_, _*ℤ_}
 use lib.ListN.{getD}
 use Rattle.integers.specs.Whole.{abs, square}
 use Rattle.integers.specs.Sum.{total}
@@ -15,6 +15,7 @@ use Rattle.model.specs.Lists.{at}
 use Rattle.model.specs.Grid.{readingOf}
 use Rattle.raster.specs.Limits.{Within}
 use Rattle.raster.specs.Run.{fallAt}
+use Rattle.raster.proofs.Elements.{reading-most}
 
 -- one more term
 pub total-more : (g : ℕ → ℤ) (n : ℕ) {s x : ℤ} → s ≡ total n g → x ≡ g n → s +ℤ x ≡ total (n + 1) g
@@ -27,11 +28,9 @@ misfitAt image samples i = square (at image i -ℤ readingOf (getD samples i 0))
 
 module _ (image : List ℤ) (h : Within (2 ^ 20) image) (samples : List ℕ) (bytes : (i : ℕ) → getD samples i 0 < 256) where
   pub misfit-most : (i : ℕ) → natAbs (misfitAt image samples i) ≤ 2 ^ 42
-  unfolding readingOf
   misfit-most i =
-      let d : natAbs (at image i -ℤ pos (256 * getD samples i 0)) ≤ 2 ^ 21 =
-      omega (arith, h i, bytes i, natAbs-difference (at image i) (pos (256 * getD samples i 0)))
-      in
+      let b : ℤ = readingOf (getD samples i 0) in
+      let d : natAbs (at image i -ℤ b) ≤ 2 ^ 21 = omega (arith, h i, reading-most (bytes i), natAbs-difference (at image i) b) in
       rw natAbs-square (mul-le-mul d d)
 
   pub misfits-most : (n : ℕ) → natAbs (total n (misfitAt image samples)) ≤ n * 2 ^ 42

@@ -2,3 +2,4 @@
 pub mod Stencil
 pub mod Limits
 pub mod Run
+pub mod Rows

@@ -2,3 +2,4 @@
 pub mod leaf;
 pub mod pairs;
 pub mod pixels;
+pub mod image;
