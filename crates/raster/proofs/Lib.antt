@@ -5,9 +5,11 @@
 --     Elements    the numbers of buffers within limits
 --     Sums        running sums, and that they fit 64 bits
 --     Rows        a row of a flow's image
+--     RowParts    the parts of the flow that a row takes
 pub mod Fill
 pub mod Search
 pub mod Moving
 pub mod Elements
 pub mod Sums
 pub mod Rows
+pub mod RowParts

@@ -1,5 +1,5 @@
 // Passes over a raster's buffers.
+pub mod image;
 pub mod leaf;
 pub mod pairs;
 pub mod pixels;
-pub mod image;

@@ -1,12 +1,9 @@
 -- `raster::image::column_value` meets its contract. Assumes nothing.
-use mathlib.Core.Path.{_≡_, _∙_}
 use native.Mathlib.Omega.{arith}
 use borrow.Author.Needs.{needs}
 use mir.Syntax.{w32}
 use mir.ValLaws.{toZ-ofZ}
 use Rattle.integers.proofs.Machine.{read}
-use Rattle.model.specs.Lists.{at}
-use Rattle.model.specs.Grid.{readingOf}
 use Rattle.raster.proofs.Elements.{reading-most}
 use Rattle.raster.proofs.image.column_value.Statement.{statement}
 use Rattle.raster.proofs.image.column_value.Tie as tie
@@ -36,8 +33,7 @@ pixel-value-requires c κs =
 returns : tie.Need-returns
 returns c =
     let s = c .before .before .before .before in
-    read w32 (c .pixel-value .ok) ∙ c .pixel-value .ensures
-    ∙ rw (read w32 {r = c .before .before .before .reading .result} (c .before .before .before .reading .ok), c .before .before .before .reading .ensures, read w32 {r = c .before .before .number-at .result} (c .before .before .number-at .ok), c .before .before .number-at .ensures, read w32 {r = c .before .number-at2 .result} (c .before .number-at2 .ok), c .before .number-at2 .ensures, toZ-ofZ w32 _ (s .fits .right), toZ-ofZ w32 _ (s .fits .left), toZ-ofZ w32 _ (s .fits .low), toZ-ofZ w32 _ (s .fits .high))
+    rw (read w32 {r = c .pixel-value .result} (c .pixel-value .ok), c .pixel-value .ensures, read w32 {r = c .before .before .before .reading .result} (c .before .before .before .reading .ok), c .before .before .before .reading .ensures, read w32 {r = c .before .before .number-at .result} (c .before .before .number-at .ok), c .before .before .number-at .ensures, read w32 {r = c .before .number-at2 .result} (c .before .number-at2 .ok), c .before .number-at2 .ensures, toZ-ofZ w32 _ (s .fits .right), toZ-ofZ w32 _ (s .fits .left), toZ-ofZ w32 _ (s .fits .low), toZ-ofZ w32 _ (s .fits .high))
 
 pub column-value-spec : {M : Type 1} → statement M
 column-value-spec =

@@ -1,7 +1,7 @@
 -- `raster::image::image_row` meets its contract. Assumes nothing.
-use mathlib.Core.Path.{_≡_, refl, _∙_}
+use mathlib.Core.Path.{_≡_, refl}
 use mathlib.Core.List.{_∷_}
-use Prim.Native.Nat.{_+_, _-_, _≤_, zero-le}
+use Prim.Native.Nat.{_-_, _≤_, zero-le}
 use native.Mathlib.Numerals.{add-one}
 use native.Mathlib.Omega.{arith}
 use borrow.Author.Needs.{needs}
@@ -63,10 +63,11 @@ loop-again : tie.Need-loop-again Inv-loop μ-loop
 loop-again c =
     let s = c .before .before .before .before .before .before in
     let l = c .before .before .before .before .loop in
-    let right = element (s .args .across .now) (s .pre .across-most) (l .c) in
-    (omega arith,
-    filling-more (l .inv .1) (omega (arith, s .pre)) (read w32 (c .column-value .ok) ∙ c .column-value .ensures ∙ rw (right, l .inv .2)),
-    rw (add-one (l .c)) right)
+    let right = element (s .args .across .now) (s .pre .across-most) (l .c) in (
+      omega arith,
+      filling-more (l .inv .1) (omega (arith, s .pre)) (rw (read w32 {r = c .column-value .result} (c .column-value .ok), c .column-value .ensures, right, l .inv .2)),
+      rw (add-one (l .c)) right,
+    )
 
 shared-slice-read-column-value-2 : tie.Need-shared-slice-read-column-value-2 Inv-loop μ-loop
 shared-slice-read-column-value-2 c = search needs
@@ -93,7 +94,7 @@ returns c =
     let past : at (s .args .across .now) (l .c) ≡ pos 0 = List·getD-eq-default (s .args .across .now) (pos 0) (omega arith) in
     rw (toZ-ofZ w32 _ (s .fits .low), toZ-ofZ w32 _ (s .fits .high))
     at (filling-all
-    (filling-more (l .inv .1) (omega (arith, s .pre)) (read w32 (c .column-value2 .ok) ∙ c .column-value2 .ensures ∙ rw (past, l .inv .2)))
+    (filling-more (l .inv .1) {x = toZ w32 (ofZ w32 (c .column-value2 .result))} (omega (arith, s .pre)) (rw (read w32 {r = c .column-value2 .result} (c .column-value2 .ok), c .column-value2 .ensures, past, l .inv .2)))
     (omega (arith, s .pre)))
 
 pub image-row-spec : {M : Type 1} → statement M
