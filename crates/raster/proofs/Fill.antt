@@ -53,10 +53,10 @@ module _ {A : Type 0} where
         let e₂ : k + (i - k) ≡ i = omega arith in
         ap (λ j. getD (filled k g e) j d) (sym e₁) ∙ getD-append-add (table k g) (drop k e) (i - k) d ∙ getD-drop k e (i - k) d ∙ ap (λ j. getD e j d) e₂
 
-    -- a part of n values from a on, filled, is put back
-    pub filled-part : (a n : ℕ) → take a (filled a g e) ++ (table n (λ i. g (a + i)) ++ drop n (drop a (filled a g e))) ≡ filled (a + n) g e
+    -- a part of n values from a on, filled, takes its place
+    pub filled-part : (a n : ℕ) → take a (filled a g e) ++ (table n (λ i. g (a + i)) ++ drop (a + n) (filled a g e)) ≡ filled (a + n) g e
     filled-part a n =
-        rw (take-at (table a g) (drop a e) a (length-table a g), drop-at (table a g) (drop a e) a (length-table a g), drop-drop n a e, table-append a n g)
+        rw (← (drop-drop n a (filled a g e)), take-at (table a g) (drop a e) a (length-table a g), drop-at (table a g) (drop a e) a (length-table a g), drop-drop n a e, table-append a n g)
         (sym (append-assoc (table a g) (table n (λ i. g (a + i))) (drop (a + n) e)))
 
 -- ---- the invariant of a loop that fills: the list `now`, of which k values of `entry` are filled
@@ -88,3 +88,8 @@ module _ {A : Type 0} {g : ℕ → A} {e : List A} {k : ℕ} {l : List A} (f : F
   -- what is not filled yet is as it was
   pub filling-rest : (i : ℕ) (d : A) → k ≤ i → getD l i d ≡ getD e i d
   filling-rest i d h = rw (f .is) (getD-filled-rest g e k i d h)
+
+  pub filling-part : (n : ℕ) {l′ : List A} → k + n ≤ length e → l′ ≡ take k l ++ (table n (λ i. g (k + i)) ++ drop (k + n) l) → Filling g e (k + n) l′
+  filling-part n {l′} h q =
+      let now : l′ ≡ filled (k + n) g e = q ∙ rw (f .is) (filled-part g e k n) in
+      record { within = h; long = rw now (length-filled g e (k + n) h); is = now }

@@ -5,6 +5,8 @@
 --     Moving      the answer of a search for a moving pair
 --     Elements    the numbers of buffers within limits
 --     Sums        running sums, and that they fit 64 bits
+--     Columns     a row of a flow's image, column by column
+--     RowParts    the parts of the flow that a row of the image takes
 --     Rows        a buffer worked on row by row
 --     Steps       a step by runs of pairs
 --     Whole       the two runs of all pairs
@@ -14,6 +16,8 @@ pub mod Search
 pub mod Moving
 pub mod Elements
 pub mod Sums
+pub mod Columns
+pub mod RowParts
 pub mod Rows
 pub mod Steps
 pub mod Whole

@@ -1,14 +1,14 @@
 -- A buffer worked on row by row: what a row's part of it reads, that it keeps its limits, and what the whole holds once a
 -- filled part has come back. Assumes nothing.
 use mathlib.Core.Path.{_≡_, refl, sym, ap, ap₂, _∙_, subst}
-use mathlib.Core.List.{List}
+use mathlib.Core.List.{List, _++_}
 use Prim.Native.Nat.{ℕ, zero, suc, _+_, _-_, _*_, _/_, _≤_, _<_, zero-le, min}
 use native.Mathlib.Nat.{mul-le-mul-right}
 use native.Mathlib.Decide.{decLt}
 use native.Mathlib.Omega.{arith}
 use lib.IntN.{ℤ, pos, natAbs}
 use lib.ListN.{length, getD, take, drop, length-take, length-drop, List·getD-eq-default}
-use lib.Seq.{getD-take, getD-drop, drop-at}
+use lib.Seq.{getD-take, getD-drop, drop-at, drop-drop}
 use borrow.Rule.Slice.PartMut.{putMid}
 use Rattle.model.specs.Lists.{at, table}
 use Rattle.model.proofs.Lists.{length-table}
@@ -42,6 +42,7 @@ module _ {A : Type 0} where
   put-part a n g e {l} {part} p q =
       ap (λ (k : ℕ). putMid a k l part) (part-count a n)
       ∙ ap₂ (λ (x y : List A). putMid a n x y) p q
+      ∙ ap (λ (x : List A). take a (filled a g e) ++ (table n (λ i. g (a + i)) ++ x)) (drop-drop n a (filled a g e))
       ∙ filled-part g e a n
 
 -- a part keeps the limits of the whole

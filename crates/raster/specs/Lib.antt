@@ -3,3 +3,4 @@ pub mod Stencil
 pub mod Whole
 pub mod Limits
 pub mod Run
+pub mod Rows

@@ -40,7 +40,7 @@ abbrev pub rowStep : ℕ → ℤ → List ℤ → List ℤ → ℕ → ℤ
 rowStep w weight flow image k = stepValue weight (at flow k) (at image (rowPixel w k)) (at image (rowPixel w k + 1))
 
 -- a raster's size, the lengths of the horizontal pairs' numbers and of the image, and the sizes of their numbers
-pub record RowLimits (w h : ℕ) (weight : ℤ) (flow image : List ℤ) : Type 0 where
+pub record AcrossLimits (w h : ℕ) (weight : ℤ) (flow image : List ℤ) : Type 0 where
   pub width-least : 1 ≤ w
   pub flow-length : length flow ≡ h * (w - 1)
   pub image-length : length image ≡ w * h

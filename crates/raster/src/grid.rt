@@ -6,11 +6,11 @@ ghost use Prim.Native.Nat.{ℕ, _+_, _*_};
 ghost use mathlib.Core.Path.{_≡_};
 ghost use lib.ListN.{length};
 ghost use Rattle.model.specs.Lists.{table};
-ghost use Rattle.raster.specs.Whole.{RowLimits, rowStep, GridLimits, gridStep};
+ghost use Rattle.raster.specs.Whole.{AcrossLimits, rowStep, GridLimits, gridStep};
 
 // The horizontal pairs of all rows, a run for each.
 fn step_rows(flow: &mut [i32], image: &[i32], width: usize, height: usize, weight: i32)
-    requires { ⌜ RowLimits width height weight (now flow) (now image) ⌝ }
+    requires { ⌜ AcrossLimits width height weight (now flow) (now image) ⌝ }
     ensures { λ _. ⌜ now (flow .exit) ≡ table (length (now (flow .entry))) (rowStep width weight (now (flow .entry)) (now (image .entry))) ⌝ }
 {
     let across = width - 1;

@@ -2,8 +2,10 @@
 
 use integers::signed;
 ghost use mathlib.Core.Path.{_≡_};
+ghost use mathlib.Core.Bool.{_||_};
 ghost use Prim.Native.Nat.{_+_, _*_, _^_, _≤_, _<_};
 ghost use lib.IntN.{pos, natAbs, _+ℤ_, _-ℤ_, _*ℤ_};
+ghost use lib.Signed.{ltZ};
 ghost use Rattle.integers.specs.Whole.{square, clamp};
 ghost use Rattle.model.specs.Grid.{readingOf};
 ghost use Rattle.raster.specs.Stencil.{stepValue, moves};
@@ -56,6 +58,13 @@ pub fn product(f: i32, x: i32, y: i32) -> i64
     ensures { λ r. ⌜ r ≡ f *ℤ (x -ℤ y) ⌝ }
 {
     signed::mul_wide(signed::wide(f), signed::wide(signed::sub(x, y)))
+}
+
+// Whether a value lies outside a range.
+pub fn outside(z: i32, low: i32, high: i32) -> bool
+    ensures { λ r. ⌜ r ≡ (ltZ z low || ltZ high z) ⌝ }
+{
+    signed::less(z, low) || signed::less(high, z)
 }
 
 // A pixel of a flow's image, from its reading b and the numbers of its pairs with the pixels

@@ -8,7 +8,7 @@ use Rattle.integers.specs.Whole.{quotient}
 use Rattle.model.specs.Lists.{at}
 use Rattle.raster.specs.Limits.{Within, StepLimits}
 use Rattle.raster.specs.Run.{stepAt}
-use Rattle.raster.specs.Whole.{rowStep, RowLimits, gridStep, GridLimits}
+use Rattle.raster.specs.Whole.{rowStep, AcrossLimits, gridStep, GridLimits}
 
 -- a number ahead of now, by the change since earlier times m / 2⁴⁶, rounded toward zero
 abbrev pub aheadOf : ℕ → ℤ → ℤ → ℤ
@@ -34,7 +34,7 @@ abbrev pub gridAhead : ℕ → ℕ → ℤ → ℕ → List ℤ → List ℤ →
 gridAhead w h weight m flow ahead image j = aheadOf m (at flow j) (gridStep w h weight ahead image j)
 
 pub record RowAdvance (w h : ℕ) (flow ahead image : List ℤ) (weight : ℤ) (m : ℕ) : Type 0 where
-  pub rows : RowLimits w h weight ahead image
+  pub rows : AcrossLimits w h weight ahead image
   pub same-length : length flow ≡ length ahead
   pub weight-most : natAbs weight ≤ 65280
   pub flow-most : Within 65280 flow

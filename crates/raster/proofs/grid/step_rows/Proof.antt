@@ -11,7 +11,7 @@ use mir.Val.{toZ, ofZ}
 use mir.ValLaws.{toZ-ofZ}
 use Rattle.model.specs.Lists.{table}
 use Rattle.model.proofs.Lists.{length-table}
-use Rattle.raster.specs.Whole.{RowLimits, rowStep}
+use Rattle.raster.specs.Whole.{AcrossLimits, rowStep}
 use Rattle.raster.proofs.Fill.{filled, filled-none, length-filled, filled-all}
 use Rattle.raster.proofs.Rows.{row-end, part-count, part-length, part-within, rest-is, put-part}
 use Rattle.raster.proofs.Steps.{row-stepped}

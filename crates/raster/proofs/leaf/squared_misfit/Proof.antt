@@ -10,12 +10,9 @@ use mir.ValLaws.{toZ-ofZ}
 use Rattle.integers.proofs.Absolute.{natAbs-difference, square-natAbs}
 use Rattle.integers.proofs.Machine.{read, called₂}
 use Rattle.model.specs.Grid.{readingOf}
+use Rattle.raster.proofs.Elements.{reading-most}
 use Rattle.raster.proofs.leaf.squared_misfit.Statement.{statement}
 use Rattle.raster.proofs.leaf.squared_misfit.Tie as tie
-
-reading-most : (c : tie.After-reading) → natAbs (readingOf (c .before .args .s)) ≤ 65280
-unfolding readingOf
-reading-most c = omega (arith, c .before .fits .s)
 
 distance : (c : tie.After-magnitude) → c .magnitude .result ≡ natAbs (c .before .before .before .args .x -ℤ readingOf (c .before .before .before .args .s))
 distance c =
@@ -30,7 +27,7 @@ reading-requires : tie.Need-reading-requires
 reading-requires c κs = search needs
 
 sub-requires : tie.Need-sub-requires
-sub-requires c κs = rw (toZ-ofZ w32 _ (c .before .fits .x), read w32 (c .reading .ok), c .reading .ensures) (omega (arith, reading-most c))
+sub-requires c κs = rw (toZ-ofZ w32 _ (c .before .fits .x), read w32 (c .reading .ok), c .reading .ensures) (omega (arith, reading-most (c .before .fits .s .fits)))
 
 magnitude-requires : tie.Need-magnitude-requires
 magnitude-requires c κs = search needs
@@ -41,7 +38,7 @@ cast-d c = search needs
 mul-result : tie.Need-mul-result
 mul-result c =
     let s = c .before .before .before in
-    rw (distance c) (record { fits = small (omega (arith, natAbs-difference (s .args .x) (readingOf (s .args .s)), reading-most (c .before .before))) })
+    rw (distance c) (record { fits = small (omega (arith, natAbs-difference (s .args .x) (readingOf (s .args .s)), reading-most (s .fits .s .fits))) })
 
 returns : tie.Need-returns
 returns c =

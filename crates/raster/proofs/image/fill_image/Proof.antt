@@ -1,0 +1,73 @@
+-- `raster::image::fill_image` meets its contract. Assumes nothing.
+use mathlib.Core.Path.{_≡_, ap}
+use Prim.Native.Nat.{_+_, _-_, _*_, _≤_, _<_}
+use native.Mathlib.Nat.{zero-mul}
+use native.Mathlib.Omega.{arith}
+use borrow.Author.Needs.{needs}
+use mir.Syntax.{w32}
+use mir.Val.{toZ}
+use mir.ValLaws.{toZ-ofZ}
+use Rattle.model.proofs.Lists.{length-table}
+use Rattle.raster.specs.Rows.{imageValue}
+use Rattle.raster.proofs.Fill.{Filling, filling-none, filling-part, filling-all}
+use Rattle.raster.proofs.RowParts.{row-in, same-raster}
+use Rattle.raster.proofs.image.fill_image.Statement.{statement}
+use Rattle.raster.proofs.image.fill_image.Tie as tie
+
+abbrev Inv-loop : tie.InvT-loop
+Inv-loop image₀ samples flow width height low high r₀ image r =
+    (r ≤ height) × Filling (imageValue (toZ w32 low) (toZ w32 high) samples flow width height) image₀ (r * width) image
+
+abbrev μ-loop : tie.MeasureT-loop
+μ-loop image₀ samples flow width height low high r₀ image r = height - r
+
+loop-holds : tie.Need-loop-holds Inv-loop μ-loop
+loop-holds c = (omega arith, rw (zero-mul (c .before .args .width)) (filling-none _ _))
+
+fill-row-requires : tie.Need-fill-row-requires Inv-loop μ-loop
+fill-row-requires c κs =
+    let s = c .before .before .before .before in
+    let l = c .before .before .loop in
+    record { raster = same-raster (s .pre) (l .inv .1 .long); row-most = omega arith }
+
+add-r : tie.Need-add-r Inv-loop μ-loop
+add-r c = search needs
+
+loop-less : tie.Need-loop-less Inv-loop μ-loop
+loop-less c = search needs
+
+loop-again : tie.Need-loop-again Inv-loop μ-loop
+loop-again c =
+    let s = c .before .before .before .before .before .before in
+    let l = c .before .before .before .before .loop in
+    let w = s .args .width in
+    let next : (l .r + 1) * w ≡ l .r * w + w = omega arith in
+    let inside : l .r < s .args .height = omega arith in (
+      omega arith,
+      rw next (filling-part (l .inv .1) w (omega (arith, s .pre, row-in w inside)) (rw (length-table w) at (c .before .fill-row .ensures))),
+    )
+
+same-length : tie.Need-same-length Inv-loop μ-loop
+same-length c = c .before .loop .inv .1 .long
+
+returns : tie.Need-returns Inv-loop μ-loop
+returns c =
+    let s = c .before .before .before in
+    let l = c .before .loop in
+    let last : l .r ≡ s .args .height = omega arith in
+    rw (s .pre .image-count, toZ-ofZ w32 _ (s .fits .low), toZ-ofZ w32 _ (s .fits .high))
+    at (filling-all (l .inv .1) (omega (arith, s .pre, ap (λ r. r * s .args .width) last)))
+
+pub fill-image-spec : {M : Type 1} → statement M
+fill-image-spec =
+    tie.close
+    (tie.spec
+    Inv-loop
+    μ-loop
+    loop-holds
+    fill-row-requires
+    add-r
+    loop-less
+    loop-again
+    same-length
+    returns)
