@@ -1,4 +1,4 @@
-//! The types of the reference for the library's, which has its own.
+//! From the reference's types to the library's, and back.
 
 #[cfg(feature = "tape")]
 use relief_reference::Job;

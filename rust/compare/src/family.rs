@@ -15,7 +15,7 @@ pub trait Input: Clone + Debug {
     fn difference(&self, other: &Self) -> Option<String>;
 }
 
-/// The first place where two buffers of one length differ.
+/// The first place where a buffer differs from another of its length.
 pub fn first_difference<T: PartialEq + Debug>(
     name: &str,
     one: &[T],
@@ -23,7 +23,7 @@ pub fn first_difference<T: PartialEq + Debug>(
 ) -> Option<String> {
     let index = one.iter().zip(other).position(|(a, b)| a != b)?;
     Some(format!(
-        "{name}[{index}] is {:?}, and {:?} in the reference",
+        "{name}[{index}] is {:?}, not {:?}",
         one[index], other[index]
     ))
 }
@@ -45,9 +45,9 @@ impl<I: Input, T: Debug + PartialEq> Call<I, T> {
         // A refused call leaves what it was lent.
         let left = if expected.is_ok() { &theirs } else { input };
         let differs = match catch_unwind(AssertUnwindSafe(|| (self.library)(&mut ours))) {
-            Err(_) => Some("panic".to_string()),
+            Err(_) => Some("the call panicked".to_string()),
             Ok(answer) if answer != expected => {
-                Some(format!("{answer:?}, and {expected:?} in the reference"))
+                Some(format!("the answer is {answer:?}, not {expected:?}"))
             }
             Ok(_) => ours.difference(left),
         };
@@ -104,7 +104,7 @@ impl Display for Tally {
         let total: usize = self.accepted.values().chain(self.refused.values()).sum();
         write!(out, "{total} compared")?;
         for (word, count) in &self.accepted {
-            write!(out, "; {word} {count}")?;
+            write!(out, "; {word}: {count}")?;
         }
         for (number, count) in &self.refused {
             write!(out, "; refused {number}: {count}")?;

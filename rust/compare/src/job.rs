@@ -68,58 +68,71 @@ impl JobInput {
 type Fault = fn(&mut JobInput, &mut Random);
 
 const FAULTS: [Fault; 11] = [
-    |input, random| {
-        let Terms { width, height, .. } = input.terms;
-        // Products of 2^32 and more among them, which are small in 32 bits.
-        (input.terms.width, input.terms.height) = random.pick(&[
-            (0, height),
-            (width, 0),
-            (4_097, height),
-            (width, 4_097),
-            (4_096, 257),
-            (257, 4_096),
-            (65_536, 65_536),
-            (1 << 31, 2),
-            (u32::MAX, u32::MAX),
-        ]);
-        if random.below(2) == 0 {
-            input.samples.clear();
-            input.flow.clear();
-            input.image.clear();
-            input.work.clear();
-        }
-    },
-    |input, random| {
-        let beyond = random.between(i64::from(WEIGHT_LIMIT) + 1, u32::MAX.into()) as u32;
-        input.terms.weight = random.pick(&[WEIGHT_LIMIT + 1, beyond, u32::MAX]);
-    },
-    |input, random| {
-        input.terms.low = random.between(1, 255) as u8;
-        input.terms.high = random.below(input.terms.low.into()) as u8;
-    },
-    |input, random| {
-        let beyond = random.between(i64::from(QUICK_LIMIT) + 1, u32::MAX.into()) as u32;
-        input.rounds.quick = random.pick(&[QUICK_LIMIT + 1, beyond, u32::MAX]);
-    },
+    size,
+    weight,
+    ends_of_the_box,
+    quick_rounds,
     |input, random| resize(&mut input.samples, random, Random::byte),
     |input, random| resize(&mut input.flow, random, Random::number),
     |input, random| resize(&mut input.image, random, Random::number),
     |input, random| resize(&mut input.work, random, Random::number),
     |input, random| resize(&mut input.output, random, Random::byte),
-    |input, random| {
-        let beyond = i64::from(input.terms.weight) + 1;
-        spoil_values(&mut input.flow, random, -beyond, beyond);
-    },
-    |input, random| {
-        let (lower, upper) = input.terms.bounds().into_inner();
-        spoil_values(
-            &mut input.image,
-            random,
-            (lower - 1).into(),
-            (upper + 1).into(),
-        );
-    },
+    flow_values,
+    image_values,
 ];
+
+/// A size beyond the limits, in half of the cases with empty buffers: products of 2^32 and
+/// more are small in 32 bits.
+fn size(input: &mut JobInput, random: &mut Random) {
+    let Terms { width, height, .. } = input.terms;
+    (input.terms.width, input.terms.height) = random.pick(&[
+        (0, height),
+        (width, 0),
+        (4_097, height),
+        (width, 4_097),
+        (4_096, 257),
+        (257, 4_096),
+        (65_536, 65_536),
+        (1 << 31, 2),
+        (u32::MAX, u32::MAX),
+    ]);
+    if random.below(2) == 0 {
+        input.samples.clear();
+        input.flow.clear();
+        input.image.clear();
+        input.work.clear();
+    }
+}
+
+fn weight(input: &mut JobInput, random: &mut Random) {
+    input.terms.weight = above(random, WEIGHT_LIMIT);
+}
+
+fn ends_of_the_box(input: &mut JobInput, random: &mut Random) {
+    input.terms.low = random.between(1, 255) as u8;
+    input.terms.high = random.below(input.terms.low.into()) as u8;
+}
+
+fn quick_rounds(input: &mut JobInput, random: &mut Random) {
+    input.rounds.quick = above(random, QUICK_LIMIT);
+}
+
+fn flow_values(input: &mut JobInput, random: &mut Random) {
+    let beyond = i64::from(input.terms.weight) + 1;
+    spoil_values(&mut input.flow, random, -beyond, beyond);
+}
+
+fn image_values(input: &mut JobInput, random: &mut Random) {
+    let (lower, upper) = input.terms.bounds().into_inner();
+    let (below, above) = (i64::from(lower) - 1, i64::from(upper) + 1);
+    spoil_values(&mut input.image, random, below, above);
+}
+
+/// A number above the limit: the next, the last or any.
+fn above(random: &mut Random, limit: u32) -> u32 {
+    let any = random.between(i64::from(limit) + 1, u32::MAX.into()) as u32;
+    random.pick(&[limit + 1, u32::MAX, any])
+}
 
 /// Gives a buffer another length: one more, one less, none or any up to twice as many.
 fn resize<T>(buffer: &mut Vec<T>, random: &mut Random, value: fn(&mut Random) -> T) {

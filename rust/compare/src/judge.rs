@@ -76,8 +76,8 @@ fn large(step: usize) -> impl Iterator<Item = JobInput> {
     })
 }
 
-/// The job on a chessboard at the largest weight, with a flow at its ends, whose sign decides
-/// whether price minus floor is as large as can be.
+/// The job on a chessboard, with the largest weight and a flow at its ends. With sign 1 the
+/// slack is as large as can be.
 fn extreme(mut input: JobInput, sign: i32) -> JobInput {
     let (width, height) = (input.terms.width as usize, input.terms.height as usize);
     input.terms.weight = WEIGHT_LIMIT;

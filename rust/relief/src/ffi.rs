@@ -1,8 +1,8 @@
 //! The boundary: the functions of `include/relief.h` over slices. All `unsafe` code is here.
 //!
 //! Nothing checks these declarations against the library's source. So every number that a
-//! call is to set starts as something else than it should become, and a call panics where
-//! the library breaks the header's promise of zeros.
+//! call is to set starts as the largest of its type, and a call panics where the header's
+//! promise of zeros, of an outcome or of a yes or no is not kept.
 
 #![allow(unsafe_code)]
 

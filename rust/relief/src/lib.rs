@@ -5,6 +5,20 @@
 //! what each number means, which lengths the buffers have, and when a call is refused.
 //!
 //! A call is there with its feature: `judge` (price, check), `run`, `tape` (read, write).
+//!
+//! ```
+//! let terms = relief::Terms {
+//!     width: 2,
+//!     height: 1,
+//!     weight: 256,
+//!     low: 0,
+//!     high: 255,
+//! };
+//! let (samples, flow, mut image) = ([0, 2], [-256], [0; 2]);
+//! let figures = relief::check(&terms, &samples, &flow, &mut image).unwrap();
+//! assert_eq!(image, [256, 256]);
+//! assert_eq!((figures.price, figures.slack), (131_072, 0));
+//! ```
 
 mod ffi;
 
