@@ -20,15 +20,14 @@ use std::process::ExitCode;
 
 use family::Difference;
 
-/// Of a family's inputs a quick comparison takes the first and every 19th after it. An odd
-/// number, so that the bytes that stand for another on a tape take all 256 values.
+/// Of a family's inputs a quick comparison takes the first and every 19th after it: an odd
+/// step, so that the changed bytes of tapes take all 256 values.
 const QUICK_STEP: usize = 19;
 
 fn main() -> ExitCode {
-    let arguments: Vec<String> = env::args().skip(1).collect();
-    let step = match arguments.iter().map(String::as_str).collect::<Vec<_>>()[..] {
-        ["quick"] => QUICK_STEP,
-        ["full"] => 1,
+    let step = match env::args().nth(1).as_deref() {
+        Some("quick") => QUICK_STEP,
+        Some("full") => 1,
         _ => {
             eprintln!("usage: compare quick | compare full");
             return ExitCode::from(2);
