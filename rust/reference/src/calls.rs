@@ -1,5 +1,6 @@
 //! The calls on a job: price, check and run.
 
+use crate::grid::Grid;
 use crate::problem::{widened, Problem};
 use crate::refusal::{Fault, Refusal};
 use crate::rounds::{quick_rounds, steady_rounds, Outcome};
@@ -44,12 +45,7 @@ pub fn check(
     flow: &[i32],
     image: &mut [i32],
 ) -> Result<Figures, Refusal> {
-    let grid = terms.judge()?;
-    Fault::SamplesLength.unless(samples.len() == grid.pixel_count())?;
-    Fault::FlowLength.unless(flow.len() == grid.pair_count())?;
-    Fault::ImageLength.unless(image.len() == grid.pixel_count())?;
-    terms.judge_flow(flow)?;
-
+    let grid = judge_check(terms, samples, flow, image)?;
     let problem = Problem::new(grid, terms, samples);
     Ok(certify(
         &problem,
@@ -58,6 +54,21 @@ pub fn check(
         0,
         image,
     ))
+}
+
+/// The grid of a check, if nothing makes it turn back.
+pub(crate) fn judge_check(
+    terms: &Terms,
+    samples: &[u8],
+    flow: &[i32],
+    image: &[i32],
+) -> Result<Grid, Refusal> {
+    let grid = terms.judge()?;
+    Fault::SamplesLength.unless(samples.len() == grid.pixel_count())?;
+    Fault::FlowLength.unless(flow.len() == grid.pair_count())?;
+    Fault::ImageLength.unless(image.len() == grid.pixel_count())?;
+    terms.judge_flow(flow)?;
+    Ok(grid)
 }
 
 /// Does the rounds, starting from flow 0, and fills `flow` and `image`.

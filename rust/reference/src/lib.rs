@@ -2,7 +2,7 @@
 //!
 //! The calls work in buffers that the caller lends, test all of their input
 //! themselves, and leave every buffer as it was when they refuse. Inside, plain
-//! definitions on vectors are preferred to speed; only the `_plain` rounds are fast.
+//! definitions on vectors are preferred to speed; only the loop nests of [`plain`] are fast.
 //!
 //! Names follow the literature on total variation. Document 01's words are kept
 //! in formats and answers, and given in a comment where a name differs:
@@ -18,6 +18,7 @@
 
 pub mod calls;
 pub mod grid;
+pub mod plain;
 pub mod problem;
 pub mod program;
 pub mod refusal;

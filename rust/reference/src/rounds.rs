@@ -1,16 +1,12 @@
 //! The rounds of a run: accelerated, then plain gradient projection on the dual
 //! (Beck and Teboulle's FGP and GP), in whole numbers.
 
-mod plain;
-
 use std::fmt;
 
 use crate::problem::Problem;
 
-pub use plain::{quick_round_plain, steady_round_plain};
-
 /// A step adds to each flow number this part of its pair's difference.
-const STEP_DIVISOR: i32 = 8;
+pub(crate) const STEP_DIVISOR: i32 = 8;
 
 /// What stands for 1 in FGP's sequence `t`; also the first of document 01's T.
 pub const T_UNIT: u64 = 65_536;

@@ -1,11 +1,12 @@
 //! What every answer promises, tried on thousands of random jobs: the distance
 //! guarantee on the grid and its whole divisions, and the bounds of a run.
 
+use relief_inputs::Random;
 use relief_reference::problem::{squared_distance, widened};
 use relief_reference::rounds::{quick_rounds, step};
 use relief_reference::{Outcome, Problem};
 
-use crate::support::{multiplied, two_by_one, Answer, Case, Random};
+use crate::support::{multiplied, two_by_one, Answer, Case};
 
 const JOBS: usize = 10_000;
 
@@ -25,6 +26,21 @@ fn assert_distance_guarantee(problem: &Problem, flow: &[i64], rival: &[i64]) {
     if slack == 0 {
         assert_eq!(rival_price == price, rival == image);
     }
+}
+
+/// An image with values from `lower` to `upper`: anything, near `near`, constant or of
+/// both ends only.
+fn rival(random: &mut Random, lower: i64, upper: i64, near: &[i64]) -> Vec<i64> {
+    let style = random.below(4);
+    let constant = random.between(lower, upper);
+    near.iter()
+        .map(|value| match style {
+            0 => random.between(lower, upper),
+            1 => (value + random.between(-3, 3)).clamp(lower, upper),
+            2 => constant,
+            _ => random.pick(&[lower, upper]),
+        })
+        .collect()
 }
 
 /// The guarantee for an answer of check or run, whose numbers are the defined ones.
@@ -49,7 +65,7 @@ fn assert_certified(random: &mut Random, case: &Case, answer: &Answer) {
         assert_eq!(problem.duality_gap(&flow), area * slack);
         assert_distance_guarantee(&problem, &flow, &image);
         for _ in 0..RIVALS {
-            let rival = random.image(k * lower, k * upper, &image);
+            let rival = rival(random, k * lower, k * upper, &image);
             assert_distance_guarantee(&problem, &flow, &rival);
         }
     }
@@ -60,8 +76,8 @@ fn checks_are_certified() {
     let mut random = Random::new(0xC4EC);
     let mut gapless = 0;
     for _ in 0..JOBS {
-        let case = random.small_case();
-        let flow = random.flow(&case);
+        let case = Case::small(&mut random);
+        let flow = case.flow(&mut random);
         let answer = case.check(&flow).unwrap();
         assert_eq!(answer.figures.outcome, Outcome::Checked);
         assert_eq!(answer.figures.moved, 0);
@@ -79,7 +95,7 @@ fn runs_are_certified_and_bounded() {
     let mut random = Random::new(0x4D4);
     let (mut settled, mut spent, mut sure_to_settle) = (0, 0, 0);
     for _ in 0..JOBS {
-        let case = random.small_case();
+        let case = Case::small(&mut random);
         let answer = case.run().unwrap();
         assert_certified(&mut random, &case, &answer);
         assert!(answer.work.iter().all(|&value| value == 0));
@@ -124,9 +140,9 @@ fn a_step_that_moves_raises_the_floor_by_eight() {
     let mut random = Random::new(0xF1004);
     let mut moving = 0;
     for _ in 0..JOBS {
-        let case = random.small_case();
+        let case = Case::small(&mut random);
         let problem = case.problem();
-        let flow = widened(&random.flow(&case));
+        let flow = widened(&case.flow(&mut random));
         let stepped = step(&problem, &flow);
         if stepped != flow {
             moving += 1;

@@ -1,9 +1,13 @@
 //! The loop nests over 32-bit buffers against the definitions.
 
+use relief_inputs::{chessboard, chessboard_flow, Random};
+use relief_reference::check;
+use relief_reference::plain::{check_plain, quick_round_plain, steady_round_plain};
 use relief_reference::problem::widened;
-use relief_reference::rounds::{quick_round_plain, quick_rounds, steady_round_plain, step, T_UNIT};
+use relief_reference::rounds::{quick_rounds, step, T_UNIT};
+use relief_reference::terms::WEIGHT_LIMIT;
 
-use crate::support::{marked, Case, Random};
+use crate::support::{marked, two_by_one, Case};
 
 /// Many sizes, one row and one column among them.
 fn cases(seed: u64) -> impl Iterator<Item = (Random, Case)> {
@@ -11,16 +15,49 @@ fn cases(seed: u64) -> impl Iterator<Item = (Random, Case)> {
     let sizes = [(1, 1), (1, 9), (9, 1), (2, 2), (17, 13), (40, 31)];
     (0..240).map(move |turn| {
         let (width, height) = sizes[turn % sizes.len()];
-        let case = random.sized_case(width, height);
+        let case = Case::sized(&mut random, width, height);
         (Random::new(seed + turn as u64), case)
     })
+}
+
+/// Both checks of `flow`, and what they leave in the image.
+fn assert_check(case: &Case, flow: &[i32]) {
+    let Case { terms, samples, .. } = case;
+    let mut image = marked(samples.len());
+    let mut expected_image = image.clone();
+    let figures = check_plain(terms, samples, flow, &mut image);
+    assert_eq!(figures, check(terms, samples, flow, &mut expected_image));
+    assert_eq!(image, expected_image);
+}
+
+#[test]
+fn check_equals_the_definition() {
+    for (mut random, case) in cases(0xC4EC) {
+        let mut flow = case.flow(&mut random);
+        assert_check(&case, &flow);
+        flow.push(0);
+        assert_check(&case, &flow);
+    }
+}
+
+#[test]
+fn check_equals_the_definition_at_the_largest_totals() {
+    let (width, height) = (1_024, 1_024);
+    let weight = WEIGHT_LIMIT as i32;
+    let mut case = two_by_one();
+    (case.terms.width, case.terms.height) = (width as u32, height as u32);
+    case.terms.weight = WEIGHT_LIMIT;
+    case.samples = chessboard(width, height);
+    for value in [-weight, 0, weight] {
+        assert_check(&case, &chessboard_flow(width, height, value));
+    }
 }
 
 #[test]
 fn steady_round_equals_the_step() {
     for (mut random, case) in cases(0x57EAD) {
         let problem = case.problem();
-        let mut flow = random.flow(&case);
+        let mut flow = case.flow(&mut random);
         let mut image = marked(case.samples.len());
         for _ in 0..3 {
             let before = widened(&flow);
@@ -59,7 +96,7 @@ fn quick_rounds_equal_the_definition() {
 fn all_quick_rounds_at_the_largest_weight() {
     let mut random = Random::new(0xF10);
     for _ in 0..4 {
-        let mut case = random.sized_case(4, 3);
+        let mut case = Case::sized(&mut random, 4, 3);
         case.terms.weight = 65_280;
         assert_quick_rounds(&case, 4_096);
     }

@@ -3,9 +3,10 @@
 use std::io::Write;
 use std::process::{Command, Stdio};
 
+use relief_inputs::Random;
 use relief_reference::program::{clean, FLOW_TABLE, INPUT_LIMIT, SAMPLE_TABLE};
 
-use crate::support::{two_by_one, Random};
+use crate::support::{two_by_one, Case};
 
 const SETTLED: &str = "\
 outcome moved price floor slack
@@ -61,16 +62,16 @@ fn refusals_of_the_input() {
 #[test]
 fn the_tables_hold_every_size_up_to_4096_pixels() {
     let mut random = Random::new(0x7AB1E);
-    let mut full = random.sized_case(64, 64);
+    let mut full = Case::sized(&mut random, 64, 64);
     full.rounds.allowance = 1;
     assert_eq!(full.grid().pixel_count(), SAMPLE_TABLE);
     assert_eq!(full.grid().pair_count(), FLOW_TABLE);
-    let flow = random.flow(&full);
+    let flow = full.flow(&mut random);
     assert_eq!(clean(&full.tape(&[])).lines().count(), 2 + 64);
     assert!(clean(&full.tape(&flow)).contains("\nchecked 0 "));
 
     for (width, height, taken) in [(4_096, 1, true), (1, 4_096, true), (17, 241, false)] {
-        let mut job = random.sized_case(width, height);
+        let mut job = Case::sized(&mut random, width, height);
         job.rounds.allowance = 1;
         let text = clean(&job.tape(&[]));
         assert_eq!(text.starts_with("outcome"), taken);

@@ -1,104 +1,10 @@
-//! Jobs, random numbers and lent buffers that the tests share.
+//! Jobs and lent buffers that the tests share.
 
+use relief_inputs::Random;
+use relief_reference::terms::WEIGHT_LIMIT;
 use relief_reference::{
     check, price, read, run, write, Figures, Grid, Job, Outcome, Problem, Refusal, Rounds, Terms,
 };
-
-/// Marsaglia's xorshift generator: the same numbers for the same seed everywhere.
-pub struct Random(u64);
-
-impl Random {
-    /// A generator from a seed that is not 0.
-    pub fn new(seed: u64) -> Random {
-        Random(seed)
-    }
-
-    fn bits(&mut self) -> u64 {
-        self.0 ^= self.0 << 13;
-        self.0 ^= self.0 >> 7;
-        self.0 ^= self.0 << 17;
-        self.0
-    }
-
-    /// A whole number from `low` to `high`, both included.
-    pub fn between(&mut self, low: i64, high: i64) -> i64 {
-        low + (self.bits() % (high - low + 1) as u64) as i64
-    }
-
-    pub fn pick<T: Copy>(&mut self, choices: &[T]) -> T {
-        choices[self.between(0, choices.len() as i64 - 1) as usize]
-    }
-
-    /// A box: all levels, one level, or any.
-    fn ends(&mut self) -> (u8, u8) {
-        let (a, b) = (self.between(0, 255) as u8, self.between(0, 255) as u8);
-        let any = (a.min(b), a.max(b));
-        self.pick(&[(0, 255), (0, 255), any, any, (a, a)])
-    }
-
-    /// A weight, in sub-units, up to `limit`: often 0, small or the limit.
-    fn weight(&mut self, limit: i64) -> u32 {
-        let small = self.between(1, 20);
-        let middle = self.between(0, 2_000);
-        let any = self.between(0, limit);
-        self.pick(&[0, limit, small, middle, middle, any]) as u32
-    }
-
-    /// A job of the given size.
-    pub fn sized_case(&mut self, width: u32, height: u32) -> Case {
-        let (low, high) = self.ends();
-        let weight = self.weight(65_280);
-        let darkest = self.pick(&[0, 100]);
-        let brightest = self.pick(&[darkest + 2, 255]);
-        Case {
-            terms: Terms {
-                width,
-                height,
-                weight,
-                low,
-                high,
-            },
-            rounds: Rounds {
-                quick: self.pick(&[0, 0, 1, 2, 3, 12]),
-                allowance: self.pick(&[0, 1, 5, 40, 65_535]),
-            },
-            samples: (0..width * height)
-                .map(|_| self.between(darkest, brightest) as u8)
-                .collect(),
-        }
-    }
-
-    /// A job of at most 5 by 5 pixels.
-    pub fn small_case(&mut self) -> Case {
-        let sides = [1, 1, 2, 3, 4, 5];
-        let (width, height) = (self.pick(&sides), self.pick(&sides));
-        self.sized_case(width, height)
-    }
-
-    /// A flow that a check accepts for the job.
-    pub fn flow(&mut self, case: &Case) -> Vec<i32> {
-        let weight = i64::from(case.terms.weight);
-        let largest = self.pick(&[weight, weight / 8]);
-        (0..case.grid().pair_count())
-            .map(|_| self.between(-largest, largest) as i32)
-            .collect()
-    }
-
-    /// An image with values from `lower` to `upper`: anything, near `near`, constant
-    /// or of both ends only.
-    pub fn image(&mut self, lower: i64, upper: i64, near: &[i64]) -> Vec<i64> {
-        let style = self.between(0, 3);
-        let constant = self.between(lower, upper);
-        near.iter()
-            .map(|value| match style {
-                0 => self.between(lower, upper),
-                1 => (value + self.between(-3, 3)).clamp(lower, upper),
-                2 => constant,
-                _ => self.pick(&[lower, upper]),
-            })
-            .collect()
-    }
-}
 
 /// An accepted job without a flow.
 #[derive(Clone, Debug)]
@@ -136,6 +42,37 @@ pub fn two_by_one() -> Case {
 }
 
 impl Case {
+    /// A random job of the given size.
+    pub fn sized(random: &mut Random, width: u32, height: u32) -> Case {
+        let (low, high) = random.levels();
+        Case {
+            terms: Terms {
+                width,
+                height,
+                weight: random.weight(WEIGHT_LIMIT),
+                low,
+                high,
+            },
+            rounds: Rounds {
+                quick: random.pick(&[0, 0, 1, 2, 3, 12]),
+                allowance: random.pick(&[0, 1, 5, 40, 65_535]),
+            },
+            samples: random.samples((width * height) as usize),
+        }
+    }
+
+    /// A random job of at most 5 by 5 pixels.
+    pub fn small(random: &mut Random) -> Case {
+        let sides = [1, 1, 2, 3, 4, 5];
+        let (width, height) = (random.pick(&sides), random.pick(&sides));
+        Case::sized(random, width, height)
+    }
+
+    /// A random flow that a check accepts for the job.
+    pub fn flow(&self, random: &mut Random) -> Vec<i32> {
+        random.flow(self.grid().pair_count(), self.terms.weight)
+    }
+
     pub fn grid(&self) -> Grid {
         self.terms.judge().expect("a case has accepted terms")
     }

@@ -1,9 +1,10 @@
 //! Tapes written and read back, cut short and changed.
 
+use relief_inputs::Random;
 use relief_reference::program::{clean, FLOW_TABLE, SAMPLE_TABLE};
 use relief_reference::{Job, Refusal};
 
-use crate::support::{read_back, refusal, two_by_one, Case, Random};
+use crate::support::{read_back, refusal, two_by_one, Case};
 
 #[test]
 fn bytes_of_the_two_by_one_tape() {
@@ -46,8 +47,8 @@ fn read_and_write_again(tape: &[u8]) -> Result<Job, Refusal> {
 fn a_written_tape_reads_back_as_the_job() {
     let mut random = Random::new(0x7A9E);
     for _ in 0..2_000 {
-        let case = random.small_case();
-        for flow in [Vec::new(), random.flow(&case)] {
+        let case = Case::small(&mut random);
+        for flow in [Vec::new(), case.flow(&mut random)] {
             let taken = read_back(&case.tape(&flow), 30, 50);
             let job = Job {
                 terms: case.terms,

@@ -1,14 +1,49 @@
-//! The same rounds as loop nests over lent 32-bit buffers, for speed.
+//! Check and the rounds again, as loop nests over lent 32-bit buffers, for speed.
 //!
-//! Both functions expect accepted terms and buffers of the exact lengths.
+//! The rounds expect accepted terms and buffers of the exact lengths.
 //!
 //! 32 bits are enough: T never falls, so an extrapolated flow stays within three
 //! times the weight, and readings less four such numbers stay below 2^20.
 
 use std::ops::Range;
 
-use super::{next_t, STEP_DIVISOR, T_UNIT};
+use crate::calls::{judge_check, Figures};
+use crate::refusal::Refusal;
+use crate::rounds::{next_t, Outcome, STEP_DIVISOR, T_UNIT};
 use crate::terms::{reading, Terms};
+
+/// Judges a given flow and fills `image` with its image: what `check` answers.
+pub fn check_plain(
+    terms: &Terms,
+    samples: &[u8],
+    flow: &[i32],
+    image: &mut [i32],
+) -> Result<Figures, Refusal> {
+    judge_check(terms, samples, flow, image)?;
+    fill_image(terms, samples, flow, image);
+    let mut fidelity = 0;
+    for (&value, &sample) in image.iter().zip(samples) {
+        let distance = u64::from(value.abs_diff(reading(sample)));
+        fidelity += distance * distance;
+    }
+    let (mut variation, mut coupling) = (0, 0);
+    for_each_run(terms, image, |pairs, firsts, seconds| {
+        for ((&value, first), second) in flow[pairs].iter().zip(firsts).zip(seconds) {
+            let difference = first - second;
+            variation += u64::from(difference.unsigned_abs());
+            coupling += i64::from(value) * i64::from(difference);
+        }
+    });
+    let price = fidelity + 2 * u64::from(terms.weight) * variation;
+    let floor = fidelity as i64 + 2 * coupling;
+    Ok(Figures {
+        outcome: Outcome::Checked,
+        moved: 0,
+        price,
+        floor,
+        slack: (price as i64 - floor) as u64,
+    })
+}
 
 /// Replaces `flow` by its step, leaves in `image` the image of the flow before the
 /// step, and says whether a value changed.

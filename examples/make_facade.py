@@ -1,0 +1,68 @@
+#!/usr/bin/env python3
+"""Makes a scan of a small façade, as PGM on standard output (examples/facade.pgm).
+
+Levels are heights of the surface: courses of stones with joints between them, a window with its
+reveal, lintel and sill, stones that are worn, and the noise of a scanner.
+"""
+
+import random
+import sys
+
+import pgm
+
+WIDTH, HEIGHT = 64, 48
+COURSE, STONE = 8, 16
+JOINT = 118
+WINDOW = dict(left=24, right=40, top=14, bottom=34)
+
+
+def stone_height(stone, course):
+    """The height of a stone's face: each sticks out a little differently."""
+    return 150 + (stone * 7 + course * 11) % 13 - 6
+
+
+def masonry(x, y):
+    """Courses of stones, every second one moved by half a stone, with joints of one pixel."""
+    course, in_course = divmod(y, COURSE)
+    stone, in_stone = divmod(x + course % 2 * STONE // 2, STONE)
+    if in_course == COURSE - 1 or in_stone == STONE - 1:
+        return JOINT
+    return stone_height(stone, course) - wear(in_stone, in_course, stone, course)
+
+
+def wear(in_stone, in_course, stone, course):
+    """What a worn stone has lost: most at its lower edge, with a pit in some."""
+    if (stone + 2 * course) % 5 != 0:
+        return 0
+    pit = 12 if abs(in_stone - 6) < 3 and abs(in_course - 3) < 2 else 0
+    return 2 * in_course + pit
+
+
+def facade(x, y):
+    """The surface without the noise."""
+    inside_x = WINDOW["left"] <= x < WINDOW["right"]
+    if inside_x and WINDOW["top"] <= y < WINDOW["bottom"]:
+        depth = min(x - WINDOW["left"], WINDOW["right"] - 1 - x, y - WINDOW["top"])
+        return 100 - 15 * depth if depth < 3 else 40
+    if WINDOW["left"] - 3 <= x < WINDOW["right"] + 3:
+        if WINDOW["top"] - 4 <= y < WINDOW["top"]:
+            return 172
+        if WINDOW["bottom"] <= y < WINDOW["bottom"] + 3:
+            return 190
+    return masonry(x, y)
+
+
+def scanned(height, source):
+    """A height as the scanner gives it: with noise of about 5 levels."""
+    noise = 5 * (sum(source.random() for _ in range(12)) - 6)
+    return max(0, min(255, round(height + noise)))
+
+
+def main():
+    source = random.Random(1)
+    rows = [[scanned(facade(x, y), source) for x in range(WIDTH)] for y in range(HEIGHT)]
+    sys.stdout.write(pgm.text(rows))
+
+
+if __name__ == "__main__":
+    main()

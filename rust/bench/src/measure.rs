@@ -1,0 +1,93 @@
+//! The job that both sides work on, and how they are timed.
+
+use std::time::{Duration, Instant};
+
+use relief_inputs::Random;
+use relief_reference::{Grid, Terms};
+
+/// Measurements of each side, after one that warms up.
+pub const REPETITIONS: usize = 7;
+
+/// Pixels that one measurement of a side visits at least.
+const PIXELS: usize = 1 << 23;
+
+/// A square job and its buffers.
+pub struct Lent {
+    pub side: u32,
+    pub terms: Terms,
+    /// The same in the library's type.
+    pub library_terms: relief::Terms,
+    pub samples: Vec<u8>,
+    pub flow: Vec<i32>,
+    pub image: Vec<i32>,
+    #[cfg(feature = "run")]
+    pub work: Vec<i32>,
+}
+
+impl Lent {
+    /// A noisy job whose steady rounds go on for long, with a flow that a check accepts.
+    pub fn new(side: u32) -> Lent {
+        let mut random = Random::new(0xBE2C4);
+        let (width, height) = (side, side);
+        let (weight, low, high) = (16_384, 16, 240);
+        let grid = Grid::new(side, side).expect("a size within the limits");
+        let (pixels, pairs) = (grid.pixel_count(), grid.pair_count());
+        Lent {
+            side,
+            terms: Terms {
+                width,
+                height,
+                weight,
+                low,
+                high,
+            },
+            library_terms: relief::Terms {
+                width,
+                height,
+                weight,
+                low,
+                high,
+            },
+            samples: random.bytes(pixels),
+            flow: random.flow(pairs, weight),
+            image: vec![0; pixels],
+            #[cfg(feature = "run")]
+            work: vec![0; 2 * pairs],
+        }
+    }
+}
+
+/// Times both sides by turns and prints the medians for one pixel and turn, where each side
+/// takes `turns` turns over all pixels.
+pub fn report(
+    name: &str,
+    lent: &mut Lent,
+    turns: usize,
+    library: impl Fn(&mut Lent),
+    reference: impl Fn(&mut Lent),
+) {
+    let pixels = lent.samples.len();
+    let repeats = PIXELS.div_ceil(pixels * turns);
+    let visits = (repeats * turns * pixels) as f64;
+    let mut times = [Vec::new(), Vec::new()];
+    for _ in 0..=REPETITIONS {
+        times[0].push(timed(|| (0..repeats).for_each(|_| library(lent))));
+        times[1].push(timed(|| (0..repeats).for_each(|_| reference(lent))));
+    }
+    let [ours, theirs] = times.map(|times| median(&times[1..]).as_secs_f64() * 1e9 / visits);
+    let ratio = ours / theirs;
+    let side = lent.side;
+    println!("{name:13}{side:5} x {side:<5}{ours:9.2}{theirs:11.2}{ratio:8.2}");
+}
+
+fn timed(work: impl FnOnce()) -> Duration {
+    let start = Instant::now();
+    work();
+    start.elapsed()
+}
+
+fn median(times: &[Duration]) -> Duration {
+    let mut times = times.to_vec();
+    times.sort();
+    times[times.len() / 2]
+}

@@ -1,0 +1,155 @@
+//! What calls on a job are lent: jobs that are accepted, and faults to spoil them with.
+
+use relief_inputs::Random;
+use relief_reference::terms::{QUICK_LIMIT, WEIGHT_LIMIT};
+use relief_reference::{Grid, Rounds, Terms};
+
+use crate::family::{first_difference, Input};
+
+/// The sizes with the most pixels: with the longest rows, with the longest columns, square.
+pub const LARGEST: [(u32, u32); 3] = [(4_096, 256), (256, 4_096), (1_024, 1_024)];
+
+/// Everything that the calls on a job are lent. Buffers that a call does not take are empty.
+#[derive(Clone, Debug)]
+pub struct JobInput {
+    pub terms: Terms,
+    pub rounds: Rounds,
+    pub samples: Vec<u8>,
+    pub flow: Vec<i32>,
+    pub image: Vec<i32>,
+    pub work: Vec<i32>,
+    pub output: Vec<u8>,
+}
+
+impl Input for JobInput {
+    fn difference(&self, other: &JobInput) -> Option<String> {
+        first_difference("samples", &self.samples, &other.samples)
+            .or_else(|| first_difference("flow", &self.flow, &other.flow))
+            .or_else(|| first_difference("image", &self.image, &other.image))
+            .or_else(|| first_difference("work", &self.work, &other.work))
+            .or_else(|| first_difference("output", &self.output, &other.output))
+    }
+}
+
+impl JobInput {
+    /// A job that price and check accept, without rounds, work and output.
+    pub fn accepted(random: &mut Random, (width, height): (u32, u32)) -> JobInput {
+        let (low, high) = random.levels();
+        let terms = Terms {
+            width,
+            height,
+            weight: random.weight(WEIGHT_LIMIT),
+            low,
+            high,
+        };
+        let grid = Grid::new(width, height).expect("a size within the limits");
+        let (lower, upper) = terms.bounds().into_inner();
+        JobInput {
+            terms,
+            rounds: Rounds::default(),
+            samples: random.samples(grid.pixel_count()),
+            flow: random.flow(grid.pair_count(), terms.weight),
+            image: random.image(grid.pixel_count(), lower, upper),
+            work: Vec::new(),
+            output: Vec::new(),
+        }
+    }
+
+    /// The job with up to three faults, often with none.
+    pub fn spoiled(mut self, random: &mut Random) -> JobInput {
+        for _ in 0..random.pick(&[0, 0, 0, 1, 1, 2, 3]) {
+            random.pick(&FAULTS)(&mut self, random);
+        }
+        self
+    }
+}
+
+/// Something that makes a call turn back, if it takes what is spoiled.
+type Fault = fn(&mut JobInput, &mut Random);
+
+const FAULTS: [Fault; 11] = [
+    size,
+    weight,
+    ends_of_the_box,
+    quick_rounds,
+    |input, random| resize(&mut input.samples, random, Random::byte),
+    |input, random| resize(&mut input.flow, random, Random::number),
+    |input, random| resize(&mut input.image, random, Random::number),
+    |input, random| resize(&mut input.work, random, Random::number),
+    |input, random| resize(&mut input.output, random, Random::byte),
+    flow_values,
+    image_values,
+];
+
+/// A size beyond the limits, in half of the cases with empty buffers: products of 2^32 and
+/// more are small in 32 bits.
+fn size(input: &mut JobInput, random: &mut Random) {
+    let Terms { width, height, .. } = input.terms;
+    (input.terms.width, input.terms.height) = random.pick(&[
+        (0, height),
+        (width, 0),
+        (4_097, height),
+        (width, 4_097),
+        (4_096, 257),
+        (257, 4_096),
+        (65_536, 65_536),
+        (1 << 31, 2),
+        (u32::MAX, u32::MAX),
+    ]);
+    if random.below(2) == 0 {
+        input.samples.clear();
+        input.flow.clear();
+        input.image.clear();
+        input.work.clear();
+    }
+}
+
+fn weight(input: &mut JobInput, random: &mut Random) {
+    input.terms.weight = above(random, WEIGHT_LIMIT);
+}
+
+fn ends_of_the_box(input: &mut JobInput, random: &mut Random) {
+    input.terms.low = random.between(1, 255) as u8;
+    input.terms.high = random.below(input.terms.low.into()) as u8;
+}
+
+fn quick_rounds(input: &mut JobInput, random: &mut Random) {
+    input.rounds.quick = above(random, QUICK_LIMIT);
+}
+
+fn flow_values(input: &mut JobInput, random: &mut Random) {
+    let beyond = i64::from(input.terms.weight) + 1;
+    spoil_values(&mut input.flow, random, -beyond, beyond);
+}
+
+fn image_values(input: &mut JobInput, random: &mut Random) {
+    let (lower, upper) = input.terms.bounds().into_inner();
+    let (below, above) = (i64::from(lower) - 1, i64::from(upper) + 1);
+    spoil_values(&mut input.image, random, below, above);
+}
+
+/// A number above the limit: the next, the last or any.
+fn above(random: &mut Random, limit: u32) -> u32 {
+    let any = random.between(i64::from(limit) + 1, u32::MAX.into()) as u32;
+    random.pick(&[limit + 1, u32::MAX, any])
+}
+
+/// Gives a buffer another length: one more, one less, none or any up to twice as many.
+fn resize<T>(buffer: &mut Vec<T>, random: &mut Random, value: fn(&mut Random) -> T) {
+    let length = buffer.len();
+    let any = random.below(2 * length + 1);
+    let length = random.pick(&[length + 1, length.saturating_sub(1), 0, any]);
+    buffer.resize_with(length, || value(random));
+}
+
+/// Sets up to three values to one just out of range, at `below` or `above`, or far out of it.
+fn spoil_values(buffer: &mut [i32], random: &mut Random, below: i64, above: i64) {
+    if buffer.is_empty() {
+        return;
+    }
+    for _ in 0..random.pick(&[1, 1, 2, 3]) {
+        let index = random.below(buffer.len());
+        let outer = [below, above, i32::MIN.into(), i32::MAX.into()];
+        buffer[index] = i32::try_from(random.pick(&outer)).unwrap_or(i32::MAX);
+    }
+}

@@ -1,0 +1,99 @@
+//! Run.
+
+use relief_inputs::Random;
+use relief_reference::{Figures, Rounds};
+
+use crate::convert::{figures, refusal, rounds, terms};
+use crate::family::{Call, Difference};
+use crate::job::{JobInput, LARGEST};
+
+const RUN: Call<JobInput, Figures> = Call {
+    name: "run",
+    library: |input| {
+        relief::run(
+            &terms(&input.terms),
+            &rounds(&input.rounds),
+            &input.samples,
+            &mut input.flow,
+            &mut input.image,
+            &mut input.work,
+        )
+        .map(figures)
+        .map_err(refusal)
+    },
+    reference: |input| {
+        relief_reference::run(
+            &input.terms,
+            &input.rounds,
+            &input.samples,
+            &mut input.flow,
+            &mut input.image,
+            &mut input.work,
+        )
+    },
+    word: |figures| figures.outcome.to_string(),
+};
+
+/// Compares runs of few rounds, of the most rounds, and of the most pixels.
+pub fn compare(step: usize) -> Result<(), Difference> {
+    let numbers = [1, 2, 3, 4, 5, 6, 7, 10];
+    RUN.compare_family("1 to 120 pixels", &numbers, small(step))?;
+    RUN.compare_family("the most rounds", &[], long(step))?;
+    RUN.compare_family("1,048,576 pixels", &[], large(step))
+}
+
+fn small(step: usize) -> impl Iterator<Item = JobInput> {
+    let mut random = Random::new(0x5A11);
+    (0..40_000).step_by(step).map(move |_| {
+        let rounds = Rounds {
+            quick: random.between(0, 60) as u32,
+            allowance: random.between(0, 2_000) as u16,
+        };
+        let few = Rounds {
+            quick: rounds.quick % 4,
+            allowance: rounds.allowance % 8,
+        };
+        let rounds = random.pick(&[rounds, few]);
+        let size = random.size(120);
+        input(&mut random, size, rounds).spoiled(&mut random)
+    })
+}
+
+fn long(step: usize) -> impl Iterator<Item = JobInput> {
+    let mut random = Random::new(0x10A6);
+    (0..100).step_by(step).map(move |_| {
+        let rounds = Rounds {
+            quick: random.pick(&[0, 4_096]),
+            allowance: 65_535,
+        };
+        let size = random.size(12);
+        input(&mut random, size, rounds)
+    })
+}
+
+fn large(step: usize) -> impl Iterator<Item = JobInput> {
+    let mut random = Random::new(0x1A26E2);
+    (0..6).step_by(step).map(move |turn| {
+        let rounds = Rounds {
+            quick: 3,
+            allowance: 2,
+        };
+        let mut job = input(&mut random, LARGEST[turn % LARGEST.len()], rounds);
+        job.terms.weight = random.pick(&[200, 65_280]);
+        (job.terms.low, job.terms.high) = random.pick(&[(0, 255), (20, 230)]);
+        job
+    })
+}
+
+/// A job that a run accepts, with any contents in the buffers that it fills.
+fn input(random: &mut Random, size: (u32, u32), rounds: Rounds) -> JobInput {
+    let job = JobInput::accepted(random, size);
+    let pairs = job.flow.len();
+    JobInput {
+        rounds,
+        flow: random.numbers(pairs),
+        image: random.numbers(job.samples.len()),
+        work: random.numbers(2 * pairs),
+        ..job
+    }
+}

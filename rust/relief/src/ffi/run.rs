@@ -1,0 +1,85 @@
+//! The call run.
+
+use super::verdict;
+use crate::{Figures, Outcome, Refusal, Rounds, Terms};
+
+unsafe extern "C" {
+    fn relief_run(
+        width: u32,
+        height: u32,
+        weight: u32,
+        low: u8,
+        high: u8,
+        quick: u32,
+        allowance: u16,
+        samples: *const u8,
+        samples_len: usize,
+        flow: *mut i32,
+        flow_len: usize,
+        image: *mut i32,
+        image_len: usize,
+        work: *mut i32,
+        work_len: usize,
+        place: *mut u64,
+        outcome: *mut u32,
+        moved: *mut u32,
+        price: *mut u64,
+        floor: *mut i64,
+        slack: *mut u64,
+    ) -> u32;
+}
+
+/// Does the rounds, starting from flow 0, and fills `flow` and `image`. `work`, of two
+/// values for each pair, holds only zeros after an accepted run.
+pub fn run(
+    terms: &Terms,
+    rounds: &Rounds,
+    samples: &[u8],
+    flow: &mut [i32],
+    image: &mut [i32],
+    work: &mut [i32],
+) -> Result<Figures, Refusal> {
+    let (mut place, mut outcome, mut moved) = (u64::MAX, u32::MAX, u32::MAX);
+    let (mut price, mut floor, mut slack) = (u64::MAX, i64::MAX, u64::MAX);
+    // SAFETY: each buffer comes with its own length, those that are filled overlap nothing,
+    // since they are borrowed mutably, and the numbers are locals.
+    let number = unsafe {
+        relief_run(
+            terms.width,
+            terms.height,
+            terms.weight,
+            terms.low,
+            terms.high,
+            rounds.quick,
+            rounds.allowance,
+            samples.as_ptr(),
+            samples.len(),
+            flow.as_mut_ptr(),
+            flow.len(),
+            image.as_mut_ptr(),
+            image.len(),
+            work.as_mut_ptr(),
+            work.len(),
+            &mut place,
+            &mut outcome,
+            &mut moved,
+            &mut price,
+            &mut floor,
+            &mut slack,
+        )
+    };
+    let zeros = (outcome, moved, price, floor, slack) == (0, 0, 0, 0, 0);
+    verdict(number, place, zeros)?;
+    let outcome = match outcome {
+        2 => Outcome::Settled,
+        3 => Outcome::Spent,
+        _ => panic!("a run ended with outcome {outcome}"),
+    };
+    Ok(Figures {
+        outcome,
+        moved,
+        price,
+        floor,
+        slack,
+    })
+}

@@ -1,0 +1,127 @@
+//! The calls read and write.
+
+use super::verdict;
+use crate::{Job, Refusal, Rounds, Terms};
+
+unsafe extern "C" {
+    fn relief_read(
+        tape: *const u8,
+        tape_len: usize,
+        samples: *mut u8,
+        samples_len: usize,
+        flow: *mut i32,
+        flow_len: usize,
+        place: *mut u64,
+        width: *mut u32,
+        height: *mut u32,
+        weight: *mut u32,
+        low: *mut u8,
+        high: *mut u8,
+        quick: *mut u32,
+        allowance: *mut u16,
+        flowed: *mut u32,
+    ) -> u32;
+
+    fn relief_write(
+        width: u32,
+        height: u32,
+        weight: u32,
+        low: u8,
+        high: u8,
+        quick: u32,
+        allowance: u16,
+        samples: *const u8,
+        samples_len: usize,
+        flow: *const i32,
+        flow_len: usize,
+        output: *mut u8,
+        output_len: usize,
+        place: *mut u64,
+        count: *mut u64,
+    ) -> u32;
+}
+
+/// Reads a tape of one job, its samples and flow into the front of the buffers.
+///
+/// Without flow records the flow buffer is untouched.
+pub fn read(tape: &[u8], samples: &mut [u8], flow: &mut [i32]) -> Result<Job, Refusal> {
+    let mut terms = Terms {
+        width: u32::MAX,
+        height: u32::MAX,
+        weight: u32::MAX,
+        low: u8::MAX,
+        high: u8::MAX,
+    };
+    let mut rounds = Rounds {
+        quick: u32::MAX,
+        allowance: u16::MAX,
+    };
+    let (mut place, mut flowed) = (u64::MAX, u32::MAX);
+    // SAFETY: each buffer comes with its own length, those that are filled overlap nothing,
+    // since they are borrowed mutably, and the numbers are locals.
+    let number = unsafe {
+        relief_read(
+            tape.as_ptr(),
+            tape.len(),
+            samples.as_mut_ptr(),
+            samples.len(),
+            flow.as_mut_ptr(),
+            flow.len(),
+            &mut place,
+            &mut terms.width,
+            &mut terms.height,
+            &mut terms.weight,
+            &mut terms.low,
+            &mut terms.high,
+            &mut rounds.quick,
+            &mut rounds.allowance,
+            &mut flowed,
+        )
+    };
+    let zeros = (terms, rounds, flowed) == (Terms::default(), Rounds::default(), 0);
+    verdict(number, place, zeros)?;
+    Ok(Job {
+        terms,
+        rounds,
+        has_flow: match flowed {
+            0 => false,
+            1 => true,
+            _ => panic!("a tape was read with {flowed} for whether a flow was there"),
+        },
+    })
+}
+
+/// Writes a job's tape into the front of `output` and gives its byte count.
+///
+/// A flow of length 0 is none.
+pub fn write(
+    terms: &Terms,
+    rounds: &Rounds,
+    samples: &[u8],
+    flow: &[i32],
+    output: &mut [u8],
+) -> Result<usize, Refusal> {
+    let (mut place, mut count) = (u64::MAX, u64::MAX);
+    // SAFETY: as in `read`.
+    let number = unsafe {
+        relief_write(
+            terms.width,
+            terms.height,
+            terms.weight,
+            terms.low,
+            terms.high,
+            rounds.quick,
+            rounds.allowance,
+            samples.as_ptr(),
+            samples.len(),
+            flow.as_ptr(),
+            flow.len(),
+            output.as_mut_ptr(),
+            output.len(),
+            &mut place,
+            &mut count,
+        )
+    };
+    verdict(number, place, count == 0)?;
+    Ok(usize::try_from(count).expect("a tape in memory is no longer than memory"))
+}

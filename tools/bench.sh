@@ -1,0 +1,7 @@
+#!/usr/bin/env bash
+# Builds the static library and times its calls beside the second implementation.
+set -euo pipefail
+cd "$(dirname "$0")/.."
+features=$(bash tools/library.sh)
+cd rust
+cargo run --offline --quiet --release -p relief-bench --no-default-features --features "$features"

@@ -1,0 +1,33 @@
+#!/usr/bin/env bash
+# Builds the static library and prints the calls that it defines, as cargo features: judge (price, check), run,
+# tape (read, write). RELIEF_LIB_DIR, if set, is the folder (an absolute path) of another librelief_c.a: that is
+# taken as it is, and nothing is built.
+set -euo pipefail
+cd "$(dirname "$0")/.."
+
+if [ -z "${RELIEF_LIB_DIR:-}" ]; then
+    rt staticlib relief_c >&2
+fi
+archive=${RELIEF_LIB_DIR:-target/staticlib}/librelief_c.a
+if [ ! -f "$archive" ]; then
+    echo "there is no $archive" >&2
+    exit 1
+fi
+functions=$(nm --defined-only "$archive" 2>/dev/null | awk '$2 == "T" { print $3 }')
+
+defines() {
+    local function
+    for function; do
+        grep -qx "$function" <<<"$functions" || return 1
+    done
+}
+
+features=()
+if defines relief_price relief_check; then features+=(judge); fi
+if defines relief_run; then features+=(run); fi
+if defines relief_read relief_write; then features+=(tape); fi
+if [ ${#features[@]} = 0 ]; then
+    echo "$archive defines none of the calls" >&2
+    exit 1
+fi
+echo "${features[*]}"
