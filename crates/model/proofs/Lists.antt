@@ -110,3 +110,14 @@ first-unique n test k l a b = by (decLt k l) (decLt l k)
 
 pub firstWhere-is : (n : ℕ) (test : ℕ → Bool) (k : ℕ) → First n test k → firstWhere n test ≡ k
 firstWhere-is n test k r = first-unique n test (firstWhere n test) k (firstWhere-first n test) r
+
+-- tests that agree below n find the same index
+pub firstWhere-cong : (n : ℕ) {test other : ℕ → Bool} → ((i : ℕ) → i < n → test i ≡ other i) → firstWhere n test ≡ firstWhere n other
+firstWhere-cong n {test} {other} same =
+    let r = firstWhere-first n other in
+    firstWhere-is n test (firstWhere n other)
+    (record {
+      within = r .within;
+      before = λ i l. same i (omega (arith, r .within)) ∙ r .before i l;
+      found = λ l. same (firstWhere n other) l ∙ r .found l
+    })

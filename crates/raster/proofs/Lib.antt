@@ -10,6 +10,7 @@
 --     Rows        a buffer worked on row by row
 --     Steps       a step by runs of pairs
 --     Whole       the two runs of all pairs
+--     Model       what the passes leave is what the model defines
 pub mod Stencil
 pub mod Fill
 pub mod Search
@@ -21,3 +22,4 @@ pub mod RowParts
 pub mod Rows
 pub mod Steps
 pub mod Whole
+pub mod Model

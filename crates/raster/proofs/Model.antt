@@ -1,0 +1,83 @@
+-- What the passes leave is what the model defines, on document 01's grid. Assumes nothing.
+use mathlib.Core.Path.{_≡_, refl, sym, ap, ap₂, _∙_, subst, fun-ext}
+use mathlib.Core.Bool.{Bool, not}
+use mathlib.Core.List.{List}
+use Prim.Native.Nat.{ℕ, _+_, _-_, _*_, _/_, _%_, _≤_, _<_}
+use native.Mathlib.Nat.{div-add-mod', div-lt-iff-lt-mul, mod-lt}
+use native.Mathlib.Omega.{arith}
+use lib.IntN.{ℤ, pos, negℤ, _+ℤ_, _-ℤ_, _*ℤ_}
+use lib.ListN.{length, getD}
+use Rattle.integers.specs.Whole.{abs, square, clamp, sameZ}
+use Rattle.integers.specs.Sum.{total}
+use Rattle.integers.proofs.Total.{total-cong, total-*ℤ}
+use Rattle.model.specs.declared.Terms.{Terms}
+use Rattle.model.specs.Lists.{at, table, firstWhere}
+use Rattle.model.specs.Problem.{Problem, pairCount, firstOf, secondOf, fall, misfit, price, pull, image, floor, slack}
+use Rattle.model.specs.Grid.{pixel, readingOf, lowEnd, highEnd, gridPairs, grid}
+use Rattle.model.specs.Rounds.{eighth, stepped, step, wouldMove, firstMoving}
+use Rattle.model.specs.Calls.{imageOf}
+use Rattle.model.proofs.Lists.{getD-table, length-table, firstWhere-cong}
+use Rattle.model.proofs.Pairs.{neighbours, first-inside, second-inside}
+use Rattle.raster.specs.Rows.{imageValue}
+use Rattle.raster.specs.Stencil.{stepValue, moves}
+use Rattle.raster.specs.Whole.{gridStep, gridMoves, gridFall}
+use Rattle.raster.proofs.Fill.{table-cong}
+use Rattle.raster.proofs.Stencil.{pull-gathered}
+
+module _ (t : Terms) (samples : List ℕ) where
+  -- pixel i at its row and column
+  placed : (i : ℕ) → i < t .width * t .height → (i / t .width < t .height) × (i % t .width < t .width)
+  placed i l = (div-lt-iff-lt-mul broad .1 (omega arith), mod-lt i broad)
+    where
+      broad : 0 < t .width
+      broad = positive (t .width) l
+        where
+          positive : (w : ℕ) → i < w * t .height → 0 < w
+          positive Prim.Native.Nat.zero b = absurd (omega arith)
+          positive (Prim.Native.Nat.suc w) b = omega arith
+
+  -- The image of a flow
+  pub image-is : (flow : List ℤ) → table (t .width * t .height) (imageValue (lowEnd (t .low)) (highEnd (t .high)) samples flow (t .width) (t .height)) ≡ imageOf t samples flow
+  unfolding imageOf image
+  image-is flow = table-cong (t .width * t .height) (λ i l.
+      ap (λ (q : ℤ). clamp (lowEnd (t .low)) (highEnd (t .high)) (readingOf (getD samples i 0) -ℤ q))
+      (sym (pull-gathered t samples (at flow) (i / t .width) (i % t .width) (placed i l .0) (placed i l .1))
+      ∙ ap (pull (grid t samples) (at flow)) (div-add-mod' i (t .width))))
+
+  module _ (flow : List ℤ) {values : List ℤ} (e : values ≡ imageOf t samples flow) where
+    value-at : (i : ℕ) → i < t .width * t .height → at values i ≡ image (grid t samples) (at flow) i
+    unfolding imageOf
+    value-at i l = ap (λ (v : List ℤ). at v i) e ∙ getD-table (t .width * t .height) (image (grid t samples) (at flow)) i (pos 0) l
+
+    -- the falls of the flow's image
+    pub fall-is : (j : ℕ) → j < pairCount (grid t samples) → gridFall (t .width) (t .height) values j ≡ fall (grid t samples) (image (grid t samples) (at flow)) j
+    unfolding fall
+    fall-is j l =
+        let n = neighbours (t .width) (t .height) j _ l in
+        ap₂ (λ (a b : ℤ). a -ℤ b) (value-at (firstOf (grid t samples) j) (first-inside (t .width) (t .height) _ n)) (value-at (secondOf (grid t samples) j) (second-inside (t .width) (t .height) _ n))
+
+    -- a pair's number after a step
+    pub step-is : (j : ℕ) → j < pairCount (grid t samples) → gridStep (t .width) (t .height) (pos (t .weight)) flow values j ≡ stepped eighth (grid t samples) (at flow) j
+    unfolding stepValue stepped
+    step-is j l = ap (λ (d : ℤ). clamp (negℤ (pos (t .weight))) (pos (t .weight)) (at flow j +ℤ eighth d)) (fall-is j l)
+
+    -- A step on the flow
+    pub stepped-is : table (pairCount (grid t samples)) (gridStep (t .width) (t .height) (pos (t .weight)) flow values) ≡ step eighth (grid t samples) flow
+    unfolding step
+    stepped-is = table-cong (pairCount (grid t samples)) step-is
+
+    -- The first pair that would move
+    pub moving-is : firstWhere (pairCount (grid t samples)) (gridMoves (t .width) (t .height) (pos (t .weight)) flow values) ≡ firstMoving eighth (grid t samples) (at flow)
+    unfolding firstMoving wouldMove
+    moving-is = firstWhere-cong (pairCount (grid t samples)) (λ j l. ap (λ (z : ℤ). not (sameZ z (at flow j))) (step-is j l))
+
+    -- The sums of price and floor
+    pub variation-is : total (pairCount (grid t samples)) (λ j. abs (gridFall (t .width) (t .height) values j)) ≡ total (pairCount (grid t samples)) (λ j. abs (fall (grid t samples) (image (grid t samples) (at flow)) j))
+    variation-is = total-cong (pairCount (grid t samples)) (λ j l. ap abs (fall-is j l))
+
+    pub work-is : total (pairCount (grid t samples)) (λ j. at flow j *ℤ gridFall (t .width) (t .height) values j) ≡ total (pairCount (grid t samples)) (λ j. at flow j *ℤ fall (grid t samples) (image (grid t samples) (at flow)) j)
+    work-is = total-cong (pairCount (grid t samples)) (λ j l. ap (λ (d : ℤ). at flow j *ℤ d) (fall-is j l))
+
+    pub misfit-is : total (t .width * t .height) (λ i. square (at values i -ℤ readingOf (getD samples i 0))) ≡ misfit (grid t samples) (image (grid t samples) (at flow))
+    unfolding misfit
+    misfit-is = total-cong (t .width * t .height) (λ i l. ap (λ (v : ℤ). square (v -ℤ readingOf (getD samples i 0))) (value-at i l))
