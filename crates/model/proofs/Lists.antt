@@ -7,8 +7,8 @@ use Prim.Native.Nat.{ℕ, zero, suc, _+_, _*_, _≤_, _<_, suc-le-suc, zero-le}
 use native.Mathlib.Nat.{le-of-suc-le-suc, mul-le-mul-right}
 use native.Mathlib.Decide.{decLt}
 use native.Mathlib.Omega.{arith}
-use lib.ListN.{length, getD, length-append, List·getD-append}
-use lib.Seq.{getD-at, getD-append-add}
+use lib.ListN.{length, getD, replicate, length-append, length-replicate, getD-replicate, List·getD-append}
+use lib.Seq.{getD-at, getD-append-add, ext-getD}
 use Rattle.model.specs.Lists.{table, chain, firstWhere}
 
 -- an index below n + 1 is below n, or n
@@ -66,6 +66,18 @@ module _ {A : Type 0} where
         seam : r ≡ n → r * k + c ≡ length (chain n g) + c
         seam e = ap (λ (m : ℕ). m * k + c) e ∙ ap (λ (m : ℕ). m + c) (sym (length-chain n))
 
+-- a constant table, and the table of a list's own values
+pub table-constant : {A : Type 0} (n : ℕ) (a : A) → table n (λ _. a) ≡ replicate n a
+table-constant n a =
+    ext-getD a (table n (λ _. a)) (replicate n a) (length-table n (λ _. a) ∙ sym (length-replicate n a)) (λ i l.
+    let b : i < n = subst (λ (k : ℕ). i < k) (length-table n (λ _. a)) l in
+    getD-table n (λ _. a) i a b ∙ sym (getD-replicate n i a a b))
+
+pub table-self : {A : Type 0} (l : List A) (d : A) → table (length l) (λ i. getD l i d) ≡ l
+table-self l d =
+    ext-getD d (table (length l) (λ i. getD l i d)) l (length-table (length l) (λ i. getD l i d)) (λ i b.
+    getD-table (length l) (λ i. getD l i d) i d (subst (λ (k : ℕ). i < k) (length-table (length l) (λ i. getD l i d)) b))
+
 -- k is the first index below n at which the test holds, or n where it holds at none
 pub record First (n : ℕ) (test : ℕ → Bool) (k : ℕ) : Type 0 where
   pub within : k ≤ n
@@ -119,5 +131,5 @@ firstWhere-cong n {test} {other} same =
     (record {
       within = r .within;
       before = λ i l. same i (omega (arith, r .within)) ∙ r .before i l;
-      found = λ l. same (firstWhere n other) l ∙ r .found l
+      found = λ l. same (firstWhere n other) l ∙ r .found l;
     })

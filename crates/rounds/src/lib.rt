@@ -1,3 +1,4 @@
 // The rounds of document 01: quick rounds with their momentum, and steady rounds.
+pub mod buffers;
 pub mod momentum;
 pub mod quick;

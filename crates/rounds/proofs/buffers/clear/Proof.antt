@@ -1,0 +1,56 @@
+-- `rounds::buffers::clear` meets its contract. Assumes nothing.
+use mathlib.Core.Path.{_≡_, refl, _∙_}
+use Prim.Native.Nat.{ℕ, _-_}
+use native.Mathlib.Omega.{arith}
+use borrow.Author.Needs.{needs}
+use lib.IntN.{pos}
+use lib.ListN.{length}
+use Rattle.raster.proofs.Fill.{Filling, filling-none, filling-more, filling-all}
+use Rattle.model.proofs.Lists.{table-constant}
+use Rattle.rounds.proofs.buffers.clear.Statement.{statement}
+use Rattle.rounds.proofs.buffers.clear.Tie as tie
+
+abbrev Inv-loop : tie.InvT-loop
+Inv-loop buffer₀ i₀ buffer i = Filling (λ _. pos 0) buffer₀ i buffer
+
+abbrev μ-loop : tie.MeasureT-loop
+μ-loop buffer₀ i₀ buffer i = length buffer₀ - i
+
+loop-holds : tie.Need-loop-holds Inv-loop μ-loop
+loop-holds c = filling-none _ _
+
+mul-buffer : tie.Need-mul-buffer Inv-loop μ-loop
+mul-buffer c = search needs
+
+slice-set-of-buffer : tie.Need-slice-set-of-buffer Inv-loop μ-loop
+slice-set-of-buffer c = search needs
+
+add-i : tie.Need-add-i Inv-loop μ-loop
+add-i c = search needs
+
+loop-less : tie.Need-loop-less Inv-loop μ-loop
+loop-less c = search needs
+
+loop-again : tie.Need-loop-again Inv-loop μ-loop
+loop-again c = filling-more (c .before .loop .inv) (omega arith) refl
+
+same-length : tie.Need-same-length Inv-loop μ-loop
+same-length c = search needs
+
+returns : tie.Need-returns Inv-loop μ-loop
+returns c = filling-all (c .before .loop .inv) (omega arith) ∙ table-constant (length (c .before .before .args .buffer .now)) (pos 0)
+
+pub clear-spec : {M : Type 1} → statement M
+clear-spec =
+    tie.close
+    (tie.spec
+    Inv-loop
+    μ-loop
+    loop-holds
+    mul-buffer
+    slice-set-of-buffer
+    add-i
+    loop-less
+    loop-again
+    same-length
+    returns)

@@ -1,0 +1,69 @@
+-- `rounds::buffers::copy` meets its contract. Assumes nothing.
+use mathlib.Core.Path.{_≡_, refl, ap, _∙_}
+use Prim.Native.Nat.{ℕ, _-_}
+use native.Mathlib.Omega.{arith}
+use borrow.Author.Needs.{needs}
+use lib.IntN.{ℤ, pos}
+use lib.ListN.{length}
+use mir.Syntax.{w32}
+use mir.ValLaws.{toZ-ofZ}
+use Rattle.raster.proofs.Fill.{Filling, filling-none, filling-more, filling-all}
+use Rattle.model.specs.Lists.{at, table}
+use Rattle.model.proofs.Lists.{table-self}
+use Rattle.rounds.proofs.buffers.copy.Statement.{statement}
+use Rattle.rounds.proofs.buffers.copy.Tie as tie
+
+abbrev Inv-loop : tie.InvT-loop
+Inv-loop target₀ source i₀ target i = Filling (at source) target₀ i target
+
+abbrev μ-loop : tie.MeasureT-loop
+μ-loop target₀ source i₀ target i = length target₀ - i
+
+loop-holds : tie.Need-loop-holds Inv-loop μ-loop
+loop-holds c = filling-none _ _
+
+mul-target : tie.Need-mul-target Inv-loop μ-loop
+mul-target c = search needs
+
+shared-slice-copy-out-target : tie.Need-shared-slice-copy-out-target Inv-loop μ-loop
+shared-slice-copy-out-target c = search needs
+
+mul-t8 : tie.Need-mul-t8 Inv-loop μ-loop
+mul-t8 c = search needs
+
+slice-set-from-target : tie.Need-slice-set-from-target Inv-loop μ-loop
+slice-set-from-target c = search needs
+
+add-i : tie.Need-add-i Inv-loop μ-loop
+add-i c = search needs
+
+loop-less : tie.Need-loop-less Inv-loop μ-loop
+loop-less c = search needs
+
+loop-again : tie.Need-loop-again Inv-loop μ-loop
+loop-again c = filling-more (c .before .before .loop .inv) (omega arith) (toZ-ofZ w32 _ (record { sfits = c .target .given }))
+
+same-length : tie.Need-same-length Inv-loop μ-loop
+same-length c = search needs
+
+returns : tie.Need-returns Inv-loop μ-loop
+returns c =
+    let s = c .before .before in
+    filling-all (c .before .loop .inv) (omega arith) ∙ ap (λ (n : ℕ). table n (at (s .args .source .now))) (s .pre) ∙ table-self (s .args .source .now) (pos 0)
+
+pub copy-spec : {M : Type 1} → statement M
+copy-spec =
+    tie.close
+    (tie.spec
+    Inv-loop
+    μ-loop
+    loop-holds
+    mul-target
+    shared-slice-copy-out-target
+    mul-t8
+    slice-set-from-target
+    add-i
+    loop-less
+    loop-again
+    same-length
+    returns)
