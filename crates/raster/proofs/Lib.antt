@@ -6,8 +6,10 @@
 --     Elements    the numbers of buffers within limits
 --     Sums        running sums, and that they fit 64 bits
 --     Rows        a buffer worked on row by row
---     Steps       a step by runs of pairs
 --     Whole       the two runs of all pairs
+--     Runs        a run of pairs as its stretch of all pairs
+--     Steps       a step by runs of pairs
+--     Searches    a search for a moving pair by parts
 pub mod Stencil
 pub mod Fill
 pub mod Search
@@ -15,5 +17,7 @@ pub mod Moving
 pub mod Elements
 pub mod Sums
 pub mod Rows
-pub mod Steps
 pub mod Whole
+pub mod Runs
+pub mod Steps
+pub mod Searches
