@@ -8,8 +8,10 @@
 --     Columns     a row of a flow's image, column by column
 --     RowParts    the parts of the flow that a row of the image takes
 --     Rows        a buffer worked on row by row
---     Steps       a step by runs of pairs
 --     Whole       the two runs of all pairs
+--     Runs        a run of pairs as its stretch of all pairs
+--     Steps       a step by runs of pairs
+--     Searches    a search for a moving pair by parts
 --     Model       what the passes leave is what the model defines
 pub mod Stencil
 pub mod Fill
@@ -20,6 +22,8 @@ pub mod Sums
 pub mod Columns
 pub mod RowParts
 pub mod Rows
-pub mod Steps
 pub mod Whole
+pub mod Runs
+pub mod Steps
+pub mod Searches
 pub mod Model

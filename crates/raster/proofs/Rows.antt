@@ -63,17 +63,3 @@ part-within {k} a n l h i = by (decLt i n)
 -- the first pixel of the row's pair c, as all horizontal pairs are counted
 pub row-pixel : (w row start c : ℕ) → start ≡ row * (w - 1) → c < w - 1 → rowPixel w (start + c) ≡ row * w + c
 row-pixel w row start c e l = ap (λ (s : ℕ). rowPixel w (s + c)) e ∙ horizontal-here w row c l
-
--- the row's part of the image
-pub row-value : (w row start c : ℕ) (image : List ℤ) → start ≡ row * w → c < w →
-    at (take (start + w - start) (drop start image)) c ≡ at image (row * w + c)
-row-value w row start c image e l =
-    ap (λ (n : ℕ). at (take n (drop start image)) c) (part-count start w)
-    ∙ part-at start w image c (pos 0) l
-    ∙ ap (λ (s : ℕ). at image (s + c)) e
-
--- the row's part of a flow that is filled up to it
-pub row-flow : (start a c : ℕ) (g : ℕ → ℤ) (e : List ℤ) {l : List ℤ} → l ≡ filled start g e → c < a →
-    at (take (start + a - start) (drop start l)) c ≡ at e (start + c)
-row-flow start a c g e p b =
-    ap₂ (λ (n : ℕ) (m : List ℤ). at (take n m) c) (part-count start a) (rest-is start g e p) ∙ part-at start a e c (pos 0) b

@@ -1,5 +1,5 @@
 -- Running sums, and that those over buffers within limits fit 64 bits. Assumes nothing.
-use mathlib.Core.Path.{_≡_, ap₂}
+use mathlib.Core.Path.{_≡_, sym, ap₂, _∙_}
 use mathlib.Core.List.{List}
 use Prim.Native.Nat.{ℕ, _+_, _*_, _^_, _≤_, _<_}
 use native.Mathlib.Nat.{mul-le-mul}
@@ -10,16 +10,19 @@ use lib.ListN.{getD}
 use Rattle.integers.specs.Whole.{abs, square}
 use Rattle.integers.specs.Sum.{total}
 use Rattle.integers.proofs.Absolute.{natAbs-difference, natAbs-product, natAbs-square}
-use Rattle.integers.proofs.Total.{total-suc, natAbs-total}
+use Rattle.integers.proofs.Total.{total-suc, total-append, natAbs-total}
 use Rattle.model.specs.Lists.{at}
 use Rattle.model.specs.Grid.{readingOf}
 use Rattle.raster.specs.Limits.{Within}
-use Rattle.raster.specs.Run.{fallAt}
 use Rattle.raster.proofs.Elements.{reading-most}
 
 -- one more term
 pub total-more : (g : ℕ → ℤ) (n : ℕ) {s x : ℤ} → s ≡ total n g → x ≡ g n → s +ℤ x ≡ total (n + 1) g
 total-more g n p q = rw (add-one n, total-suc n g) (ap₂ _+ℤ_ p q)
+
+-- n more terms
+pub total-part : (g : ℕ → ℤ) (a n : ℕ) {s x : ℤ} → s ≡ total a g → x ≡ total n (λ i. g (a + i)) → s +ℤ x ≡ total (a + n) g
+total-part g a n p q = ap₂ _+ℤ_ p q ∙ sym (total-append a n g)
 
 -- ---- over pixels
 
@@ -38,16 +41,17 @@ module _ (image : List ℤ) (h : Within (2 ^ 20) image) (samples : List ℕ) (by
 
 -- ---- over pairs
 
-module _ (image : List ℤ) (h : Within (2 ^ 20) image) (stride : ℕ) where
-  pub fall-most : (j : ℕ) → natAbs (fallAt image stride j) ≤ 2 ^ 21
-  fall-most j = omega (arith, natAbs-difference (at image j) (at image (j + stride)), h j, h (j + stride))
+-- the falls of pairs, pair j with its pixels at first j and second j
+module _ (image : List ℤ) (h : Within (2 ^ 20) image) (first second : ℕ → ℕ) where
+  pub fall-most : (j : ℕ) → natAbs (at image (first j) -ℤ at image (second j)) ≤ 2 ^ 21
+  fall-most j = omega (arith, natAbs-difference (at image (first j)) (at image (second j)), h (first j), h (second j))
 
-  pub variation-most : (n : ℕ) → natAbs (total n (λ j. abs (fallAt image stride j))) ≤ n * 2 ^ 21
-  variation-most n = natAbs-total n (λ j. abs (fallAt image stride j)) (λ j _. fall-most j)
+  pub variation-most : (n : ℕ) → natAbs (total n (λ j. abs (at image (first j) -ℤ at image (second j)))) ≤ n * 2 ^ 21
+  variation-most n = natAbs-total n (λ j. abs (at image (first j) -ℤ at image (second j))) (λ j _. fall-most j)
 
   module _ (flow : List ℤ) (k : Within (2 ^ 20) flow) where
-    pub product-most : (j : ℕ) → natAbs (at flow j *ℤ fallAt image stride j) ≤ 2 ^ 41
+    pub product-most : (j : ℕ) → natAbs (at flow j *ℤ (at image (first j) -ℤ at image (second j))) ≤ 2 ^ 41
     product-most j = rw natAbs-product (mul-le-mul (k j) (fall-most j))
 
-    pub work-most : (n : ℕ) → natAbs (total n (λ j. at flow j *ℤ fallAt image stride j)) ≤ n * 2 ^ 41
-    work-most n = natAbs-total n (λ j. at flow j *ℤ fallAt image stride j) (λ j _. product-most j)
+    pub work-most : (n : ℕ) → natAbs (total n (λ j. at flow j *ℤ (at image (first j) -ℤ at image (second j)))) ≤ n * 2 ^ 41
+    work-most n = natAbs-total n (λ j. at flow j *ℤ (at image (first j) -ℤ at image (second j))) (λ j _. product-most j)

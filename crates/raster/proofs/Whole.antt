@@ -3,6 +3,7 @@
 use mathlib.Core.Path.{_≡_, refl, sym, ap, ap₂, _∙_, subst}
 use mathlib.Core.List.{List, _++_, append-nil}
 use Prim.Native.Nat.{ℕ, _+_, _-_, _*_, _^_, _≤_, _<_, min}
+use native.Mathlib.Nat.{le-refl}
 use native.Mathlib.Omega.{arith}
 use lib.IntN.{ℤ, pos}
 use lib.ListN.{length, take, drop, length-take, length-drop, length-append}
@@ -51,6 +52,10 @@ module _ {w h : ℕ} {flow image : List ℤ} (s : GridSize w h flow image) where
       sides : 1 ≤ h → w * (h - 1) + w ≡ w * h
       sides b = let e : h ≡ h - 1 + 1 = omega arith in omega (arith, ap (λ (n : ℕ). w * n) e)
 
+-- what is lent from v on is all that follows
+pub lent-rest : {A : Type 0} (v : ℕ) (l : List A) → take (length l - v) (drop v l) ≡ drop v l
+lent-rest v l = take-all (length l - v) (drop v l) (simp length-drop (le-refl (length l - v)))
+
 module _ {A : Type 0} (g : ℕ → A) (e : List A) (v n : ℕ) (size : length e ≡ v + n) where
   -- the vertical run filled ..
   pub upper-filled : {part : List A} → part ≡ table v g → part ++ drop v e ≡ filled v g e
@@ -62,8 +67,7 @@ module _ {A : Type 0} (g : ℕ → A) (e : List A) (v n : ℕ) (size : length e 
     length-upper = ap length p ∙ length-filled g e v (omega arith) ∙ size
 
     pub lower-part : take (length l - v) (drop v l) ≡ drop v e
-    lower-part =
-        take-all (length l - v) (drop v l) (simp length-drop (omega arith)) ∙ rest-is v g e p
+    lower-part = lent-rest v l ∙ rest-is v g e p
 
     pub both-filled : {part : List A} → part ≡ table n (λ i. g (v + i)) → putMid v (length l - v) l part ≡ table (v + n) g
     both-filled {part} q =

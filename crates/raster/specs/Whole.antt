@@ -39,6 +39,12 @@ rowPixel w k = k + k / (w - 1)
 abbrev pub rowStep : ℕ → ℤ → List ℤ → List ℤ → ℕ → ℤ
 rowStep w weight flow image k = stepValue weight (at flow k) (at image (rowPixel w k)) (at image (rowPixel w k + 1))
 
+abbrev pub rowMoves : ℕ → ℤ → List ℤ → List ℤ → ℕ → Bool
+rowMoves w weight flow image k = moves weight (at flow k) (at image (rowPixel w k)) (at image (rowPixel w k + 1))
+
+abbrev pub rowFall : ℕ → List ℤ → ℕ → ℤ
+rowFall w image k = at image (rowPixel w k) -ℤ at image (rowPixel w k + 1)
+
 -- a raster's size, the lengths of the horizontal pairs' numbers and of the image, and the sizes of their numbers
 pub record AcrossLimits (w h : ℕ) (weight : ℤ) (flow image : List ℤ) : Type 0 where
   pub width-least : 1 ≤ w
@@ -62,3 +68,17 @@ pub record GridLimits (w h : ℕ) (weight : ℤ) (flow image : List ℤ) : Type 
   pub weight-most : natAbs weight ≤ 2 ^ 20
   pub flow-most : Within (2 ^ 20) flow
   pub image-most : Within (2 ^ 20) image
+
+-- a raster's size and its image, where falls are summed
+pub record RasterLimits (w h : ℕ) (image : List ℤ) : Type 0 where
+  pub width-least : 1 ≤ w
+  pub height-least : 1 ≤ h
+  pub pixels-most : w * h ≤ 2 ^ 20
+  pub image-length : length image ≡ w * h
+  pub image-most : Within (2 ^ 20) image
+
+-- and the numbers of n of its pairs
+pub record WorkLimits (w h n : ℕ) (flow image : List ℤ) : Type 0 where
+  pub raster : RasterLimits w h image
+  pub flow-length : length flow ≡ n
+  pub flow-most : Within (2 ^ 20) flow

@@ -2,11 +2,13 @@
 // row another.
 
 use crate::pairs;
+use crate::pairs::Moving;
 ghost use Prim.Native.Nat.{ℕ, _+_, _*_};
 ghost use mathlib.Core.Path.{_≡_};
 ghost use lib.ListN.{length};
-ghost use Rattle.model.specs.Lists.{table};
-ghost use Rattle.raster.specs.Whole.{AcrossLimits, rowStep, GridLimits, gridStep};
+ghost use Rattle.model.specs.Lists.{table, firstWhere};
+ghost use Rattle.raster.specs.Run.{movingOf};
+ghost use Rattle.raster.specs.Whole.{AcrossLimits, rowStep, rowMoves, GridLimits, gridStep, gridMoves};
 
 // The horizontal pairs of all rows, a run for each.
 fn step_rows(flow: &mut [i32], image: &[i32], width: usize, height: usize, weight: i32)
@@ -38,4 +40,61 @@ pub fn step_grid(flow: &mut [i32], image: &[i32], width: usize, height: usize, w
     let vertical = width * (height - 1);
     pairs::step_pairs(&mut flow[..vertical], image, width, weight);
     step_rows(&mut flow[vertical..], image, width, height, weight);
+}
+
+// The first moving pair among the horizontal ones, counted through all rows.
+fn first_moving_rows(
+    flow: &[i32],
+    image: &[i32],
+    width: usize,
+    height: usize,
+    weight: i32,
+) -> Moving
+    requires { ⌜ AcrossLimits width height weight (now flow) (now image) ⌝ }
+    ensures { λ r. ⌜ r ≡ movingOf (length (now (flow .entry))) (firstWhere (length (now (flow .entry))) (rowMoves width weight (now (flow .entry)) (now (image .entry)))) ⌝ }
+{
+    let across = width - 1;
+    let mut at = 0;
+    let mut start = 0;
+    let mut row = 0;
+    loop {
+        if height <= row {
+            break Moving::Nothing;
+        }
+        let found = pairs::first_moving(
+            &flow[at..at + across],
+            &image[start..start + width],
+            1,
+            weight,
+        );
+        if let Moving::At(k) = found {
+            break Moving::At(at + k);
+        }
+        at += across;
+        start += width;
+        row += 1;
+    }
+}
+
+// The test before a round: the first pair that a step would change.
+pub fn first_moving_grid(
+    flow: &[i32],
+    image: &[i32],
+    width: usize,
+    height: usize,
+    weight: i32,
+) -> Moving
+    requires { ⌜ GridLimits width height weight (now flow) (now image) ⌝ }
+    ensures { λ r. ⌜ r ≡ movingOf (length (now (flow .entry))) (firstWhere (length (now (flow .entry))) (gridMoves width height weight (now (flow .entry)) (now (image .entry)))) ⌝ }
+{
+    let vertical = width * (height - 1);
+    let upper = pairs::first_moving(&flow[..vertical], image, width, weight);
+    if let Moving::At(j) = upper {
+        return Moving::At(j);
+    }
+    let lower = first_moving_rows(&flow[vertical..], image, width, height, weight);
+    if let Moving::At(k) = lower {
+        return Moving::At(vertical + k);
+    }
+    Moving::Nothing
 }

@@ -5,7 +5,7 @@ use Prim.Native.Nat.{ℕ, _+_, _-_, _*_, _≤_, _<_}
 use native.Mathlib.Omega.{arith}
 use borrow.Author.Needs.{needs}
 use lib.IntN.{ℤ, pos}
-use lib.ListN.{length, drop, length-drop}
+use lib.ListN.{length, take, drop}
 use lib.Seq.{length-take-le}
 use mir.Syntax.{w32}
 use mir.Val.{toZ, ofZ}
@@ -15,7 +15,7 @@ use Rattle.raster.specs.Whole.{gridStep}
 use Rattle.model.specs.Lists.{table}
 use Rattle.raster.proofs.Fill.{filled, length-filled}
 use Rattle.raster.proofs.Steps.{vertical-stepped, horizontal-stepped}
-use Rattle.raster.proofs.Rows.{part-within, drop-within}
+use Rattle.raster.proofs.Runs.{Stretch, rest, vertical-limits, horizontal-limits}
 use Rattle.raster.proofs.Whole.{vertical, vertical-most, vertical-reach, all-pairs, upper-filled, lower-part, both-filled}
 use Rattle.raster.proofs.grid.step_grid.Statement.{statement}
 use Rattle.raster.proofs.grid.step_grid.Tie as tie
@@ -38,6 +38,14 @@ upper-most c =
     let s = c .before .before .before in
     rw (ap length (upper c)) (rw (length-filled _ (s .args .flow .now) (vertical (s .args .width) (s .args .height)) (vertical-most (s .pre .size))) (vertical-most (s .pre .size)))
 
+-- the others, as the rows are lent them
+lower : (c : tie.After-flow) → let s = c .before .before .before in let v = vertical (s .args .width) (s .args .height) in
+    let l = c .before .step-pairs .last .0 ++ drop v (s .args .flow .now) in
+    Stretch (s .args .flow .now) v (s .args .height * (s .args .width - 1)) (take (length l - v) (drop v l))
+lower c =
+    let p = all-pairs (c .before .before .before .pre .size) in
+    rest _ _ _ p (lower-part _ _ _ _ p (upper c))
+
 mul-vertical : tie.Need-mul-vertical
 mul-vertical c = omega (arith, vertical-most (c .pre .size))
 
@@ -48,15 +56,7 @@ slice-aggregate-step-pairs : tie.Need-slice-aggregate-step-pairs
 slice-aggregate-step-pairs c = sym (length-take-le _ _ (vertical-most (c .before .pre .size)))
 
 step-pairs-requires : tie.Need-step-pairs-requires
-step-pairs-requires c κs =
-    let s = c .before in
-    let p = s .pre in
-    record {
-      reach = rw (length-take-le _ _ (vertical-most (p .size))) (le-of-eq (vertical-reach (p .size)));
-      weight-most = rw (toZ-ofZ w32 _ (s .fits .weight)) (p .weight-most);
-      flow-most = part-within 0 (s .args .width * (s .args .height - 1)) (s .args .flow .now) (p .flow-most);
-      image-most = p .image-most;
-    }
+step-pairs-requires c κs = rw (toZ-ofZ w32 _ (c .before .fits .weight)) (vertical-limits (c .before .pre))
 
 mul-step-rows : tie.Need-mul-step-rows
 mul-step-rows c = omega (arith, vertical-most (c .before .before .before .pre .size), c .before .before .before .good .0 .1)
@@ -72,18 +72,8 @@ part-step-rows-end c = search needs
 
 step-rows-requires : tie.Need-step-rows-requires
 step-rows-requires c κs =
-    let f = c .before in
-    let s = f .before .before .before in
-    let p = s .pre in
-    let e = lower-part _ (s .args .flow .now) (vertical (s .args .width) (s .args .height)) _ (all-pairs (p .size)) (upper f) in
-    record {
-      width-least = p .size .width-least;
-      flow-length = ap length e ∙ length-drop (vertical (s .args .width) (s .args .height)) (s .args .flow .now) ∙ omega (arith, all-pairs (p .size));
-      image-length = p .size .image-length;
-      weight-most = rw (toZ-ofZ w32 _ (s .fits .weight)) (p .weight-most);
-      flow-most = rw e (drop-within (vertical (s .args .width) (s .args .height)) (s .args .flow .now) (p .flow-most));
-      image-most = p .image-most;
-    }
+    let s = c .before .before .before .before in
+    rw (toZ-ofZ w32 _ (s .fits .weight)) (horizontal-limits (s .pre) (lower (c .before)))
 
 same-length : tie.Need-same-length
 same-length c = search needs
@@ -94,10 +84,9 @@ returns c =
     let s = f .before .before .before in
     let w = s .args .width in
     let h = s .args .height in
-    let e = lower-part _ (s .args .flow .now) (vertical w h) _ (all-pairs (s .pre .size)) (upper f) in
     rw (toZ-ofZ w32 _ (s .fits .weight)) at
     (both-filled _ (s .args .flow .now) (vertical w h) (h * (w - 1)) (all-pairs (s .pre .size)) (upper f)
-    (c .before .step-rows .ensures ∙ horizontal-stepped w h (toZ w32 (ofZ w32 (s .args .weight))) (s .args .flow .now) (s .args .image .now) (all-pairs (s .pre .size)) e)
+    (c .before .step-rows .ensures ∙ horizontal-stepped w h (toZ w32 (ofZ w32 (s .args .weight))) (s .args .flow .now) (s .args .image .now) (lower f))
     ∙ ap (λ (n : ℕ). table n (gridStep w h (toZ w32 (ofZ w32 (s .args .weight))) (s .args .flow .now) (s .args .image .now))) (sym (all-pairs (s .pre .size))))
 
 pub step-grid-spec : {M : Type 1} → statement M

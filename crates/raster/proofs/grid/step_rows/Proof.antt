@@ -13,7 +13,8 @@ use Rattle.model.specs.Lists.{table}
 use Rattle.model.proofs.Lists.{length-table}
 use Rattle.raster.specs.Whole.{AcrossLimits, rowStep}
 use Rattle.raster.proofs.Fill.{filled, filled-none, length-filled, filled-all}
-use Rattle.raster.proofs.Rows.{row-end, part-count, part-length, part-within, rest-is, put-part}
+use Rattle.raster.proofs.Rows.{row-end}
+use Rattle.raster.proofs.Runs.{Stretch, cut, lent, lent-filled, row-limits}
 use Rattle.raster.proofs.Steps.{row-stepped}
 use Rattle.raster.proofs.grid.step_rows.Statement.{statement}
 use Rattle.raster.proofs.grid.step_rows.Tie as tie
@@ -44,6 +45,14 @@ module _ (c : tie.In-loop Inv-loop μ-loop) where
 
   same-size : length (c .before .loop .flow) ≡ length (c .before .before .args .flow .now)
   same-size = ap length (c .before .loop .inv .3) ∙ length-filled _ (c .before .before .args .flow .now) (c .before .loop .at) (omega (arith, stretch))
+
+  flow-part : let s = c .before .before in let l = c .before .loop in
+      Stretch (s .args .flow .now) (l .at) (s .args .width - 1) (cut (l .flow) (l .at) (s .args .width - 1))
+  flow-part = lent-filled _ _ _ _ (c .before .loop .inv .3) stretch
+
+  image-part : let s = c .before .before in let l = c .before .loop in
+      Stretch (s .args .image .now) (l .start) (s .args .width) (cut (s .args .image .now) (l .start) (s .args .width))
+  image-part = lent _ _ _ pixels
 
 loop-holds : tie.Need-loop-holds Inv-loop μ-loop
 loop-holds c = (omega arith, omega arith, omega arith, sym (filled-none _ _))
@@ -82,17 +91,7 @@ step-pairs-requires : tie.Need-step-pairs-requires Inv-loop μ-loop
 step-pairs-requires c κs =
     let i = c .before .before in
     let s = i .before .before in
-    let l = i .before .loop in
-    let w = s .args .width in
-    let p = s .pre in
-    let f = part-length (l .at) (w - 1) (l .flow) (omega (arith, stretch i, same-size i)) in
-    let x = part-length (l .start) w (s .args .image .now) (pixels i) in
-    record {
-      reach = rw (part-count (l .at) (w - 1), part-count (l .start) w) (omega (arith, f, x, p .width-least));
-      weight-most = rw (toZ-ofZ w32 _ (s .fits .weight)) (p .weight-most);
-      flow-most = rw (rest-is (l .at) _ (s .args .flow .now) (l .inv .3)) (part-within (l .at) (l .at + (w - 1) - l .at) (s .args .flow .now) (p .flow-most));
-      image-most = part-within (l .start) (l .start + w - l .start) (s .args .image .now) (p .image-most);
-    }
+    rw (toZ-ofZ w32 _ (s .fits .weight)) (row-limits (s .pre) (flow-part i) (image-part i))
 
 add-at : tie.Need-add-at Inv-loop μ-loop
 add-at c = omega (arith, stretch (c .before .before .before .before))
@@ -114,10 +113,8 @@ loop-again c =
       omega arith,
       omega (arith, l .inv .1),
       omega (arith, l .inv .2),
-      put-part (l .at) (s .args .width - 1) _ (s .args .flow .now) (l .inv .3)
-          (c .before .step-pairs .ensures
-          ∙ row-stepped (s .args .width) (l .row) (l .at) (l .start) (toZ w32 (ofZ w32 (s .args .weight))) _ (s .args .flow .now) (s .args .image .now)
-          (l .inv .3) (l .inv .1) (l .inv .2) (omega (arith, stretch i, same-size i))),
+      row-stepped (l .row) (toZ w32 (ofZ w32 (s .args .weight))) (s .args .flow .now) (s .args .image .now)
+          (l .inv .3) (l .inv .1) (l .inv .2) (flow-part i) (image-part i) (c .before .step-pairs .ensures),
     )
 
 -- all rows are done: the whole flow is stepped

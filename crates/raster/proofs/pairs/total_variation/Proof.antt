@@ -1,6 +1,6 @@
 -- `raster::pairs::total_variation` meets its contract. Assumes nothing.
 use mathlib.Core.Path.{_≡_, sym, ap, _∙_}
-use Prim.Native.Nat.{_+_, _-_, _≤_}
+use Prim.Native.Nat.{ℕ, _+_, _-_, _≤_}
 use native.Mathlib.Omega.{arith}
 use borrow.Author.Needs.{needs}
 use lib.IntN.{pos, natAbs}
@@ -58,7 +58,8 @@ add-sum c =
     let s = c .before .before .before .before .before in
     let l = c .before .before .before .before .loop in
     let h = s .pre .image-most in
-    record { fits = omega (arith, s .pre, l .inv .0, ap natAbs (l .inv .1), variation-most (s .args .image .now) h (s .args .stride) (l .j), size c, fall-most (s .args .image .now) h (s .args .stride) (l .j)) }
+    let second : ℕ → ℕ = λ j. j + s .args .stride in
+    record { fits = omega (arith, s .pre, l .inv .0, ap natAbs (l .inv .1), variation-most (s .args .image .now) h (λ j. j) second (l .j), size c, fall-most (s .args .image .now) h (λ j. j) second (l .j)) }
 
 add-j : tie.Need-add-j Inv-loop μ-loop
 add-j c = search needs

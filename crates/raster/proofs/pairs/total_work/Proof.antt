@@ -1,6 +1,6 @@
 -- `raster::pairs::total_work` meets its contract. Assumes nothing.
 use mathlib.Core.Path.{_≡_, sym, _∙_}
-use Prim.Native.Nat.{_+_, _-_, _≤_}
+use Prim.Native.Nat.{ℕ, _+_, _-_, _≤_}
 use native.Mathlib.Omega.{arith}
 use borrow.Author.Needs.{needs}
 use lib.IntN.{_*ℤ_}
@@ -68,8 +68,9 @@ add-wide-requires c κs =
     let s = c .before .before .before .before .before .before in
     let l = c .before .before .before .before .before .loop in
     let a = s .args .image .now in
+    let second : ℕ → ℕ = λ j. j + s .args .stride in
     rw (l .inv .1, term c)
-    (omega (arith, s .pre, l .inv .0, work-most a (s .pre .image-most) (s .args .stride) (s .args .flow .now) (s .pre .flow-most) (l .j), product-most a (s .pre .image-most) (s .args .stride) (s .args .flow .now) (s .pre .flow-most) (l .j)))
+    (omega (arith, s .pre, l .inv .0, work-most a (s .pre .image-most) (λ j. j) second (s .args .flow .now) (s .pre .flow-most) (l .j), product-most a (s .pre .image-most) (λ j. j) second (s .args .flow .now) (s .pre .flow-most) (l .j)))
 
 add-j : tie.Need-add-j Inv-loop μ-loop
 add-j c = search needs

@@ -6,7 +6,7 @@ use native.Mathlib.Nat.{le-of-eq}
 use native.Mathlib.Omega.{arith}
 use borrow.Author.Needs.{needs}
 use lib.IntN.{ℤ, pos}
-use lib.ListN.{length, drop, length-drop}
+use lib.ListN.{length, take, drop}
 use lib.Seq.{length-take-le}
 use mir.Syntax.{w32}
 use mir.Val.{toZ, ofZ}
@@ -14,11 +14,11 @@ use mir.ValLaws.{toZ-ofZ}
 use Rattle.model.specs.Lists.{table}
 use Rattle.raster.specs.Whole.{gridStep}
 use Rattle.raster.proofs.Fill.{filled, length-filled}
-use Rattle.raster.proofs.Rows.{part-within, drop-within}
-use Rattle.raster.proofs.Steps.{vertical-stepped, horizontal-stepped}
-use Rattle.raster.proofs.Whole.{vertical, vertical-most, vertical-reach, all-pairs, upper-filled, lower-part, both-filled}
+use Rattle.raster.proofs.Rows.{part-within}
+use Rattle.raster.proofs.Runs.{Stretch, rest, vertical-limits, horizontal-limits}
+use Rattle.raster.proofs.Whole.{vertical, vertical-most, all-pairs, upper-filled, lower-part, both-filled}
 use Rattle.rounds.specs.Ahead.{gridAhead}
-use Rattle.rounds.proofs.Runs.{vertical-ahead, horizontal-ahead}
+use Rattle.rounds.proofs.Runs.{vertical-iterate, vertical-ahead, horizontal-iterate, horizontal-ahead}
 use Rattle.rounds.proofs.quick.advance_grid.Statement.{statement}
 use Rattle.rounds.proofs.quick.advance_grid.Tie as tie
 
@@ -43,11 +43,9 @@ module _ (c : tie.After-ahead) where
       let s = c .before .before .before .before .before in
       let w = s .args .width in
       let h = s .args .height in
-      let f = length-take-le (vertical w h) (s .args .flow .now) (most s .0) in
-      let a = length-take-le (vertical w h) (s .args .ahead .now) (most s .1) in
       upper-filled _ (s .args .flow .now) (vertical w h) _ (flow-pairs s)
-      (rw (f ∙ sym a) at (c .before .before .advance-pairs .ensures .0)
-      ∙ vertical-stepped w h (toZ w32 (ofZ w32 (s .args .weight))) (s .args .ahead .now) (s .args .image .now) (most s .1))
+      (c .before .before .advance-pairs .ensures .0
+      ∙ vertical-iterate w h (s .args .m) (toZ w32 (ofZ w32 (s .args .weight))) (s .args .flow .now) (s .args .ahead .now) (s .args .image .now) (most s .0))
 
   upper-ahead : let s = c .before .before .before .before .before in
       let w = s .args .width in
@@ -60,7 +58,7 @@ module _ (c : tie.After-ahead) where
       let h = s .args .height in
       upper-filled _ (s .args .ahead .now) (vertical w h) _ (all-pairs (s .pre .grid .size))
       (c .before .before .advance-pairs .ensures .1
-      ∙ vertical-ahead w h (s .args .m) (toZ w32 (ofZ w32 (s .args .weight))) (s .args .flow .now) (s .args .ahead .now) (s .args .image .now) (s .pre .same-length) (most s .0))
+      ∙ vertical-ahead w h (s .args .m) (toZ w32 (ofZ w32 (s .args .weight))) (s .args .flow .now) (s .args .ahead .now) (s .args .image .now) (most s .0))
 
   flow-most : let s = c .before .before .before .before .before in
       vertical (s .args .width) (s .args .height)
@@ -75,6 +73,23 @@ module _ (c : tie.After-ahead) where
   ahead-most =
       let s = c .before .before .before .before .before in
       rw (ap length upper-ahead) (rw (length-filled _ (s .args .ahead .now) (vertical (s .args .width) (s .args .height)) (most s .1)) (most s .1))
+
+  -- what the rows are lent
+  flow-rest : let s = c .before .before .before .before .before in
+      let v = vertical (s .args .width) (s .args .height) in
+      let now = c .before .before .advance-pairs .last .0 ++ drop v (s .args .flow .now) in
+      Stretch (s .args .flow .now) v (s .args .height * (s .args .width - 1)) (take (length now - v) (drop v now))
+  flow-rest =
+      let s = c .before .before .before .before .before in
+      rest (s .args .flow .now) (vertical (s .args .width) (s .args .height)) _ (flow-pairs s) (lower-part _ (s .args .flow .now) _ _ (flow-pairs s) upper-flow)
+
+  ahead-rest : let s = c .before .before .before .before .before in
+      let v = vertical (s .args .width) (s .args .height) in
+      let now = c .before .before .advance-pairs .last .1 .0 ++ drop v (s .args .ahead .now) in
+      Stretch (s .args .ahead .now) v (s .args .height * (s .args .width - 1)) (take (length now - v) (drop v now))
+  ahead-rest =
+      let s = c .before .before .before .before .before in
+      rest (s .args .ahead .now) (vertical (s .args .width) (s .args .height)) _ (all-pairs (s .pre .grid .size)) (lower-part _ (s .args .ahead .now) _ _ (all-pairs (s .pre .grid .size)) upper-ahead)
 
 mul-vertical : tie.Need-mul-vertical
 mul-vertical c = omega (arith, vertical-most (c .pre .grid .size))
@@ -96,17 +111,9 @@ advance-pairs-requires c κs =
     let s = c .before .before in
     let p = s .pre in
     let v = vertical (s .args .width) (s .args .height) in
-    let f = length-take-le v (s .args .flow .now) (most s .0) in
-    let a = length-take-le v (s .args .ahead .now) (most s .1) in
     record {
-      step =
-          record {
-            reach = rw a (le-of-eq (vertical-reach (p .grid .size)));
-            weight-most = rw (toZ-ofZ w32 _ (s .fits .weight)) (p .grid .weight-most);
-            flow-most = part-within 0 v (s .args .ahead .now) (p .grid .flow-most);
-            image-most = p .grid .image-most;
-          };
-      same-length = f ∙ sym a;
+      step = rw (toZ-ofZ w32 _ (s .fits .weight)) (vertical-limits (p .grid));
+      same-length = length-take-le v (s .args .flow .now) (most s .0) ∙ sym (length-take-le v (s .args .ahead .now) (most s .1));
       weight-most = rw (toZ-ofZ w32 _ (s .fits .weight)) (p .weight-most);
       flow-most = part-within 0 v (s .args .flow .now) (p .flow-most);
       factor-most = p .factor-most;
@@ -141,22 +148,11 @@ advance-rows-requires c κs =
     let a = c .before .before in
     let s = a .before .before .before .before .before in
     let p = s .pre in
-    let v = vertical (s .args .width) (s .args .height) in
-    let e = lower-part _ (s .args .flow .now) v _ (flow-pairs s) (upper-flow a) in
-    let e′ = lower-part _ (s .args .ahead .now) v _ (all-pairs (p .grid .size)) (upper-ahead a) in
     record {
-      rows =
-          record {
-            width-least = p .grid .size .width-least;
-            flow-length = ap length e′ ∙ length-drop v (s .args .ahead .now) ∙ omega (arith, all-pairs (p .grid .size));
-            image-length = p .grid .size .image-length;
-            weight-most = rw (toZ-ofZ w32 _ (s .fits .weight)) (p .grid .weight-most);
-            flow-most = rw e′ (drop-within v (s .args .ahead .now) (p .grid .flow-most));
-            image-most = p .grid .image-most;
-          };
-      same-length = ap length e ∙ length-drop v (s .args .flow .now) ∙ omega (arith, p .same-length) ∙ sym (ap length e′ ∙ length-drop v (s .args .ahead .now));
+      rows = rw (toZ-ofZ w32 _ (s .fits .weight)) (horizontal-limits (p .grid) (ahead-rest a));
+      same-length = flow-rest a .size ∙ sym (ahead-rest a .size);
       weight-most = rw (toZ-ofZ w32 _ (s .fits .weight)) (p .weight-most);
-      flow-most = rw e (drop-within v (s .args .flow .now) (p .flow-most));
+      flow-most = flow-rest a .within (p .flow-most);
       factor-most = p .factor-most;
     }
 
@@ -172,18 +168,15 @@ returns c =
     let s = a .before .before .before .before .before in
     let w = s .args .width in
     let h = s .args .height in
-    let weight = toZ w32 (ofZ w32 (s .args .weight)) in
-    let all = all-pairs (s .pre .grid .size) in
-    let e = lower-part _ (s .args .flow .now) (vertical w h) _ (flow-pairs s) (upper-flow a) in
-    let e′ = lower-part _ (s .args .ahead .now) (vertical w h) _ all (upper-ahead a) in
-    let same = ap length e ∙ length-drop (vertical w h) (s .args .flow .now) ∙ ap (λ (n : ℕ). n - vertical w h) (s .pre .same-length) ∙ sym (ap length e′ ∙ length-drop (vertical w h) (s .args .ahead .now)) in (
+    let weight = toZ w32 (ofZ w32 (s .args .weight)) in (
       rw (toZ-ofZ w32 _ (s .fits .weight), ← flow-pairs s) at
           (both-filled _ (s .args .flow .now) (vertical w h) (h * (w - 1)) (flow-pairs s) (upper-flow a)
-          (rw same at (c .before .before .advance-rows .ensures .0) ∙ horizontal-stepped w h weight (s .args .ahead .now) (s .args .image .now) all e′)),
+          (c .before .before .advance-rows .ensures .0
+          ∙ horizontal-iterate w h (s .args .m) weight (s .args .flow .now) (s .args .ahead .now) (s .args .image .now) (flow-rest a) (ahead-rest a))),
       rw (toZ-ofZ w32 _ (s .fits .weight), ← flow-pairs s) at
-          (both-filled _ (s .args .ahead .now) (vertical w h) (h * (w - 1)) all (upper-ahead a)
+          (both-filled _ (s .args .ahead .now) (vertical w h) (h * (w - 1)) (all-pairs (s .pre .grid .size)) (upper-ahead a)
           (c .before .before .advance-rows .ensures .1
-          ∙ horizontal-ahead w h (s .args .m) weight (s .args .flow .now) (s .args .ahead .now) (s .args .image .now) (s .pre .same-length) (flow-pairs s) e e′)),
+          ∙ horizontal-ahead w h (s .args .m) weight (s .args .flow .now) (s .args .ahead .now) (s .args .image .now) (flow-rest a) (ahead-rest a))),
     )
 
 pub advance-grid-spec : {M : Type 1} → statement M

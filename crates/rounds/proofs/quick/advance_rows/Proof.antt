@@ -13,10 +13,10 @@ use Rattle.model.specs.Lists.{table}
 use Rattle.model.proofs.Lists.{length-table}
 use Rattle.raster.specs.Whole.{rowStep}
 use Rattle.raster.proofs.Fill.{filled, filled-none, length-filled, filled-done}
-use Rattle.raster.proofs.Rows.{row-end, part-count, part-length, part-within, rest-is, put-part}
-use Rattle.raster.proofs.Steps.{row-length, row-stepped}
+use Rattle.raster.proofs.Rows.{row-end, put-part}
+use Rattle.raster.proofs.Runs.{Stretch, cut, lent, lent-filled, row-limits}
 use Rattle.rounds.specs.Ahead.{rowAhead}
-use Rattle.rounds.proofs.Runs.{row-ahead}
+use Rattle.rounds.proofs.Runs.{row-iterate, row-ahead}
 use Rattle.rounds.proofs.quick.advance_rows.Statement.{statement}
 use Rattle.rounds.proofs.quick.advance_rows.Tie as tie
 
@@ -53,6 +53,18 @@ module _ (c : tie.In-loop Inv-loop μ-loop) where
   same-ahead =
       ap length (c .before .loop .inv .4)
       ∙ length-filled _ (c .before .before .args .ahead .now) (c .before .loop .at) (omega (arith, stretch, c .before .before .pre .same-length))
+
+  -- what the row's run is lent
+  flow-part : Stretch (c .before .before .args .flow .now) (c .before .loop .at) (c .before .before .args .width - 1) (cut (c .before .loop .flow) (c .before .loop .at) (c .before .before .args .width - 1))
+  flow-part = lent-filled (c .before .before .args .flow .now) (c .before .loop .at) (c .before .before .args .width - 1) _ (c .before .loop .inv .3) stretch
+
+  ahead-part : Stretch (c .before .before .args .ahead .now) (c .before .loop .at) (c .before .before .args .width - 1) (cut (c .before .loop .ahead) (c .before .loop .at) (c .before .before .args .width - 1))
+  ahead-part =
+      lent-filled (c .before .before .args .ahead .now) (c .before .loop .at) (c .before .before .args .width - 1) _ (c .before .loop .inv .4)
+      (omega (arith, stretch, c .before .before .pre .same-length))
+
+  image-part : Stretch (c .before .before .args .image .now) (c .before .loop .start) (c .before .before .args .width) (cut (c .before .before .args .image .now) (c .before .loop .start) (c .before .before .args .width))
+  image-part = lent (c .before .before .args .image .now) (c .before .loop .start) (c .before .before .args .width) pixels
 
 loop-holds : tie.Need-loop-holds Inv-loop μ-loop
 loop-holds c = (omega arith, omega arith, omega arith, sym (filled-none _ _), sym (filled-none _ _))
@@ -106,23 +118,12 @@ advance-pairs-requires : tie.Need-advance-pairs-requires Inv-loop μ-loop
 advance-pairs-requires c κs =
     let i = c .before .before .before in
     let s = i .before .before in
-    let l = i .before .loop in
-    let w = s .args .width in
     let p = s .pre in
-    let f = part-length (l .at) (w - 1) (l .flow) (omega (arith, stretch i, same-flow i)) in
-    let a = part-length (l .at) (w - 1) (l .ahead) (omega (arith, stretch i, same-ahead i, p .same-length)) in
-    let x = part-length (l .start) w (s .args .image .now) (pixels i) in
     record {
-      step =
-          record {
-            reach = rw (part-count (l .at) (w - 1), part-count (l .start) w) (omega (arith, a, x, p .rows .width-least));
-            weight-most = rw (toZ-ofZ w32 _ (s .fits .weight)) (p .rows .weight-most);
-            flow-most = rw (rest-is (l .at) _ (s .args .ahead .now) (l .inv .4)) (part-within (l .at) (l .at + (w - 1) - l .at) (s .args .ahead .now) (p .rows .flow-most));
-            image-most = part-within (l .start) (l .start + w - l .start) (s .args .image .now) (p .rows .image-most);
-          };
-      same-length = rw (part-count (l .at) (w - 1)) (f ∙ sym a);
+      step = rw (toZ-ofZ w32 _ (s .fits .weight)) (row-limits (p .rows) (ahead-part i) (image-part i));
+      same-length = flow-part i .size ∙ sym (ahead-part i .size);
       weight-most = rw (toZ-ofZ w32 _ (s .fits .weight)) (p .weight-most);
-      flow-most = rw (rest-is (l .at) _ (s .args .flow .now) (l .inv .3)) (part-within (l .at) (l .at + (w - 1) - l .at) (s .args .flow .now) (p .flow-most));
+      flow-most = flow-part i .within (p .flow-most);
       factor-most = p .factor-most;
     }
 
@@ -144,20 +145,16 @@ loop-again c =
     let s = i .before .before in
     let l = i .before .loop in
     let w = s .args .width in
-    let weight = toZ w32 (ofZ w32 (s .args .weight)) in
-    let fits : l .at + (w - 1) ≤ length (l .ahead) = omega (arith, stretch i, same-ahead i, s .pre .same-length) in
-    let equal = row-length w (l .row) (l .at) (l .start) weight _ (s .args .flow .now) (s .args .image .now) (l .inv .3) (l .inv .1) (l .inv .2) (omega (arith, stretch i, same-flow i)) in
-    let both = row-length w (l .row) (l .at) (l .start) weight _ (s .args .ahead .now) (s .args .image .now) (l .inv .4) (l .inv .1) (l .inv .2) fits in (
+    let weight = toZ w32 (ofZ w32 (s .args .weight)) in (
       omega arith,
       omega (arith, l .inv .1),
       omega (arith, l .inv .2),
       put-part (l .at) (w - 1) _ (s .args .flow .now) (l .inv .3)
-          (rw (equal ∙ sym both) at (c .before .before .advance-pairs .ensures .0)
-          ∙ row-stepped w (l .row) (l .at) (l .start) weight _ (s .args .ahead .now) (s .args .image .now) (l .inv .4) (l .inv .1) (l .inv .2) fits),
+          (c .before .before .advance-pairs .ensures .0
+          ∙ row-iterate (l .row) (s .args .m) weight (l .inv .1) (l .inv .2) (flow-part i) (ahead-part i) (image-part i)),
       put-part (l .at) (w - 1) _ (s .args .ahead .now) (l .inv .4)
           (c .before .before .advance-pairs .ensures .1
-          ∙ row-ahead w (l .row) (l .at) (l .start) (s .args .m) weight _ _ (s .args .flow .now) (s .args .ahead .now) (s .args .image .now)
-          (l .inv .3) (l .inv .4) (l .inv .1) (l .inv .2) (omega (arith, stretch i, same-flow i))),
+          ∙ row-ahead (l .row) (s .args .m) weight (l .inv .1) (l .inv .2) (flow-part i) (ahead-part i) (image-part i)),
     )
 
 -- all rows are done

@@ -1,0 +1,134 @@
+-- A run of pairs as its stretch of all pairs: what the run's parts of buffers hold, that they keep the limits, and that a
+-- pass over the run is a pass over that stretch. Assumes nothing.
+use mathlib.Core.Path.{_≡_, sym, ap, _∙_, subst}
+use mathlib.Core.List.{List}
+use Prim.Native.Nat.{ℕ, _+_, _-_, _*_, _≤_, _<_}
+use native.Mathlib.Nat.{le-of-eq}
+use native.Mathlib.Omega.{arith}
+use lib.IntN.{ℤ, pos}
+use lib.ListN.{length, take, drop, length-drop}
+use lib.Seq.{length-take-le, getD-take, getD-drop}
+use Rattle.model.specs.Lists.{at}
+use Rattle.raster.specs.Limits.{Within, StepLimits}
+use Rattle.raster.specs.Whole.{firstPixel, secondPixel, rowPixel, AcrossLimits, GridLimits}
+use Rattle.raster.proofs.Fill.{filled}
+use Rattle.raster.proofs.Rows.{part-count, part-at, part-length, part-within, drop-within, rest-is, row-pixel}
+use Rattle.raster.proofs.Whole.{vertical, vertical-first, vertical-second, horizontal-first, horizontal-second, all-pairs, vertical-most, vertical-reach}
+
+-- ---- parts of buffers
+
+-- a part holds the n numbers of a buffer from a on
+pub record Stretch (l : List ℤ) (a n : ℕ) (part : List ℤ) : Type 0 where
+  pub size : length part ≡ n
+  pub number : (i : ℕ) → i < n → at part i ≡ at l (a + i)
+  pub within : {k : ℕ} → Within k l → Within k part
+
+-- a part as it is lent, with the count that the machine computes ..
+abbrev pub cut : List ℤ → ℕ → ℕ → List ℤ
+cut l a n = take (a + n - a) (drop a l)
+
+pub lent : (l : List ℤ) (a n : ℕ) → a + n ≤ length l → Stretch l a n (cut l a n)
+lent l a n h =
+    record {
+      size = ap (λ (k : ℕ). length (take k (drop a l))) (part-count a n) ∙ part-length a n l h;
+      number = λ i b. ap (λ (k : ℕ). at (take k (drop a l)) i) (part-count a n) ∙ part-at a n l i (pos 0) b;
+      within = part-within a (a + n - a) l;
+    }
+
+-- .. past what is filled
+pub lent-filled : (l : List ℤ) (a n : ℕ) (g : ℕ → ℤ) {now : List ℤ} → now ≡ filled a g l → a + n ≤ length l → Stretch l a n (cut now a n)
+lent-filled l a n g p h = subst (λ (m : List ℤ). Stretch l a n (take (a + n - a) m)) (sym (rest-is a g l p)) (lent l a n h)
+
+-- all that follows
+pub rest : (l : List ℤ) (a n : ℕ) → length l ≡ a + n → {part : List ℤ} → part ≡ drop a l → Stretch l a n part
+rest l a n h e =
+    subst (Stretch l a n) (sym e)
+    (record {
+      size = length-drop a l ∙ omega arith;
+      number = λ i _. getD-drop a l i (pos 0);
+      within = drop-within a l;
+    })
+
+-- ---- what a run is lent is within its limits
+
+module _ {w h : ℕ} {weight : ℤ} {flow image : List ℤ} where
+  pub row-limits : AcrossLimits w h weight flow image → {start first : ℕ} {part pixels : List ℤ} → Stretch flow start (w - 1) part → Stretch image first w pixels →
+      StepLimits part pixels 1 weight
+  row-limits p s t =
+      record {
+        reach = omega (arith, p .width-least, s .size, t .size);
+        weight-most = p .weight-most;
+        flow-most = s .within (p .flow-most);
+        image-most = t .within (p .image-most);
+      }
+
+  module _ (p : GridLimits w h weight flow image) where
+    pub vertical-limits : StepLimits (take (vertical w h) flow) image w weight
+    vertical-limits =
+        record {
+          reach = rw (length-take-le (vertical w h) flow (vertical-most (p .size))) (le-of-eq (vertical-reach (p .size)));
+          weight-most = p .weight-most;
+          flow-most = part-within 0 (vertical w h) flow (p .flow-most);
+          image-most = p .image-most;
+        }
+
+    pub horizontal-limits : {part : List ℤ} → Stretch flow (vertical w h) (h * (w - 1)) part → AcrossLimits w h weight part image
+    horizontal-limits s =
+        record {
+          width-least = p .size .width-least;
+          flow-length = s .size;
+          image-length = p .size .image-length;
+          weight-most = p .weight-most;
+          flow-most = s .within (p .flow-most);
+          image-most = p .image-most;
+        }
+
+-- ---- one pair: a function of its number and its pixels' values
+
+module _ {A : Type 0} (f : ℤ → ℤ → ℤ → A) {m n : ℤ} (p : m ≡ n) where
+  pair-cong : {x x′ y y′ : ℤ} → x ≡ x′ → y ≡ y′ → f m x y ≡ f n x′ y′
+  pair-cong q r = λ i. f (p i) (q i) (r i)
+
+  pub row-pair : {w start first : ℕ} {image pixels : List ℤ} (row : ℕ) → start ≡ row * (w - 1) → first ≡ row * w → Stretch image first w pixels →
+      (k : ℕ) → k < w - 1 →
+      f m (at pixels k) (at pixels (k + 1)) ≡ f n (at image (rowPixel w (start + k))) (at image (rowPixel w (start + k) + 1))
+  row-pair {w} {start} {first} {image} row q r t k b =
+      let e : first + k ≡ rowPixel w (start + k) = ap (λ (s : ℕ). s + k) r ∙ sym (row-pixel w row start k q b) in
+      let e′ : first + (k + 1) ≡ rowPixel w (start + k) + 1 = omega (arith, e) in
+      pair-cong (t .number k (omega arith) ∙ ap (at image) e) (t .number (k + 1) (omega arith) ∙ ap (at image) e′)
+
+  module _ (w h : ℕ) (image : List ℤ) where
+    pub vertical-pair : (j : ℕ) → j < vertical w h → f m (at image j) (at image (j + w)) ≡ f n (at image (firstPixel w h j)) (at image (secondPixel w h j))
+    vertical-pair j b = pair-cong (ap (at image) (sym (vertical-first w h j b))) (ap (at image) (sym (vertical-second w h j b)))
+
+    pub horizontal-pair : (k : ℕ) → k < h * (w - 1) →
+        f m (at image (rowPixel w k)) (at image (rowPixel w k + 1))
+        ≡ f n (at image (firstPixel w h (vertical w h + k))) (at image (secondPixel w h (vertical w h + k)))
+    horizontal-pair k b = pair-cong (ap (at image) (sym (horizontal-first w h k b))) (ap (at image) (sym (horizontal-second w h k b)))
+
+-- ---- a pass: a table, a sum or a search over n pairs
+
+module _ {A B : Type 0} (pass : ℕ → (ℕ → A) → B) (cong : (n : ℕ) (g g′ : ℕ → A) → ((i : ℕ) → i < n → g i ≡ g′ i) → pass n g ≡ pass n g′)
+    (f : ℤ → ℤ → ℤ → A)
+  where
+    sized : {size : ℕ} (n : ℕ) {g g′ : ℕ → A} → size ≡ n → ((i : ℕ) → i < n → g i ≡ g′ i) → pass size g ≡ pass n g′
+    sized n {g} {g′} e h = ap (λ (k : ℕ). pass k g) e ∙ cong n g g′ h
+
+    pub row-run : {w start first : ℕ} {flow image part pixels : List ℤ} (row : ℕ) → start ≡ row * (w - 1) → first ≡ row * w →
+        Stretch flow start (w - 1) part → Stretch image first w pixels →
+        pass (length part) (λ k. f (at part k) (at pixels k) (at pixels (k + 1)))
+        ≡ pass (w - 1) (λ k. f (at flow (start + k)) (at image (rowPixel w (start + k))) (at image (rowPixel w (start + k) + 1)))
+    row-run {w} row q r s t = sized (w - 1) (s .size) (λ k b. row-pair f (s .number k b) row q r t k b)
+
+    module _ (w h : ℕ) (flow image : List ℤ) where
+      pub vertical-run : vertical w h ≤ length flow →
+          pass (length (take (vertical w h) flow)) (λ j. f (at (take (vertical w h) flow) j) (at image j) (at image (j + w)))
+          ≡ pass (vertical w h) (λ j. f (at flow j) (at image (firstPixel w h j)) (at image (secondPixel w h j)))
+      vertical-run l =
+          sized (vertical w h) (length-take-le (vertical w h) flow l) (λ j b.
+          vertical-pair f (getD-take (vertical w h) flow j (pos 0) b) w h image j b)
+
+      pub horizontal-run : {part : List ℤ} → Stretch flow (vertical w h) (h * (w - 1)) part →
+          pass (length part) (λ k. f (at part k) (at image (rowPixel w k)) (at image (rowPixel w k + 1)))
+          ≡ pass (h * (w - 1)) (λ k. f (at flow (vertical w h + k)) (at image (firstPixel w h (vertical w h + k))) (at image (secondPixel w h (vertical w h + k))))
+      horizontal-run s = sized (h * (w - 1)) (s .size) (λ k b. horizontal-pair f (s .number k b) w h image k b)

@@ -1,0 +1,57 @@
+-- A search for a moving pair by parts: where no pair before a moves, the n pairs from a on say whether one of them does.
+-- Assumes nothing.
+use mathlib.Core.Path.{_≡_, ap}
+use mathlib.Core.Bool.{Bool, true, false}
+use Prim.Native.Nat.{ℕ, _+_, _≤_, _<_}
+use native.Mathlib.Omega.{arith}
+use Rattle.model.specs.Lists.{firstWhere}
+use Rattle.model.proofs.Lists.{firstWhere-first}
+use Rattle.raster.specs.declared.pairs.Moving.{Moving}
+use Rattle.raster.specs.declared.pairs.Moving.the-variants.{At, Nothing}
+use Rattle.raster.specs.Run.{movingOf}
+use Rattle.raster.proofs.Moving.{nothing-is, at-is, nothing-moves, one-moves}
+use Rattle.raster.proofs.Search.{Passed, search-cong, passed-append, search-found, search-ended}
+
+-- the answer of a search among n pairs
+abbrev pub answer : ℕ → (ℕ → Bool) → Moving
+answer n test = movingOf n (firstWhere n test)
+
+pub answer-cong : (n : ℕ) (s t : ℕ → Bool) → ((i : ℕ) → i < n → s i ≡ t i) → answer n s ≡ answer n t
+answer-cong n s t h = ap (movingOf n) (search-cong n h)
+
+-- ---- what an answer says
+
+module _ (test : ℕ → Bool) where
+  pub none-moves : (n : ℕ) → answer n test ≡ Nothing → Passed test n
+  none-moves n e i l = firstWhere-first n test .before i (omega (arith, nothing-moves n (firstWhere n test) e))
+
+  pub first-moves : (n : ℕ) {j : ℕ} → answer n test ≡ At j → (j < n) × Passed test j × (test j ≡ true)
+  first-moves n {j} e =
+      let (k, l) = one-moves n (firstWhere n test) e in
+      let f = firstWhere-first n test in
+      (l, rw k at (f .before), rw k at (f .found (omega arith)))
+
+-- ---- and back
+
+module _ (test : ℕ → Bool) where
+  pub none-answer : {k n : ℕ} → Passed test k → k ≡ n → Nothing ≡ answer n test
+  none-answer {n = n} p e = nothing-is n (firstWhere n test) (search-ended test p e)
+
+  pub first-answer : {j n : ℕ} → Passed test j → j < n → test j ≡ true → At j ≡ answer n test
+  first-answer {n = n} p l t = at-is n (firstWhere n test) (search-found test p l t) l
+
+  -- ---- the first n pairs
+
+  pub front-first : (n : ℕ) {j m : ℕ} → answer n test ≡ At j → n ≤ m → At j ≡ answer m test
+  front-first n e h = let (l, q, t) = first-moves test n e in first-answer q (omega arith) t
+
+  -- ---- the n pairs from a on
+
+  module _ (a n : ℕ) (p : Passed test a) where
+    pub part-none : answer n (λ i. test (a + i)) ≡ Nothing → Passed test (a + n)
+    part-none e = passed-append test a n p (none-moves (λ i. test (a + i)) n e)
+
+    pub part-first : {j m : ℕ} → answer n (λ i. test (a + i)) ≡ At j → a + n ≤ m → At (a + j) ≡ answer m test
+    part-first {j} {m} e h =
+        let (l, q, t) = first-moves (λ i. test (a + i)) n e in
+        first-answer (passed-append test a j p q) (omega arith) t

@@ -1,0 +1,176 @@
+-- `raster::grid::first_moving_rows` meets its contract. Assumes nothing.
+use mathlib.Core.Path.{_≡_, sym, ap, _∙_}
+use mathlib.Core.Bool.{Bool}
+use Prim.Native.Nat.{ℕ, _+_, _-_, _*_, _≤_, _<_}
+use native.Mathlib.Omega.{arith}
+use borrow.Author.Needs.{needs}
+use lib.ListN.{length}
+use mir.Syntax.{w32}
+use mir.Val.{toZ, ofZ}
+use mir.ValLaws.{toZ-ofZ}
+use Rattle.raster.specs.declared.pairs.Moving.the-variants.{At}
+use Rattle.raster.specs.Stencil.{moves}
+use Rattle.raster.specs.Whole.{rowMoves}
+use Rattle.raster.proofs.Rows.{row-end}
+use Rattle.raster.proofs.Runs.{Stretch, cut, lent, row-limits, row-run}
+use Rattle.raster.proofs.Search.{Passed, passed-none}
+use Rattle.raster.proofs.Searches.{answer, answer-cong, first-moves, none-answer, part-none, part-first}
+use Rattle.raster.proofs.grid.first_moving_rows.Statement.{statement}
+use Rattle.raster.proofs.grid.first_moving_rows.Tie as tie
+
+abbrev Inv-loop : tie.InvT-loop
+Inv-loop flow image width height weight across at₀ start₀ row₀ at start row =
+    (row ≤ height) × (at ≡ row * across) × (start ≡ row * width) × Passed (rowMoves width (toZ w32 weight) flow image) at
+
+abbrev μ-loop : tie.MeasureT-loop
+μ-loop flow image width height weight across at₀ start₀ row₀ at start row = height - row
+
+-- whether a horizontal pair moves
+abbrev test : tie.Start Inv-loop μ-loop → ℕ → Bool
+test s = rowMoves (s .args .width) (toZ w32 (ofZ w32 (s .args .weight))) (s .args .flow .now) (s .args .image .now)
+
+sub-across : tie.Need-sub-across Inv-loop μ-loop
+sub-across c = search needs
+
+module _ (c : tie.Else1 Inv-loop μ-loop) where
+  -- this row's stretch ends within the flow, and its pixels within the image
+  stretch : c .before .loop .at + (c .before .before .args .width - 1) ≤ length (c .before .before .args .flow .now)
+  stretch = row-end (c .before .loop .row) _ _ _ _ (c .if1 .left) (c .before .loop .inv .1) (c .before .before .pre .flow-length)
+
+  pixels : c .before .loop .start + c .before .before .args .width ≤ length (c .before .before .args .image .now)
+  pixels = row-end (c .before .loop .row) _ _ _ _ (c .if1 .left) (c .before .loop .inv .2) (c .before .before .pre .image-length ∙ omega arith)
+
+  flow-part : let s = c .before .before in let l = c .before .loop in
+      Stretch (s .args .flow .now) (l .at) (s .args .width - 1) (cut (s .args .flow .now) (l .at) (s .args .width - 1))
+  flow-part = lent _ _ _ stretch
+
+  image-part : let s = c .before .before in let l = c .before .loop in
+      Stretch (s .args .image .now) (l .start) (s .args .width) (cut (s .args .image .now) (l .start) (s .args .width))
+  image-part = lent _ _ _ pixels
+
+loop-holds : tie.Need-loop-holds Inv-loop μ-loop
+loop-holds c = (omega arith, omega arith, omega arith, passed-none _)
+
+add-first-moving : tie.Need-add-first-moving Inv-loop μ-loop
+add-first-moving c = omega (arith, stretch c)
+
+mul-first-moving : tie.Need-mul-first-moving Inv-loop μ-loop
+mul-first-moving c = omega (arith, stretch c, c .before .before .good .0 .1)
+
+sub-first-moving : tie.Need-sub-first-moving Inv-loop μ-loop
+sub-first-moving c = search needs
+
+part-first-moving-start : tie.Need-part-first-moving-start Inv-loop μ-loop
+part-first-moving-start c = search needs
+
+part-first-moving-end : tie.Need-part-first-moving-end Inv-loop μ-loop
+part-first-moving-end c = stretch c
+
+add-first-moving-2 : tie.Need-add-first-moving-2 Inv-loop μ-loop
+add-first-moving-2 c = omega (arith, pixels (c .before))
+
+mul-first-moving-2 : tie.Need-mul-first-moving-2 Inv-loop μ-loop
+mul-first-moving-2 c = omega (arith, pixels (c .before), c .before .before .before .good .1 .0 .1)
+
+sub-first-moving-2 : tie.Need-sub-first-moving-2 Inv-loop μ-loop
+sub-first-moving-2 c = search needs
+
+part-first-moving-start-2 : tie.Need-part-first-moving-start-2 Inv-loop μ-loop
+part-first-moving-start-2 c = search needs
+
+part-first-moving-end-2 : tie.Need-part-first-moving-end-2 Inv-loop μ-loop
+part-first-moving-end-2 c = pixels (c .before)
+
+first-moving-requires : tie.Need-first-moving-requires Inv-loop μ-loop
+first-moving-requires c κs =
+    let i = c .before .before in
+    let s = i .before .before in
+    rw (toZ-ofZ w32 _ (s .fits .weight)) (row-limits (s .pre) (flow-part i) (image-part i))
+
+-- the answer for this row, as a stretch of all horizontal pairs
+row-answer : (c : tie.After-first-moving Inv-loop μ-loop) → let s = c .before .before .before .before .before in
+    c .first-moving .result ≡ answer (s .args .width - 1) (λ k. test s (c .before .before .before .before .loop .at + k))
+row-answer c =
+    let i = c .before .before .before in
+    let l = i .before .loop in
+    c .first-moving .ensures ∙ row-run answer answer-cong (moves _) (l .row) (l .inv .1) (l .inv .2) (flow-part i) (image-part i)
+
+enum-known-found : tie.Need-enum-known-found Inv-loop μ-loop
+enum-known-found c = search needs
+
+-- one of this row's pairs moves
+moved : (c : tie.After-known-told Inv-loop μ-loop) → let i = c .before .before .before .before .before .before in let s = i .before .before in
+    answer (s .args .width - 1) (λ k. test s (i .before .loop .at + k)) ≡ At (c .before .found .given .0 .0)
+moved c = sym (row-answer (c .before .before .before)) ∙ c .before .found .given .1
+
+add-t26 : tie.Need-add-t26 Inv-loop μ-loop
+add-t26 c = omega (arith, first-moves _ _ (moved c) .0, stretch (c .before .before .before .before .before .before))
+
+enum-told : tie.Need-enum-told Inv-loop μ-loop
+enum-told c = search needs
+
+add-at : tie.Need-add-at Inv-loop μ-loop
+add-at c = omega (arith, stretch (c .before .before .before .before .before))
+
+add-start : tie.Need-add-start Inv-loop μ-loop
+add-start c = omega (arith, pixels (c .before .before .before .before .before))
+
+add-row : tie.Need-add-row Inv-loop μ-loop
+add-row c = search needs
+
+loop-less : tie.Need-loop-less Inv-loop μ-loop
+loop-less c = search needs
+
+loop-again : tie.Need-loop-again Inv-loop μ-loop
+loop-again c =
+    let l = c .before .before .before .before .before .before .loop in (
+      omega arith,
+      omega (arith, l .inv .1),
+      omega (arith, l .inv .2),
+      part-none _ (l .at) _ (l .inv .3) (sym (row-answer (c .before .before)) ∙ c .enum-told .given .1),
+    )
+
+returns : tie.Need-returns Inv-loop μ-loop
+returns c =
+    let s = c .before .before in
+    let l = c .before .loop in
+    let e : l .row ≡ s .args .height = omega (arith, l .inv .0, c .if1 .taken) in
+    let n : l .at ≡ length (s .args .flow .now) = l .inv .1 ∙ ap (λ (k : ℕ). k * (s .args .width - 1)) e ∙ sym (s .pre .flow-length) in
+    rw (toZ-ofZ w32 _ (s .fits .weight)) at (none-answer _ (l .inv .3) n)
+
+returns-2 : tie.Need-returns-2 Inv-loop μ-loop
+returns-2 c =
+    let i = c .before .before .before .before .before .before in
+    let l = i .before .loop in
+    rw (toZ-ofZ w32 _ (i .before .before .fits .weight)) at
+    (part-first _ (l .at) _ (l .inv .3) (moved c) (stretch i))
+
+pub first-moving-rows-spec : {M : Type 1} → statement M
+first-moving-rows-spec =
+    tie.close
+    (tie.spec
+    Inv-loop
+    μ-loop
+    sub-across
+    loop-holds
+    add-first-moving
+    mul-first-moving
+    sub-first-moving
+    part-first-moving-start
+    part-first-moving-end
+    add-first-moving-2
+    mul-first-moving-2
+    sub-first-moving-2
+    part-first-moving-start-2
+    part-first-moving-end-2
+    first-moving-requires
+    enum-known-found
+    add-t26
+    enum-told
+    add-at
+    add-start
+    add-row
+    loop-less
+    loop-again
+    returns
+    returns-2)
