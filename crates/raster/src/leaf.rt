@@ -7,7 +7,7 @@ ghost use Prim.Native.Nat.{_+_, _*_, _^_, _≤_, _<_};
 ghost use lib.IntN.{pos, natAbs, _+ℤ_, _-ℤ_, _*ℤ_};
 ghost use lib.Signed.{ltZ};
 ghost use Rattle.integers.specs.Whole.{square, clamp};
-ghost use Rattle.model.specs.Grid.{readingOf};
+ghost use Rattle.model.specs.Grid.{readingOf, lowEnd, highEnd};
 ghost use Rattle.raster.specs.Stencil.{stepValue, moves};
 ghost use Rattle.raster.specs.Limits.{PairLimits, PixelLimits};
 
@@ -83,4 +83,18 @@ pub fn pixel_value(
 {
     let pull = signed::sub(signed::add(below, right), signed::add(above, left));
     signed::clamped(low, high, signed::sub(b, pull))
+}
+
+// The lower end of the box, in sub-units.
+pub fn low_end(low: u8) -> i32
+    ensures { λ r. ⌜ r ≡ lowEnd low ⌝ }
+{
+    signed::natural(256 * (low as u32))
+}
+
+// The upper end of the box.
+pub fn high_end(high: u8) -> i32
+    ensures { λ r. ⌜ r ≡ highEnd high ⌝ }
+{
+    signed::natural(256 * (high as u32))
 }
