@@ -4,6 +4,7 @@
 --     Moving      the answer of a search for a moving pair
 --     Elements    the numbers of buffers within limits
 --     Sums        running sums, and that they fit 64 bits
+--     Parts       a part of a buffer
 --     Rows        a row of a flow's image
 --     RowParts    the parts of the flow that a row takes
 pub mod Fill
@@ -11,5 +12,6 @@ pub mod Search
 pub mod Moving
 pub mod Elements
 pub mod Sums
+pub mod Parts
 pub mod Rows
 pub mod RowParts
