@@ -39,7 +39,7 @@ pub fn quotient(a: i32, b: i32) -> i32
 }
 
 // z, clamped to low .. high.
-pub fn clamped(low: i32, high: i32, z: i32) -> i32
+pub fn clamped(z: i32, low: i32, high: i32) -> i32
     ensures { λ r. ⌜ r ≡ clamp low high z ⌝ }
 {
     if z < low {

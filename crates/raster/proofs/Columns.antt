@@ -1,5 +1,4 @@
 -- A row of a flow's image: what the limits of a row say of a column. Assumes nothing.
-use mathlib.Core.Path.{_≡_}
 use mathlib.Core.List.{List, _∷_}
 use Prim.Native.Nat.{ℕ, zero, suc, _^_, _≤_, _<_, zero-le}
 use native.Mathlib.Omega.{arith}

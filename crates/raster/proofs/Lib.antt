@@ -5,6 +5,7 @@
 --     Moving      the answer of a search for a moving pair
 --     Elements    the numbers of buffers within limits
 --     Sums        running sums, and that they fit 64 bits
+--     Parts       a part of a buffer
 --     Columns     a row of a flow's image, column by column
 --     RowParts    the parts of the flow that a row of the image takes
 --     Rows        a buffer worked on row by row
@@ -19,6 +20,7 @@ pub mod Search
 pub mod Moving
 pub mod Elements
 pub mod Sums
+pub mod Parts
 pub mod Columns
 pub mod RowParts
 pub mod Rows

@@ -1,49 +1,25 @@
 -- A row of a raster in its buffers: the part of an image, and the parts of a flow that hold the numbers of the row's pairs.
 -- What they hold is what the image gathers at each pixel of the row. Assumes nothing.
 use mathlib.Core.Path.{_≡_, refl, sym, ap₂, _∙_}
-use mathlib.Core.Bool.{Bool, true, false, cond}
+use mathlib.Core.Bool.{cond}
 use mathlib.Core.List.{List, _∷_, _++_}
 use mathlib.Core.Logic.{_⊎_, inl, inr, ⊎-elim}
-use Prim.Native.Nat.{ℕ, zero, suc, _+_, _-_, _*_, _/_, _%_, _≤_, _<_, min, zero-le}
+use Prim.Native.Nat.{ℕ, zero, suc, _+_, _-_, _*_, _/_, _%_, _≤_, _<_, min}
 use native.Mathlib.Nat.{mul-comm, mul-sub, mul-le-mul-right, mul-add-div-right, mul-add-mod-self-right, div-eq-of-lt, mod-eq-of-lt, add-zero}
 use native.Mathlib.Decide.{decLt}
 use native.Mathlib.Omega.{arith}
 use borrow.Author.Tests.{lt-ltb, le-ltb}
 use lib.Dec.{ltb}
-use lib.IntN.{ℤ, pos, natAbs, _+ℤ_, _-ℤ_}
-use lib.ListN.{length, getD, take, drop, length-take, length-drop, List·getD-eq-default}
+use lib.IntN.{ℤ, pos, _+ℤ_, _-ℤ_}
+use lib.ListN.{length, getD, take, drop}
 use lib.Seq.{getD-take, getD-drop, drop-drop}
 use Rattle.model.specs.Lists.{at, table}
 use Rattle.model.proofs.Lists.{length-table}
-use Rattle.raster.specs.Limits.{Within, RowLimits, ImageLimits, ImageRowLimits}
+use Rattle.raster.specs.Limits.{RowLimits, ImageLimits, ImageRowLimits}
 use Rattle.raster.specs.Rows.{rowValue, imageValue, withRow}
 use Rattle.raster.specs.Stencil.{gathered, rightPair}
-use Rattle.raster.proofs.Fill.{table-cong}
-
--- ---- any part
-
-abbrev pub part : {A : Type 0} → ℕ → ℕ → List A → List A
-part a e l = take (e - a) (drop a l)
-
--- a number of a part: 0 past its end
-part-at : (a e : ℕ) (l : List ℤ) (c : ℕ) → at (part a e l) c ≡ cond (ltb c (e - a)) (at l (a + c)) (pos 0)
-part-at a e l c = by (decLt c (e - a))
-  where
-    by : Dec (c < e - a) → at (part a e l) c ≡ cond (ltb c (e - a)) (at l (a + c)) (pos 0)
-    by (yes h) = rw (lt-ltb c (e - a) h) (getD-take (e - a) (drop a l) c (pos 0) h ∙ getD-drop a l c (pos 0))
-    by (no h) =
-        let past : length (part a e l) ≤ c = rw (length-take (e - a) (drop a l)) (omega (arith, h)) in
-        rw (le-ltb c (e - a) (omega (arith, h))) (List·getD-eq-default (part a e l) (pos 0) past)
-
-part-within : {k : ℕ} (a e : ℕ) (l : List ℤ) → Within k l → Within k (part a e l)
-part-within {k} a e l h c = rw (part-at a e l c) (either (ltb c (e - a)))
-  where
-    either : (t : Bool) → natAbs (cond t (at l (a + c)) (pos 0)) ≤ k
-    either true = h (a + c)
-    either false = zero-le
-
-length-part : {A : Type 0} (a e : ℕ) (l : List A) → e ≤ length l → length (part a e l) ≡ e - a
-length-part a e l h = rw (length-take (e - a) (drop a l), length-drop a l) (omega arith)
+use Rattle.raster.proofs.Fill.{Filling, filling-part, table-cong}
+use Rattle.raster.proofs.Parts.{part, part-at, part-within, length-part}
 
 -- two tests that hold together
 same-test : (a b c d : ℕ) → (a < b → c < d) → (c < d → a < b) → ltb a b ≡ ltb c d
@@ -200,6 +176,10 @@ pub row-put : (a w : ℕ) (g : ℕ → ℤ) (l : List ℤ) {row : List ℤ} → 
 row-put a w g l e =
     let k : a + (a + w - a) ≡ a + w = omega arith in
     rw (e, drop-drop (a + w - a) a l, length-table w g, k)
+
+-- a buffer that is filled up to k takes one more row
+pub filling-row : {g : ℕ → ℤ} {e : List ℤ} {k : ℕ} {l l′ : List ℤ} → Filling g e k l → (w : ℕ) → k + w ≤ length e → l′ ≡ withRow k (table w (λ i. g (k + i))) l → Filling g e (k + w) l′
+filling-row {g} {k} f w h q = filling-part f w h (rw (length-table w (λ i. g (k + i))) at q)
 
 -- the limits of a raster speak of its image's length alone
 pub same-raster : {image image′ : List ℤ} {samples : List ℕ} {flow : List ℤ} {w h : ℕ} → ImageLimits image samples flow w h → length image′ ≡ length image → ImageLimits image′ samples flow w h

@@ -5,12 +5,12 @@
 use crate::leaf;
 ghost use mathlib.Core.Path.{_≡_};
 ghost use Prim.Native.Nat.{_+_, _-_, _*_, _<_, min};
-ghost use lib.ListN.{length, getD};
+ghost use lib.ListN.{length};
 ghost use Rattle.model.specs.Lists.{at, table};
 ghost use Rattle.raster.specs.Limits.{ColumnLimits, RowLimits, ImageLimits, ImageRowLimits};
 ghost use Rattle.raster.specs.Rows.{columnValue, rowValue, imageValue, withRow};
 
-// A number of a part that may be empty.
+// A number of a part that may be empty: then it is 0.
 fn number_at(values: &[i32], i: usize) -> i32
     requires { ⌜ (0 < length (now values) → i < length (now values)) ⌝ }
     ensures { λ r. ⌜ r ≡ at (now (values .entry)) i ⌝ }
@@ -67,6 +67,7 @@ pub fn image_row(
     row[c] = column_value(samples[c], below, above, c, 0, left, low, high);
 }
 
+// The lesser of two.
 fn least(a: usize, b: usize) -> usize
     ensures { λ r. ⌜ r ≡ min a b ⌝ }
 {

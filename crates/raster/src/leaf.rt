@@ -3,7 +3,7 @@
 use integers::signed;
 ghost use mathlib.Core.Path.{_≡_};
 ghost use mathlib.Core.Bool.{_||_};
-ghost use Prim.Native.Nat.{_+_, _*_, _^_, _≤_, _<_};
+ghost use Prim.Native.Nat.{_+_, _^_, _≤_, _<_};
 ghost use lib.IntN.{pos, natAbs, _+ℤ_, _-ℤ_, _*ℤ_};
 ghost use lib.Signed.{ltZ};
 ghost use Rattle.integers.specs.Whole.{square, clamp};
@@ -24,7 +24,7 @@ pub fn step_value(f: i32, x: i32, y: i32, weight: i32) -> i32
     ensures { λ r. ⌜ r ≡ stepValue weight f x y ⌝ }
 {
     let share = signed::quotient(signed::sub(x, y), 8);
-    signed::clamped(signed::neg(weight), weight, signed::add(f, share))
+    signed::clamped(signed::add(f, share), signed::neg(weight), weight)
 }
 
 // Whether a step would change the number of a pair.
@@ -82,7 +82,7 @@ pub fn pixel_value(
     ensures { λ r. ⌜ r ≡ clamp low high (b -ℤ ((below +ℤ right) -ℤ (above +ℤ left))) ⌝ }
 {
     let pull = signed::sub(signed::add(below, right), signed::add(above, left));
-    signed::clamped(low, high, signed::sub(b, pull))
+    signed::clamped(signed::sub(b, pull), low, high)
 }
 
 // The lower end of the box, in sub-units.

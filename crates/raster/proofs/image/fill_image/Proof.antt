@@ -7,10 +7,9 @@ use borrow.Author.Needs.{needs}
 use mir.Syntax.{w32}
 use mir.Val.{toZ}
 use mir.ValLaws.{toZ-ofZ}
-use Rattle.model.proofs.Lists.{length-table}
 use Rattle.raster.specs.Rows.{imageValue}
-use Rattle.raster.proofs.Fill.{Filling, filling-none, filling-part, filling-all}
-use Rattle.raster.proofs.RowParts.{row-in, same-raster}
+use Rattle.raster.proofs.Fill.{Filling, filling-none, filling-all}
+use Rattle.raster.proofs.RowParts.{row-in, filling-row, same-raster}
 use Rattle.raster.proofs.image.fill_image.Statement.{statement}
 use Rattle.raster.proofs.image.fill_image.Tie as tie
 
@@ -44,7 +43,7 @@ loop-again c =
     let next : (l .r + 1) * w ≡ l .r * w + w = omega arith in
     let inside : l .r < s .args .height = omega arith in (
       omega arith,
-      rw next (filling-part (l .inv .1) w (omega (arith, s .pre, row-in w inside)) (rw (length-table w) at (c .before .fill-row .ensures))),
+      rw next (filling-row (l .inv .1) w (omega (arith, s .pre, row-in w inside)) (c .before .fill-row .ensures)),
     )
 
 same-length : tie.Need-same-length Inv-loop μ-loop

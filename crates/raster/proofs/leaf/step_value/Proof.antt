@@ -27,14 +27,14 @@ sub-requires c κs = rw (toZ-ofZ w32 _ (c .fits .x), toZ-ofZ w32 _ (c .fits .y))
 quotient-requires : tie.Need-quotient-requires
 quotient-requires c κs = search needs
 
-neg-requires : tie.Need-neg-requires
-neg-requires c κs = rw (toZ-ofZ w32 _ (c .before .before .fits .weight)) (omega arith)
-
 add-requires : tie.Need-add-requires
 add-requires c κs =
-    let s = c .before .before .before in
-    rw (toZ-ofZ w32 _ (s .fits .f), share (c .before))
+    let s = c .before .before in
+    rw (toZ-ofZ w32 _ (s .fits .f), share c)
     (omega (arith, s .pre, natAbs-difference (s .args .x) (s .args .y), natAbs-quotient-≤ (s .args .x -ℤ s .args .y) 8))
+
+neg-requires : tie.Need-neg-requires
+neg-requires c κs = rw (toZ-ofZ w32 _ (c .before .before .before .fits .weight)) (omega arith)
 
 clamped-requires : tie.Need-clamped-requires
 clamped-requires c κs = search needs
@@ -43,10 +43,12 @@ returns : tie.Need-returns
 unfolding stepValue eighth
 returns c =
     let s = c .before .before .before .before .before in
+    let add = c .before .before .add in
+    let neg = c .before .neg in
     read w32 (c .clamped .ok) ∙ c .clamped .ensures
-    ∙ rw (called w32 (c .before .before .neg .ok) negℤ (c .before .before .neg .ensures) (toZ-ofZ w32 _ (s .fits .weight)), toZ-ofZ w32 _ (s .fits .weight), called₂ w32 (c .before .add .ok) _+ℤ_ (c .before .add .ensures) (toZ-ofZ w32 _ (s .fits .f)) (share (c .before .before .before)))
+    ∙ rw (called₂ w32 (add .ok) _+ℤ_ (add .ensures) (toZ-ofZ w32 _ (s .fits .f)) (share (c .before .before .before)), called w32 (neg .ok) negℤ (neg .ensures) (toZ-ofZ w32 _ (s .fits .weight)), toZ-ofZ w32 _ (s .fits .weight))
 
 pub step-value-spec : {M : Type 1} → statement M
 step-value-spec =
     tie.close
-    (tie.spec sub-requires quotient-requires neg-requires add-requires clamped-requires returns)
+    (tie.spec sub-requires quotient-requires add-requires neg-requires clamped-requires returns)
