@@ -4,20 +4,20 @@
 --     Search      a search from the front
 --     Moving      the answer of a search for a moving pair
 --     Elements    the numbers of buffers within limits
---     Sums        running sums, and that they fit 64 bits
 --     Rows        a buffer worked on row by row
 --     Whole       the two runs of all pairs
 --     Runs        a run of pairs as its stretch of all pairs
 --     Steps       a step by runs of pairs
 --     Searches    a search for a moving pair by parts
+--     Sums        running sums, that they fit 64 bits, and sums by runs of pairs
 pub mod Stencil
 pub mod Fill
 pub mod Search
 pub mod Moving
 pub mod Elements
-pub mod Sums
 pub mod Rows
 pub mod Whole
 pub mod Runs
 pub mod Steps
 pub mod Searches
+pub mod Sums
