@@ -4,7 +4,6 @@
 --     Search      a search from the front
 --     Moving      the answer of a search for a moving pair
 --     Elements    the numbers of buffers within limits
---     Sums        running sums, and that they fit 64 bits
 --     Parts       a part of a buffer
 --     Columns     a row of a flow's image, column by column
 --     RowParts    the parts of the flow that a row of the image takes
@@ -13,13 +12,13 @@
 --     Runs        a run of pairs as its stretch of all pairs
 --     Steps       a step by runs of pairs
 --     Searches    a search for a moving pair by parts
+--     Sums        running sums, that they fit 64 bits, and sums by runs of pairs
 --     Model       what the passes leave is what the model defines
 pub mod Stencil
 pub mod Fill
 pub mod Search
 pub mod Moving
 pub mod Elements
-pub mod Sums
 pub mod Parts
 pub mod Columns
 pub mod RowParts
@@ -28,4 +27,5 @@ pub mod Whole
 pub mod Runs
 pub mod Steps
 pub mod Searches
+pub mod Sums
 pub mod Model

@@ -1,8 +1,8 @@
 -- A buffer worked on row by row: what a row's part of it reads, that it keeps its limits, and what the whole holds once a
 -- filled part has come back. Assumes nothing.
-use mathlib.Core.Path.{_≡_, refl, sym, ap, ap₂, _∙_, subst}
+use mathlib.Core.Path.{_≡_, sym, ap, ap₂, _∙_, subst}
 use mathlib.Core.List.{List, _++_}
-use Prim.Native.Nat.{ℕ, zero, suc, _+_, _-_, _*_, _/_, _≤_, _<_, zero-le, min}
+use Prim.Native.Nat.{ℕ, suc, _+_, _-_, _*_, _≤_, _<_, zero-le}
 use native.Mathlib.Nat.{mul-le-mul-right}
 use native.Mathlib.Decide.{decLt}
 use native.Mathlib.Omega.{arith}
@@ -20,6 +20,10 @@ use Rattle.raster.proofs.Stencil.{horizontal-here}
 -- the rows end where the buffer does: `row` rows of a numbers each lie before `start`
 pub row-end : (row h a start length : ℕ) → row < h → start ≡ row * a → length ≡ h * a → start + a ≤ length
 row-end row h a start length l e f = let q : suc row * a ≤ h * a = mul-le-mul-right a l in omega arith
+
+-- after the last row the buffer is at its end
+pub rows-end : (row h a start length : ℕ) → row ≤ h → h ≤ row → start ≡ row * a → length ≡ h * a → start ≡ length
+rows-end row h a start length l m e f = let q : row * a ≡ h * a = ap (λ (n : ℕ). n * a) (omega arith) in omega arith
 
 -- the count that the machine computes for a part
 pub part-count : (a n : ℕ) → a + n - a ≡ n

@@ -2,23 +2,25 @@
 -- pass over the run is a pass over that stretch. Assumes nothing.
 use mathlib.Core.Path.{_≡_, sym, ap, _∙_, subst}
 use mathlib.Core.List.{List}
-use Prim.Native.Nat.{ℕ, _+_, _-_, _*_, _≤_, _<_}
-use native.Mathlib.Nat.{le-of-eq}
+use Prim.Native.Nat.{ℕ, _+_, _-_, _*_, _^_, _≤_, _<_}
+use native.Mathlib.Nat.{le-of-eq, mul-le-mul-right}
 use native.Mathlib.Omega.{arith}
 use lib.IntN.{ℤ, pos}
 use lib.ListN.{length, take, drop, length-drop}
 use lib.Seq.{length-take-le, getD-take, getD-drop}
 use Rattle.model.specs.Lists.{at}
-use Rattle.raster.specs.Limits.{Within, StepLimits}
-use Rattle.raster.specs.Whole.{firstPixel, secondPixel, rowPixel, AcrossLimits, GridLimits}
+use Rattle.raster.specs.Limits.{Within, StepLimits, VariationLimits, FallLimits}
+use Rattle.raster.specs.Whole.{firstPixel, secondPixel, rowPixel, AcrossLimits, GridLimits, GridSize, RasterLimits, WorkLimits}
+use Rattle.model.specs.Grid.{gridPairs}
 use Rattle.raster.proofs.Fill.{filled}
-use Rattle.raster.proofs.Rows.{part-count, part-at, part-length, part-within, drop-within, rest-is, row-pixel}
-use Rattle.raster.proofs.Whole.{vertical, vertical-first, vertical-second, horizontal-first, horizontal-second, all-pairs, vertical-most, vertical-reach}
+use Rattle.raster.proofs.Rows.{row-end, part-count, part-at, part-length, part-within, drop-within, rest-is, row-pixel}
+use Rattle.raster.proofs.Whole.{vertical, vertical-first, vertical-second, horizontal-first, horizontal-second, vertical-sides, pairs-most, vertical-most, vertical-reach, rest-all}
 
 -- ---- parts of buffers
 
 -- a part holds the n numbers of a buffer from a on
 pub record Stretch (l : List ℤ) (a n : ℕ) (part : List ℤ) : Type 0 where
+  pub inside : a + n ≤ length l
   pub size : length part ≡ n
   pub number : (i : ℕ) → i < n → at part i ≡ at l (a + i)
   pub within : {k : ℕ} → Within k l → Within k part
@@ -27,27 +29,39 @@ pub record Stretch (l : List ℤ) (a n : ℕ) (part : List ℤ) : Type 0 where
 abbrev pub cut : List ℤ → ℕ → ℕ → List ℤ
 cut l a n = take (a + n - a) (drop a l)
 
-pub lent : (l : List ℤ) (a n : ℕ) → a + n ≤ length l → Stretch l a n (cut l a n)
+abbrev pub Lent : List ℤ → ℕ → ℕ → Type 0
+Lent l a n = Stretch l a n (cut l a n)
+
+pub lent : (l : List ℤ) (a n : ℕ) → a + n ≤ length l → Lent l a n
 lent l a n h =
     record {
+      inside = h;
       size = ap (λ (k : ℕ). length (take k (drop a l))) (part-count a n) ∙ part-length a n l h;
       number = λ i b. ap (λ (k : ℕ). at (take k (drop a l)) i) (part-count a n) ∙ part-at a n l i (pos 0) b;
       within = part-within a (a + n - a) l;
     }
 
+-- .. for a row of a numbers, where `row` rows lie before `start`
+pub row-part : {l : List ℤ} {row h a start : ℕ} → row < h → start ≡ row * a → length l ≡ h * a → Lent l start a
+row-part {l} {row} {h} {a} {start} b e f = lent l start a (row-end row h a start (length l) b e f)
+
 -- .. past what is filled
-pub lent-filled : (l : List ℤ) (a n : ℕ) (g : ℕ → ℤ) {now : List ℤ} → now ≡ filled a g l → a + n ≤ length l → Stretch l a n (cut now a n)
-lent-filled l a n g p h = subst (λ (m : List ℤ). Stretch l a n (take (a + n - a) m)) (sym (rest-is a g l p)) (lent l a n h)
+pub unfilled : {l : List ℤ} {a n : ℕ} (g : ℕ → ℤ) {now : List ℤ} → now ≡ filled a g l → Lent l a n → Stretch l a n (cut now a n)
+unfilled {l} {a} {n} g p s = subst (λ (m : List ℤ). Stretch l a n (take (a + n - a) m)) (sym (rest-is a g l p)) s
 
 -- all that follows
 pub rest : (l : List ℤ) (a n : ℕ) → length l ≡ a + n → {part : List ℤ} → part ≡ drop a l → Stretch l a n part
 rest l a n h e =
     subst (Stretch l a n) (sym e)
     (record {
+      inside = le-of-eq (sym h);
       size = length-drop a l ∙ omega arith;
       number = λ i _. getD-drop a l i (pos 0);
       within = drop-within a l;
     })
+
+pub lent-rest : (l : List ℤ) (a n : ℕ) → length l ≡ a + n → Stretch l a n (take (length l - a) (drop a l))
+lent-rest l a n h = rest l a n h (rest-all a l)
 
 -- ---- what a run is lent is within its limits
 
@@ -82,6 +96,47 @@ module _ {w h : ℕ} {weight : ℤ} {flow image : List ℤ} where
           flow-most = s .within (p .flow-most);
           image-most = p .image-most;
         }
+
+-- for sums
+module _ {w h : ℕ} {image : List ℤ} (r : RasterLimits w h image) where
+  pub pairs-few : vertical w h + h * (w - 1) ≤ 2 ^ 21
+  pairs-few = omega (arith, pairs-most w h, r .pixels-most)
+
+  pub row-falls : {first : ℕ} {pixels : List ℤ} → Stretch image first w pixels → VariationLimits pixels 1 (w - 1)
+  row-falls t =
+      let one : 1 * (w - 1) ≤ h * (w - 1) = mul-le-mul-right (w - 1) (r .height-least) in
+      record {
+        reach = omega (arith, r .width-least, t .size);
+        count-most = omega (arith, pairs-few);
+        image-most = t .within (r .image-most);
+      }
+
+  pub vertical-falls : VariationLimits image w (vertical w h)
+  vertical-falls =
+      record {
+        reach = le-of-eq (vertical-sides w h (r .height-least) ∙ sym (r .image-length));
+        count-most = omega (arith, pairs-few);
+        image-most = r .image-most;
+      }
+
+-- a sum of products has the limits of the falls, and its part of the flow's
+pub work-limits : {part image : List ℤ} {stride count : ℕ} → VariationLimits image stride count → length part ≡ count → Within (2 ^ 20) part → FallLimits part image stride
+work-limits v e f =
+    record { reach = rw e (v .reach); count-most = rw e (v .count-most); flow-most = f; image-most = v .image-most }
+
+module _ {w h : ℕ} {flow image : List ℤ} (p : WorkLimits w h (length (gridPairs w h)) flow image) where
+  pub work-size : GridSize w h flow image
+  work-size =
+      record {
+        width-least = p .raster .width-least;
+        height-least = p .raster .height-least;
+        pixels-most = p .raster .pixels-most;
+        flow-length = p .flow-length;
+        image-length = p .raster .image-length;
+      }
+
+  pub horizontal-work : {part : List ℤ} → Stretch flow (vertical w h) (h * (w - 1)) part → WorkLimits w h (h * (w - 1)) part image
+  horizontal-work s = record { raster = p .raster; flow-length = s .size; flow-most = s .within (p .flow-most) }
 
 -- ---- one pair: a function of its number and its pixels' values
 

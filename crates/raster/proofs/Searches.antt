@@ -1,7 +1,7 @@
 -- A search for a moving pair by parts: where no pair before a moves, the n pairs from a on say whether one of them does.
 -- Assumes nothing.
-use mathlib.Core.Path.{_≡_, ap}
-use mathlib.Core.Bool.{Bool, true, false}
+use mathlib.Core.Path.{_≡_, refl, ap}
+use mathlib.Core.Bool.{Bool, true}
 use Prim.Native.Nat.{ℕ, _+_, _≤_, _<_}
 use native.Mathlib.Omega.{arith}
 use Rattle.model.specs.Lists.{firstWhere}
@@ -9,7 +9,7 @@ use Rattle.model.proofs.Lists.{firstWhere-first}
 use Rattle.raster.specs.declared.pairs.Moving.{Moving}
 use Rattle.raster.specs.declared.pairs.Moving.the-variants.{At, Nothing}
 use Rattle.raster.specs.Run.{movingOf}
-use Rattle.raster.proofs.Moving.{nothing-is, at-is, nothing-moves, one-moves}
+use Rattle.raster.proofs.Moving.{nothing-is, at-is, nothing-moves, one-moves, first-is}
 use Rattle.raster.proofs.Search.{Passed, search-cong, passed-append, search-found, search-ended}
 
 -- the answer of a search among n pairs
@@ -23,13 +23,14 @@ answer-cong n s t h = ap (movingOf n) (search-cong n h)
 
 module _ (test : ℕ → Bool) where
   pub none-moves : (n : ℕ) → answer n test ≡ Nothing → Passed test n
-  none-moves n e i l = firstWhere-first n test .before i (omega (arith, nothing-moves n (firstWhere n test) e))
+  none-moves n e i l = firstWhere-first n test .before i (omega (arith, nothing-moves n (firstWhere n test) refl e))
 
   pub first-moves : (n : ℕ) {j : ℕ} → answer n test ≡ At j → (j < n) × Passed test j × (test j ≡ true)
   first-moves n {j} e =
-      let (k, l) = one-moves n (firstWhere n test) e in
+      let l : firstWhere n test < n = one-moves n (firstWhere n test) refl e in
+      let k : firstWhere n test ≡ j = first-is n (firstWhere n test) refl e in
       let f = firstWhere-first n test in
-      (l, rw k at (f .before), rw k at (f .found (omega arith)))
+      (omega arith, rw k at (f .before), rw k at (f .found l))
 
 -- ---- and back
 

@@ -2,7 +2,7 @@
 -- pairs. Assumes nothing.
 use mathlib.Core.Path.{_≡_, sym, ap, _∙_, subst}
 use mathlib.Core.List.{List}
-use Prim.Native.Nat.{ℕ, _+_, _-_, _*_, _≤_, _<_}
+use Prim.Native.Nat.{ℕ, _+_, _-_, _*_, _≤_}
 use native.Mathlib.Nat.{le-of-eq}
 use lib.IntN.{ℤ, natAbs, negℤ, _+ℤ_, _-ℤ_}
 use lib.ListN.{length, take}

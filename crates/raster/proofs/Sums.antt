@@ -1,20 +1,24 @@
--- Running sums, and that those over buffers within limits fit 64 bits. Assumes nothing.
-use mathlib.Core.Path.{_≡_, sym, ap₂, _∙_}
+-- Running sums, that those over buffers within limits fit 64 bits, and sums by runs of pairs. Assumes nothing.
+use mathlib.Core.Path.{_≡_, refl, sym, ap₂, _∙_}
 use mathlib.Core.List.{List}
-use Prim.Native.Nat.{ℕ, _+_, _*_, _^_, _≤_, _<_}
+use Prim.Native.Nat.{ℕ, _+_, _*_, _^_, _≤_, _<_, _-_}
 use native.Mathlib.Nat.{mul-le-mul}
 use native.Mathlib.Numerals.{add-one}
 use native.Mathlib.Omega.{arith}
-use lib.IntN.{ℤ, natAbs, _+ℤ_, _-ℤ_, _*ℤ_}
+use lib.IntN.{ℤ, natAbs, _+ℤ_, _-ℤ_, _*ℤ_, pos}
 use lib.ListN.{getD}
 use Rattle.integers.specs.Whole.{abs, square}
 use Rattle.integers.specs.Sum.{total}
 use Rattle.integers.proofs.Absolute.{natAbs-difference, natAbs-product, natAbs-square}
-use Rattle.integers.proofs.Total.{total-suc, total-append, natAbs-total}
+use Rattle.integers.proofs.Total.{total-suc, total-append, natAbs-total, total-cong}
 use Rattle.model.specs.Lists.{at}
 use Rattle.model.specs.Grid.{readingOf}
 use Rattle.raster.specs.Limits.{Within}
 use Rattle.raster.proofs.Elements.{reading-most}
+use Rattle.raster.specs.Run.{fallAt}
+use Rattle.raster.specs.Whole.{rowFall, gridFall}
+use Rattle.raster.proofs.Whole.{vertical}
+use Rattle.raster.proofs.Runs.{Stretch, row-pair, vertical-pair, horizontal-pair}
 
 -- one more term
 pub total-more : (g : ℕ → ℤ) (n : ℕ) {s x : ℤ} → s ≡ total n g → x ≡ g n → s +ℤ x ≡ total (n + 1) g
@@ -41,6 +45,11 @@ module _ (image : List ℤ) (h : Within (2 ^ 20) image) (samples : List ℕ) (by
 
 -- ---- over pairs
 
+-- what both parts come to in size
+pub parts-most : (g : ℕ → ℤ) {c : ℕ} → ((i : ℕ) → natAbs (g i) ≤ c) → (a n : ℕ) {s x : ℤ} → s ≡ total a g → x ≡ total n (λ i. g (a + i)) →
+    natAbs s + natAbs x ≤ (a + n) * c
+parts-most g m a n p q = rw (p, q) (omega (arith, natAbs-total a g (λ i _. m i), natAbs-total n (λ i. g (a + i)) (λ i _. m (a + i))))
+
 -- the falls of pairs, pair j with its pixels at first j and second j
 module _ (image : List ℤ) (h : Within (2 ^ 20) image) (first second : ℕ → ℕ) where
   pub fall-most : (j : ℕ) → natAbs (at image (first j) -ℤ at image (second j)) ≤ 2 ^ 21
@@ -55,3 +64,24 @@ module _ (image : List ℤ) (h : Within (2 ^ 20) image) (first second : ℕ → 
 
     pub work-most : (n : ℕ) → natAbs (total n (λ j. at flow j *ℤ (at image (first j) -ℤ at image (second j)))) ≤ n * 2 ^ 41
     work-most n = natAbs-total n (λ j. at flow j *ℤ (at image (first j) -ℤ at image (second j))) (λ j _. product-most j)
+
+-- ---- by runs: a row as its stretch of all horizontal pairs, and these and the vertical ones as all pairs
+
+-- what is summed of a pair with the number f and the pixels' values x and y
+abbrev size : ℤ → ℤ → ℤ → ℤ
+size f x y = abs (x -ℤ y)
+
+abbrev pub work : ℤ → ℤ → ℤ → ℤ
+work f x y = f *ℤ (x -ℤ y)
+
+pub row-variation : {w start first : ℕ} {image pixels : List ℤ} (row : ℕ) → start ≡ row * (w - 1) → first ≡ row * w → Stretch image first w pixels →
+    total (w - 1) (λ k. abs (fallAt pixels 1 k)) ≡ total (w - 1) (λ k. abs (rowFall w image (start + k)))
+row-variation {w} row q r t = total-cong (w - 1) (λ k b. row-pair size (refl {a = pos 0}) row q r t k b)
+
+module _ (w h : ℕ) (image : List ℤ) where
+  pub vertical-variation : total (vertical w h) (λ j. abs (fallAt image w j)) ≡ total (vertical w h) (λ j. abs (gridFall w h image j))
+  vertical-variation = total-cong (vertical w h) (vertical-pair size (refl {a = pos 0}) w h image)
+
+  pub horizontal-variation :
+      total (h * (w - 1)) (λ k. abs (rowFall w image k)) ≡ total (h * (w - 1)) (λ k. abs (gridFall w h image (vertical w h + k)))
+  horizontal-variation = total-cong (h * (w - 1)) (horizontal-pair size (refl {a = pos 0}) w h image)

@@ -3,12 +3,17 @@
 
 use crate::pairs;
 use crate::pairs::Moving;
-ghost use Prim.Native.Nat.{ℕ, _+_, _*_};
+use integers::signed;
+ghost use Prim.Native.Nat.{ℕ, _+_, _-_, _*_};
 ghost use mathlib.Core.Path.{_≡_};
+ghost use lib.IntN.{pos, _*ℤ_};
 ghost use lib.ListN.{length};
-ghost use Rattle.model.specs.Lists.{table, firstWhere};
+ghost use Rattle.integers.specs.Whole.{abs};
+ghost use Rattle.integers.specs.Sum.{total};
+ghost use Rattle.model.specs.Lists.{at, table, firstWhere};
+ghost use Rattle.model.specs.Grid.{gridPairs};
 ghost use Rattle.raster.specs.Run.{movingOf};
-ghost use Rattle.raster.specs.Whole.{AcrossLimits, rowStep, rowMoves, GridLimits, gridStep, gridMoves};
+ghost use Rattle.raster.specs.Whole.{AcrossLimits, rowStep, rowMoves, GridLimits, gridStep, gridMoves, rowFall, gridFall, RasterLimits, WorkLimits};
 
 // The horizontal pairs of all rows, a run for each.
 fn step_rows(flow: &mut [i32], image: &[i32], width: usize, height: usize, weight: i32)
@@ -97,4 +102,61 @@ pub fn first_moving_grid(
         return Moving::At(vertical + k);
     }
     Moving::Nothing
+}
+
+// The sum of the sizes of the horizontal pairs' falls.
+fn total_variation_rows(image: &[i32], width: usize, height: usize) -> u64
+    requires { ⌜ RasterLimits width height (now image) ⌝ }
+    ensures { λ r. ⌜ pos r ≡ total (height * (width - 1)) (λ k. abs (rowFall width (now (image .entry)) k)) ⌝ }
+{
+    let across = width - 1;
+    let mut sum = 0;
+    let mut start = 0;
+    let mut row = 0;
+    while row < height {
+        sum += pairs::total_variation(&image[start..start + width], 1, across);
+        start += width;
+        row += 1;
+    }
+    sum
+}
+
+// The sum of the sizes of all pairs' falls.
+pub fn total_variation_grid(image: &[i32], width: usize, height: usize) -> u64
+    requires { ⌜ RasterLimits width height (now image) ⌝ }
+    ensures { λ r. ⌜ pos r ≡ total (length (gridPairs width height)) (λ j. abs (gridFall width height (now (image .entry)) j)) ⌝ }
+{
+    pairs::total_variation(image, width, width * (height - 1))
+        + total_variation_rows(image, width, height)
+}
+
+// The sum of the horizontal pairs' numbers times their falls.
+fn total_work_rows(flow: &[i32], image: &[i32], width: usize, height: usize) -> i64
+    requires { ⌜ WorkLimits width height (height * (width - 1)) (now flow) (now image) ⌝ }
+    ensures { λ r. ⌜ r ≡ total (length (now (flow .entry))) (λ k. at (now (flow .entry)) k *ℤ rowFall width (now (image .entry)) k) ⌝ }
+{
+    let across = width - 1;
+    let mut sum = 0;
+    let mut at = 0;
+    let mut start = 0;
+    let mut row = 0;
+    while row < height {
+        let part = pairs::total_work(&flow[at..at + across], &image[start..start + width], 1);
+        sum = signed::add_wide(sum, part);
+        at += across;
+        start += width;
+        row += 1;
+    }
+    sum
+}
+
+// The sum of all pairs' numbers times their falls.
+pub fn total_work_grid(flow: &[i32], image: &[i32], width: usize, height: usize) -> i64
+    requires { ⌜ WorkLimits width height (length (gridPairs width height)) (now flow) (now image) ⌝ }
+    ensures { λ r. ⌜ r ≡ total (length (now (flow .entry))) (λ j. at (now (flow .entry)) j *ℤ gridFall width height (now (image .entry)) j) ⌝ }
+{
+    let vertical = width * (height - 1);
+    let upper = pairs::total_work(&flow[..vertical], image, width);
+    let lower = total_work_rows(&flow[vertical..], image, width, height);
+    signed::add_wide(upper, lower)
 }

@@ -1,7 +1,7 @@
 -- `raster::grid::first_moving_grid` meets its contract: the vertical pairs, then the rows. Assumes nothing.
 use mathlib.Core.Path.{_≡_, sym, _∙_}
 use mathlib.Core.Bool.{Bool}
-use Prim.Native.Nat.{ℕ, _+_, _-_, _*_, _≤_, _<_}
+use Prim.Native.Nat.{ℕ, _+_, _-_, _*_}
 use native.Mathlib.Nat.{le-of-eq}
 use native.Mathlib.Omega.{arith}
 use borrow.Author.Needs.{needs}
@@ -13,8 +13,8 @@ use mir.ValLaws.{toZ-ofZ}
 use Rattle.raster.specs.declared.pairs.Moving.the-variants.{At}
 use Rattle.raster.specs.Stencil.{moves}
 use Rattle.raster.specs.Whole.{gridMoves}
-use Rattle.raster.proofs.Whole.{vertical, vertical-most, all-pairs, lent-rest}
-use Rattle.raster.proofs.Runs.{Stretch, rest, vertical-limits, horizontal-limits, vertical-run, horizontal-run}
+use Rattle.raster.proofs.Whole.{vertical, vertical-most, all-pairs}
+use Rattle.raster.proofs.Runs.{Stretch, lent-rest, vertical-limits, horizontal-limits, vertical-run, horizontal-run}
 use Rattle.raster.proofs.Search.{Passed}
 use Rattle.raster.proofs.Searches.{answer, answer-cong, none-moves, first-moves, none-answer, front-first, part-none, part-first}
 use Rattle.raster.proofs.grid.first_moving_grid.Statement.{statement}
@@ -78,7 +78,7 @@ part-first-moving-rows-end c = search needs
 
 -- what the rows are lent
 lower-part : (s : tie.Start) → Stretch (s .args .flow .now) (above s) (across s) (take (length (s .args .flow .now) - above s) (drop (above s) (s .args .flow .now)))
-lower-part s = rest _ _ _ (all-pairs (s .pre .size)) (lent-rest (above s) (s .args .flow .now))
+lower-part s = lent-rest _ _ _ (all-pairs (s .pre .size))
 
 first-moving-rows-requires : tie.Need-first-moving-rows-requires
 first-moving-rows-requires c κs =

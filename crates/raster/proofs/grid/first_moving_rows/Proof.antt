@@ -1,18 +1,17 @@
 -- `raster::grid::first_moving_rows` meets its contract. Assumes nothing.
-use mathlib.Core.Path.{_≡_, sym, ap, _∙_}
+use mathlib.Core.Path.{_≡_, sym, _∙_}
 use mathlib.Core.Bool.{Bool}
-use Prim.Native.Nat.{ℕ, _+_, _-_, _*_, _≤_, _<_}
+use Prim.Native.Nat.{ℕ, _+_, _-_, _*_, _≤_}
 use native.Mathlib.Omega.{arith}
 use borrow.Author.Needs.{needs}
-use lib.ListN.{length}
 use mir.Syntax.{w32}
 use mir.Val.{toZ, ofZ}
 use mir.ValLaws.{toZ-ofZ}
 use Rattle.raster.specs.declared.pairs.Moving.the-variants.{At}
 use Rattle.raster.specs.Stencil.{moves}
 use Rattle.raster.specs.Whole.{rowMoves}
-use Rattle.raster.proofs.Rows.{row-end}
-use Rattle.raster.proofs.Runs.{Stretch, cut, lent, row-limits, row-run}
+use Rattle.raster.proofs.Rows.{rows-end}
+use Rattle.raster.proofs.Runs.{Lent, row-part, row-limits, row-run}
 use Rattle.raster.proofs.Search.{Passed, passed-none}
 use Rattle.raster.proofs.Searches.{answer, answer-cong, first-moves, none-answer, part-none, part-first}
 use Rattle.raster.proofs.grid.first_moving_rows.Statement.{statement}
@@ -33,29 +32,21 @@ sub-across : tie.Need-sub-across Inv-loop μ-loop
 sub-across c = search needs
 
 module _ (c : tie.Else1 Inv-loop μ-loop) where
-  -- this row's stretch ends within the flow, and its pixels within the image
-  stretch : c .before .loop .at + (c .before .before .args .width - 1) ≤ length (c .before .before .args .flow .now)
-  stretch = row-end (c .before .loop .row) _ _ _ _ (c .if1 .left) (c .before .loop .inv .1) (c .before .before .pre .flow-length)
+  -- this row's parts of the flow and of the image
+  flow-part : Lent (c .before .before .args .flow .now) (c .before .loop .at) (c .before .before .args .width - 1)
+  flow-part = row-part (c .if1 .left) (c .before .loop .inv .1) (c .before .before .pre .flow-length)
 
-  pixels : c .before .loop .start + c .before .before .args .width ≤ length (c .before .before .args .image .now)
-  pixels = row-end (c .before .loop .row) _ _ _ _ (c .if1 .left) (c .before .loop .inv .2) (c .before .before .pre .image-length ∙ omega arith)
-
-  flow-part : let s = c .before .before in let l = c .before .loop in
-      Stretch (s .args .flow .now) (l .at) (s .args .width - 1) (cut (s .args .flow .now) (l .at) (s .args .width - 1))
-  flow-part = lent _ _ _ stretch
-
-  image-part : let s = c .before .before in let l = c .before .loop in
-      Stretch (s .args .image .now) (l .start) (s .args .width) (cut (s .args .image .now) (l .start) (s .args .width))
-  image-part = lent _ _ _ pixels
+  image-part : Lent (c .before .before .args .image .now) (c .before .loop .start) (c .before .before .args .width)
+  image-part = row-part (c .if1 .left) (c .before .loop .inv .2) (c .before .before .pre .image-length ∙ omega arith)
 
 loop-holds : tie.Need-loop-holds Inv-loop μ-loop
 loop-holds c = (omega arith, omega arith, omega arith, passed-none _)
 
 add-first-moving : tie.Need-add-first-moving Inv-loop μ-loop
-add-first-moving c = omega (arith, stretch c)
+add-first-moving c = omega (arith, flow-part c .inside)
 
 mul-first-moving : tie.Need-mul-first-moving Inv-loop μ-loop
-mul-first-moving c = omega (arith, stretch c, c .before .before .good .0 .1)
+mul-first-moving c = omega (arith, flow-part c .inside, c .before .before .good .0 .1)
 
 sub-first-moving : tie.Need-sub-first-moving Inv-loop μ-loop
 sub-first-moving c = search needs
@@ -64,13 +55,13 @@ part-first-moving-start : tie.Need-part-first-moving-start Inv-loop μ-loop
 part-first-moving-start c = search needs
 
 part-first-moving-end : tie.Need-part-first-moving-end Inv-loop μ-loop
-part-first-moving-end c = stretch c
+part-first-moving-end c = flow-part c .inside
 
 add-first-moving-2 : tie.Need-add-first-moving-2 Inv-loop μ-loop
-add-first-moving-2 c = omega (arith, pixels (c .before))
+add-first-moving-2 c = omega (arith, image-part (c .before) .inside)
 
 mul-first-moving-2 : tie.Need-mul-first-moving-2 Inv-loop μ-loop
-mul-first-moving-2 c = omega (arith, pixels (c .before), c .before .before .before .good .1 .0 .1)
+mul-first-moving-2 c = omega (arith, image-part (c .before) .inside, c .before .before .before .good .1 .0 .1)
 
 sub-first-moving-2 : tie.Need-sub-first-moving-2 Inv-loop μ-loop
 sub-first-moving-2 c = search needs
@@ -79,7 +70,7 @@ part-first-moving-start-2 : tie.Need-part-first-moving-start-2 Inv-loop μ-loop
 part-first-moving-start-2 c = search needs
 
 part-first-moving-end-2 : tie.Need-part-first-moving-end-2 Inv-loop μ-loop
-part-first-moving-end-2 c = pixels (c .before)
+part-first-moving-end-2 c = image-part (c .before) .inside
 
 first-moving-requires : tie.Need-first-moving-requires Inv-loop μ-loop
 first-moving-requires c κs =
@@ -104,16 +95,16 @@ moved : (c : tie.After-known-told Inv-loop μ-loop) → let i = c .before .befor
 moved c = sym (row-answer (c .before .before .before)) ∙ c .before .found .given .1
 
 add-t26 : tie.Need-add-t26 Inv-loop μ-loop
-add-t26 c = omega (arith, first-moves _ _ (moved c) .0, stretch (c .before .before .before .before .before .before))
+add-t26 c = omega (arith, first-moves _ _ (moved c) .0, flow-part (c .before .before .before .before .before .before) .inside)
 
 enum-told : tie.Need-enum-told Inv-loop μ-loop
 enum-told c = search needs
 
 add-at : tie.Need-add-at Inv-loop μ-loop
-add-at c = omega (arith, stretch (c .before .before .before .before .before))
+add-at c = omega (arith, flow-part (c .before .before .before .before .before) .inside)
 
 add-start : tie.Need-add-start Inv-loop μ-loop
-add-start c = omega (arith, pixels (c .before .before .before .before .before))
+add-start c = omega (arith, image-part (c .before .before .before .before .before) .inside)
 
 add-row : tie.Need-add-row Inv-loop μ-loop
 add-row c = search needs
@@ -134,8 +125,7 @@ returns : tie.Need-returns Inv-loop μ-loop
 returns c =
     let s = c .before .before in
     let l = c .before .loop in
-    let e : l .row ≡ s .args .height = omega (arith, l .inv .0, c .if1 .taken) in
-    let n : l .at ≡ length (s .args .flow .now) = l .inv .1 ∙ ap (λ (k : ℕ). k * (s .args .width - 1)) e ∙ sym (s .pre .flow-length) in
+    let n = rows-end (l .row) _ _ _ _ (l .inv .0) (c .if1 .taken) (l .inv .1) (s .pre .flow-length) in
     rw (toZ-ofZ w32 _ (s .fits .weight)) at (none-answer _ (l .inv .3) n)
 
 returns-2 : tie.Need-returns-2 Inv-loop μ-loop
@@ -143,7 +133,7 @@ returns-2 c =
     let i = c .before .before .before .before .before .before in
     let l = i .before .loop in
     rw (toZ-ofZ w32 _ (i .before .before .fits .weight)) at
-    (part-first _ (l .at) _ (l .inv .3) (moved c) (stretch i))
+    (part-first _ (l .at) _ (l .inv .3) (moved c) (flow-part i .inside))
 
 pub first-moving-rows-spec : {M : Type 1} → statement M
 first-moving-rows-spec =

@@ -1,22 +1,20 @@
 -- `raster::grid::step_grid` meets its contract: the vertical pairs, then the rows. Assumes nothing.
 use mathlib.Core.Path.{_≡_, sym, ap, _∙_}
-use mathlib.Core.List.{List, _++_}
-use Prim.Native.Nat.{ℕ, _+_, _-_, _*_, _≤_, _<_}
+use mathlib.Core.List.{_++_}
+use Prim.Native.Nat.{ℕ, _-_, _*_, _≤_}
 use native.Mathlib.Omega.{arith}
 use borrow.Author.Needs.{needs}
-use lib.IntN.{ℤ, pos}
 use lib.ListN.{length, take, drop}
 use lib.Seq.{length-take-le}
 use mir.Syntax.{w32}
 use mir.Val.{toZ, ofZ}
 use mir.ValLaws.{toZ-ofZ}
-use native.Mathlib.Nat.{le-of-eq}
 use Rattle.raster.specs.Whole.{gridStep}
 use Rattle.model.specs.Lists.{table}
 use Rattle.raster.proofs.Fill.{filled, length-filled}
 use Rattle.raster.proofs.Steps.{vertical-stepped, horizontal-stepped}
 use Rattle.raster.proofs.Runs.{Stretch, rest, vertical-limits, horizontal-limits}
-use Rattle.raster.proofs.Whole.{vertical, vertical-most, vertical-reach, all-pairs, upper-filled, lower-part, both-filled}
+use Rattle.raster.proofs.Whole.{vertical, vertical-most, all-pairs, upper-filled, lower-part, both-filled}
 use Rattle.raster.proofs.grid.step_grid.Statement.{statement}
 use Rattle.raster.proofs.grid.step_grid.Tie as tie
 

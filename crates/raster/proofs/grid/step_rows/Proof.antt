@@ -1,20 +1,18 @@
 -- `raster::grid::step_rows` meets its contract. Assumes nothing.
 use mathlib.Core.Path.{_≡_, sym, ap, _∙_}
-use mathlib.Core.List.{List}
-use Prim.Native.Nat.{ℕ, _+_, _-_, _*_, _≤_, _<_}
+use Prim.Native.Nat.{ℕ, _-_, _*_, _≤_}
 use native.Mathlib.Omega.{arith}
 use borrow.Author.Needs.{needs}
-use lib.IntN.{ℤ, pos}
 use lib.ListN.{length}
 use mir.Syntax.{w32}
 use mir.Val.{toZ, ofZ}
 use mir.ValLaws.{toZ-ofZ}
 use Rattle.model.specs.Lists.{table}
 use Rattle.model.proofs.Lists.{length-table}
-use Rattle.raster.specs.Whole.{AcrossLimits, rowStep}
+use Rattle.raster.specs.Whole.{rowStep}
 use Rattle.raster.proofs.Fill.{filled, filled-none, length-filled, filled-all}
-use Rattle.raster.proofs.Rows.{row-end}
-use Rattle.raster.proofs.Runs.{Stretch, cut, lent, lent-filled, row-limits}
+use Rattle.raster.proofs.Rows.{rows-end}
+use Rattle.raster.proofs.Runs.{Lent, row-part, unfilled, row-limits}
 use Rattle.raster.proofs.Steps.{row-stepped}
 use Rattle.raster.proofs.grid.step_rows.Statement.{statement}
 use Rattle.raster.proofs.grid.step_rows.Tie as tie
@@ -30,38 +28,24 @@ sub-across : tie.Need-sub-across Inv-loop μ-loop
 sub-across c = search needs
 
 module _ (c : tie.In-loop Inv-loop μ-loop) where
-  -- this row's stretch ends within the flow, and its pixels within the image
-  stretch : c .before .loop .at + (c .before .before .args .width - 1) ≤ length (c .before .before .args .flow .now)
-  stretch =
-      let s = c .before .before in
-      row-end (c .before .loop .row) (s .args .height) (s .args .width - 1) (c .before .loop .at) (length (s .args .flow .now))
-      (c .loop-test .taken) (c .before .loop .inv .1) (s .pre .flow-length)
+  -- this row's parts of the flow as it was and of the image
+  flow-part : Lent (c .before .before .args .flow .now) (c .before .loop .at) (c .before .before .args .width - 1)
+  flow-part = row-part (c .loop-test .taken) (c .before .loop .inv .1) (c .before .before .pre .flow-length)
 
-  pixels : c .before .loop .start + c .before .before .args .width ≤ length (c .before .before .args .image .now)
-  pixels =
-      let s = c .before .before in
-      row-end (c .before .loop .row) (s .args .height) (s .args .width) (c .before .loop .start) (length (s .args .image .now))
-      (c .loop-test .taken) (c .before .loop .inv .2) (s .pre .image-length ∙ omega arith)
+  image-part : Lent (c .before .before .args .image .now) (c .before .loop .start) (c .before .before .args .width)
+  image-part = row-part (c .loop-test .taken) (c .before .loop .inv .2) (c .before .before .pre .image-length ∙ omega arith)
 
   same-size : length (c .before .loop .flow) ≡ length (c .before .before .args .flow .now)
-  same-size = ap length (c .before .loop .inv .3) ∙ length-filled _ (c .before .before .args .flow .now) (c .before .loop .at) (omega (arith, stretch))
-
-  flow-part : let s = c .before .before in let l = c .before .loop in
-      Stretch (s .args .flow .now) (l .at) (s .args .width - 1) (cut (l .flow) (l .at) (s .args .width - 1))
-  flow-part = lent-filled _ _ _ _ (c .before .loop .inv .3) stretch
-
-  image-part : let s = c .before .before in let l = c .before .loop in
-      Stretch (s .args .image .now) (l .start) (s .args .width) (cut (s .args .image .now) (l .start) (s .args .width))
-  image-part = lent _ _ _ pixels
+  same-size = ap length (c .before .loop .inv .3) ∙ length-filled _ (c .before .before .args .flow .now) (c .before .loop .at) (omega (arith, flow-part .inside))
 
 loop-holds : tie.Need-loop-holds Inv-loop μ-loop
 loop-holds c = (omega arith, omega arith, omega arith, sym (filled-none _ _))
 
 add-step-pairs : tie.Need-add-step-pairs Inv-loop μ-loop
-add-step-pairs c = omega (arith, stretch c)
+add-step-pairs c = omega (arith, flow-part c .inside)
 
 mul-step-pairs : tie.Need-mul-step-pairs Inv-loop μ-loop
-mul-step-pairs c = omega (arith, stretch c, c .before .before .good .0 .1)
+mul-step-pairs c = omega (arith, flow-part c .inside, c .before .before .good .0 .1)
 
 sub-step-pairs : tie.Need-sub-step-pairs Inv-loop μ-loop
 sub-step-pairs c = search needs
@@ -70,13 +54,13 @@ part-step-pairs-start : tie.Need-part-step-pairs-start Inv-loop μ-loop
 part-step-pairs-start c = search needs
 
 part-step-pairs-end : tie.Need-part-step-pairs-end Inv-loop μ-loop
-part-step-pairs-end c = omega (arith, stretch c, same-size c)
+part-step-pairs-end c = omega (arith, flow-part c .inside, same-size c)
 
 add-step-pairs-2 : tie.Need-add-step-pairs-2 Inv-loop μ-loop
-add-step-pairs-2 c = omega (arith, pixels (c .before))
+add-step-pairs-2 c = omega (arith, image-part (c .before) .inside)
 
 mul-step-pairs-2 : tie.Need-mul-step-pairs-2 Inv-loop μ-loop
-mul-step-pairs-2 c = omega (arith, pixels (c .before), c .before .before .before .good .1 .0 .1)
+mul-step-pairs-2 c = omega (arith, image-part (c .before) .inside, c .before .before .before .good .1 .0 .1)
 
 sub-step-pairs-2 : tie.Need-sub-step-pairs-2 Inv-loop μ-loop
 sub-step-pairs-2 c = search needs
@@ -85,19 +69,19 @@ part-step-pairs-start-2 : tie.Need-part-step-pairs-start-2 Inv-loop μ-loop
 part-step-pairs-start-2 c = search needs
 
 part-step-pairs-end-2 : tie.Need-part-step-pairs-end-2 Inv-loop μ-loop
-part-step-pairs-end-2 c = pixels (c .before)
+part-step-pairs-end-2 c = image-part (c .before) .inside
 
 step-pairs-requires : tie.Need-step-pairs-requires Inv-loop μ-loop
 step-pairs-requires c κs =
     let i = c .before .before in
     let s = i .before .before in
-    rw (toZ-ofZ w32 _ (s .fits .weight)) (row-limits (s .pre) (flow-part i) (image-part i))
+    rw (toZ-ofZ w32 _ (s .fits .weight)) (row-limits (s .pre) (unfilled _ (i .before .loop .inv .3) (flow-part i)) (image-part i))
 
 add-at : tie.Need-add-at Inv-loop μ-loop
-add-at c = omega (arith, stretch (c .before .before .before .before))
+add-at c = omega (arith, flow-part (c .before .before .before .before) .inside)
 
 add-start : tie.Need-add-start Inv-loop μ-loop
-add-start c = omega (arith, pixels (c .before .before .before .before))
+add-start c = omega (arith, image-part (c .before .before .before .before) .inside)
 
 add-row : tie.Need-add-row Inv-loop μ-loop
 add-row c = search needs
@@ -114,7 +98,7 @@ loop-again c =
       omega (arith, l .inv .1),
       omega (arith, l .inv .2),
       row-stepped (l .row) (toZ w32 (ofZ w32 (s .args .weight))) (s .args .flow .now) (s .args .image .now)
-          (l .inv .3) (l .inv .1) (l .inv .2) (flow-part i) (image-part i) (c .before .step-pairs .ensures),
+          (l .inv .3) (l .inv .1) (l .inv .2) (unfilled _ (l .inv .3) (flow-part i)) (image-part i) (c .before .step-pairs .ensures),
     )
 
 -- all rows are done: the whole flow is stepped
@@ -125,8 +109,7 @@ ended c =
     let s = c .before .before in
     let l = c .before .loop in
     let g = rowStep (s .args .width) (toZ w32 (ofZ w32 (s .args .weight))) (s .args .flow .now) (s .args .image .now) in
-    let e : l .row ≡ s .args .height = omega (arith, l .inv .0, c .loop-test .left) in
-    let n : l .at ≡ length (s .args .flow .now) = l .inv .1 ∙ ap (λ (k : ℕ). k * (s .args .width - 1)) e ∙ sym (s .pre .flow-length) in
+    let n = rows-end (l .row) _ _ _ _ (l .inv .0) (c .loop-test .left) (l .inv .1) (s .pre .flow-length) in
     let f = l .inv .3 ∙ ap (λ (k : ℕ). filled k g (s .args .flow .now)) n ∙ filled-all g (s .args .flow .now) in
     (ap length f ∙ length-table (length (s .args .flow .now)) g, f)
 

@@ -14,7 +14,7 @@ use Rattle.model.proofs.Lists.{length-table}
 use Rattle.raster.specs.Whole.{rowStep}
 use Rattle.raster.proofs.Fill.{filled, filled-none, length-filled, filled-done}
 use Rattle.raster.proofs.Rows.{row-end, put-part}
-use Rattle.raster.proofs.Runs.{Stretch, cut, lent, lent-filled, row-limits}
+use Rattle.raster.proofs.Runs.{Stretch, cut, lent, unfilled, row-limits}
 use Rattle.rounds.specs.Ahead.{rowAhead}
 use Rattle.rounds.proofs.Runs.{row-iterate, row-ahead}
 use Rattle.rounds.proofs.quick.advance_rows.Statement.{statement}
@@ -56,12 +56,12 @@ module _ (c : tie.In-loop Inv-loop μ-loop) where
 
   -- what the row's run is lent
   flow-part : Stretch (c .before .before .args .flow .now) (c .before .loop .at) (c .before .before .args .width - 1) (cut (c .before .loop .flow) (c .before .loop .at) (c .before .before .args .width - 1))
-  flow-part = lent-filled (c .before .before .args .flow .now) (c .before .loop .at) (c .before .before .args .width - 1) _ (c .before .loop .inv .3) stretch
+  flow-part = unfilled _ (c .before .loop .inv .3) (lent (c .before .before .args .flow .now) (c .before .loop .at) (c .before .before .args .width - 1) stretch)
 
   ahead-part : Stretch (c .before .before .args .ahead .now) (c .before .loop .at) (c .before .before .args .width - 1) (cut (c .before .loop .ahead) (c .before .loop .at) (c .before .before .args .width - 1))
   ahead-part =
-      lent-filled (c .before .before .args .ahead .now) (c .before .loop .at) (c .before .before .args .width - 1) _ (c .before .loop .inv .4)
-      (omega (arith, stretch, c .before .before .pre .same-length))
+      unfilled _ (c .before .loop .inv .4)
+      (lent (c .before .before .args .ahead .now) (c .before .loop .at) (c .before .before .args .width - 1) (omega (arith, stretch, c .before .before .pre .same-length)))
 
   image-part : Stretch (c .before .before .args .image .now) (c .before .loop .start) (c .before .before .args .width) (cut (c .before .before .args .image .now) (c .before .loop .start) (c .before .before .args .width))
   image-part = lent (c .before .before .args .image .now) (c .before .loop .start) (c .before .before .args .width) pixels
