@@ -1,2 +1,3 @@
 -- What the calls' contracts cite beside the model's definitions.
 pub mod Answers
+pub mod Ready

@@ -5,7 +5,7 @@
 ghost use mathlib.Core.Path.{_≡_};
 ghost use Prim.Native.Nat.{_+_, _*_, _^_, _<_};
 ghost use lib.IntN.{pos, negℤ, natAbs, _+ℤ_, _-ℤ_, _*ℤ_};
-ghost use lib.Signed.{ltZ, _<ℤ_};
+ghost use lib.Signed.{ltZ, _≤ℤ_, _<ℤ_};
 ghost use Rattle.integers.specs.Whole.{clamp, sameZ};
 ghost use Rattle.integers.specs.Whole;
 
@@ -108,4 +108,19 @@ pub fn natural(a: u32) -> i32
     ensures { λ r. ⌜ r ≡ pos a ⌝ }
 {
     a as i32
+}
+
+pub fn natural_wide(a: u64) -> i64
+    requires { ⌜ a < 2 ^ 63 ⌝ }
+    ensures { λ r. ⌜ r ≡ pos a ⌝ }
+{
+    a as i64
+}
+
+// A signed number that is not negative as a natural one.
+pub fn unsigned_wide(a: i64) -> u64
+    requires { ⌜ pos 0 ≤ℤ a ⌝ }
+    ensures { λ r. ⌜ pos r ≡ a ⌝ }
+{
+    a as u64
 }

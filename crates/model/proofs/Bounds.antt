@@ -87,11 +87,11 @@ pub record Allowed (t : Terms) (samples : List ℕ) : Type 0 where
 
 module _ (t : Terms) (samples : List ℕ) (ok : Allowed t samples) where
   -- image values and readings are 0 to 65,280
-  value-least : (x : ℕ → ℤ) → InBox (grid t samples) x → (i : ℕ) → i < t .width * t .height → pos 0 ≤ℤ x i
+  pub value-least : (x : ℕ → ℤ) → InBox (grid t samples) x → (i : ℕ) → i < t .width * t .height → pos 0 ≤ℤ x i
   unfolding lowEnd
   value-least x inside i l = ≤ℤ-trans (0≤pos (256 * t .low)) (inside i l .0)
 
-  value-most : (x : ℕ → ℤ) → InBox (grid t samples) x → (i : ℕ) → i < t .width * t .height → x i ≤ℤ pos most
+  pub value-most : (x : ℕ → ℤ) → InBox (grid t samples) x → (i : ℕ) → i < t .width * t .height → x i ≤ℤ pos most
   unfolding highEnd
   value-most x inside i l = ≤ℤ-trans (inside i l .1) (≤→pos (omega (arith, ok .high-byte)))
 
@@ -99,7 +99,7 @@ module _ (t : Terms) (samples : List ℕ) (ok : Allowed t samples) where
   unfolding readingOf
   reading-bounds i = (0≤pos (256 * getD samples i 0), ≤→pos (omega (arith, ok .bytes i)))
 
-  weight-most : t .weight ≤ most
+  pub weight-most : t .weight ≤ most
   unfolding weightAllowed
   weight-most = leb-true (t .weight) most (ok .weight)
 
@@ -138,7 +138,7 @@ module _ (t : Terms) (samples : List ℕ) (ok : Allowed t samples) where
         subst (λ (n : ℕ). n ≤ most * most) (sym (natAbs-product (pos (t .weight)) (abs (fall (grid t samples) x j))))
         (mul-le-mul weight-most (fall-bound j l)))
 
-  image-inside : (f : ℕ → ℤ) → InBox (grid t samples) (image (grid t samples) f)
+  pub image-inside : (f : ℕ → ℤ) → InBox (grid t samples) (image (grid t samples) f)
   unfolding image lowEnd highEnd boxAllowed
   image-inside f i l =
       let z : ℤ = readingOf (getD samples i 0) -ℤ pull (grid t samples) f i in

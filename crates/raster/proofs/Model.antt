@@ -45,7 +45,7 @@ module _ (t : Terms) (samples : List ℕ) where
       ∙ ap (pull (grid t samples) (at flow)) (div-add-mod' i (t .width))))
 
   module _ (flow : List ℤ) {values : List ℤ} (e : values ≡ imageOf t samples flow) where
-    value-at : (i : ℕ) → i < t .width * t .height → at values i ≡ image (grid t samples) (at flow) i
+    pub value-at : (i : ℕ) → i < t .width * t .height → at values i ≡ image (grid t samples) (at flow) i
     unfolding imageOf
     value-at i l = ap (λ (v : List ℤ). at v i) e ∙ getD-table (t .width * t .height) (image (grid t samples) (at flow)) i (pos 0) l
 

@@ -1,0 +1,77 @@
+-- An allowed job is within the limits of the passes. Assumes nothing.
+use mathlib.Core.Path.{_≡_, sym, ap, _∙_, subst}
+use mathlib.Core.List.{List}
+use Prim.Native.Nat.{ℕ, _+_, _-_, _*_, _^_, _≤_, _<_}
+use native.Mathlib.Nat.{le-trans}
+use native.Mathlib.Omega.{arith}
+use lib.IntN.{ℤ, pos, natAbs, negℤ}
+use lib.ListN.{length, getD}
+use lib.Signed.{_≤ℤ_}
+use Rattle.integers.proofs.Parts.{parts, whole, by-≤, of-≤}
+use Rattle.integers.proofs.Absolute.{bounds→natAbs}
+use Rattle.model.specs.declared.Terms.{Terms}
+use Rattle.model.specs.Lists.{at, table}
+use Rattle.model.specs.Problem.{pairCount, Feasible, image, InBox}
+use Rattle.model.specs.Grid.{gridPairs, grid}
+use Rattle.model.specs.Calls.{pixelsOf, pairsOf, imageOf}
+use Rattle.model.proofs.Lists.{length-table}
+use Rattle.model.proofs.Bounds as Bounds
+use Rattle.model.proofs.Bounds.{size-limits, weight-most, value-least, value-most, image-inside}
+use Rattle.raster.specs.Limits.{Within, MisfitLimits}
+use Rattle.raster.specs.Whole.{RasterLimits, WorkLimits}
+use Rattle.raster.proofs.Elements.{within-below}
+use Rattle.raster.proofs.Model.{value-at}
+use Rattle.calls.specs.Ready.{Allowed}
+
+module _ (t : Terms) (samples : List ℕ) where
+  pub with-bytes : Allowed t → ((i : ℕ) → getD samples i 0 < 256) → Bounds.Allowed t samples
+  with-bytes a bytes =
+      record { size = a .size; weight = a .weight; box = a .box; high-byte = a .high-byte; bytes = λ i. omega (arith, bytes i) }
+
+  module _ (ok : Bounds.Allowed t samples) where
+    -- an image of the box
+    module _ (values : List ℤ) (n : length values ≡ pixelsOf t) (inside : InBox (grid t samples) (at values)) where
+      image-most : Within (2 ^ 20) values
+      image-most = within-below values (λ i l. each (at values i)
+          (value-least t samples ok (at values) inside i (rw n at l)) (value-most t samples ok (at values) inside i (rw n at l)))
+        where
+          each : (x : ℤ) → pos 0 ≤ℤ x → x ≤ℤ pos 65280 → natAbs x ≤ 2 ^ 20
+          each x h k = le-trans (bounds→natAbs x (by-≤ (search parts depth 12) (omega (whole, of-≤ h (search parts depth 12)))) k) (omega arith)
+
+      pub raster-limits : RasterLimits (t .width) (t .height) values
+      raster-limits =
+          let s = size-limits (t .width) (t .height) (ok .size) in
+          record {
+            width-least = s .width-least;
+            height-least = s .height-least;
+            pixels-most = s .pixels-most;
+            image-length = n;
+            image-most = image-most;
+          }
+
+      pub misfit-limits : length samples ≡ pixelsOf t → MisfitLimits values samples
+      misfit-limits m =
+          record {
+            same-count = n ∙ sym m;
+            count-most = rw n (size-limits (t .width) (t .height) (ok .size) .pixels-most);
+            image-most = image-most;
+          }
+
+    -- a flow within the weight ..
+    module _ (flow : List ℤ) (n : length flow ≡ pairsOf t) (within : Feasible (grid t samples) (at flow)) where
+      pub flow-most : Within (2 ^ 20) flow
+      flow-most = within-below flow (λ j l. omega (arith, within j (rw n at l), weight-most t samples ok))
+
+      -- .. and its image
+      module _ {values : List ℤ} (e : values ≡ imageOf t samples flow) where
+        pub image-size : length values ≡ pixelsOf t
+        unfolding imageOf
+        image-size = ap length e ∙ length-table (pixelsOf t) (image (grid t samples) (at flow))
+
+        pub image-inside-box : InBox (grid t samples) (at values)
+        image-inside-box i l =
+            subst (λ (x : ℤ). (grid t samples .low ≤ℤ x) × (x ≤ℤ grid t samples .high)) (sym (value-at t samples flow e i l))
+            (image-inside t samples ok (at flow) i l)
+
+        pub work-limits : WorkLimits (t .width) (t .height) (pairsOf t) flow values
+        work-limits = record { raster = raster-limits values image-size image-inside-box; flow-length = n; flow-most = flow-most }

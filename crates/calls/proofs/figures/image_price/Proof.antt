@@ -1,0 +1,68 @@
+-- `calls::figures::image_price` meets its contract. Assumes nothing.
+use mathlib.Core.Path.{_≡_, ap, _∙_}
+use Prim.Native.Nat.{ℕ, _+_, _*_, _≤_}
+use native.Mathlib.Omega.{arith}
+use borrow.Author.Needs.{needs}
+use lib.IntN.{pos}
+use Rattle.integers.specs.Whole.{abs}
+use Rattle.integers.specs.Sum.{total}
+use Rattle.model.specs.Lists.{at}
+use Rattle.model.specs.Problem.{pairCount, fall, misfit}
+use Rattle.model.specs.Grid.{grid}
+use Rattle.model.proofs.Bounds as Bounds
+use Rattle.model.proofs.Bounds.{largest-fits}
+use Rattle.calls.proofs.Jobs.{with-bytes, raster-limits, misfit-limits}
+use Rattle.calls.proofs.Objectives.{misfit-at, variation-at, price-is, price-fits}
+use Rattle.calls.proofs.figures.image_price.Statement.{statement}
+use Rattle.calls.proofs.figures.image_price.Tie as tie
+
+cast-total-variation-grid : tie.Need-cast-total-variation-grid
+cast-total-variation-grid c = search needs
+
+cast-total-variation-grid-2 : tie.Need-cast-total-variation-grid-2
+cast-total-variation-grid-2 c = search needs
+
+allowed : (c : tie.After-shared-slice-known) → Bounds.Allowed (c .before .args .t) (c .before .args .samples .now)
+allowed c = with-bytes _ _ (c .before .pre .allowed) (λ i. omega (arith, c .shared-slice-known .given i))
+
+total-variation-grid-requires : tie.Need-total-variation-grid-requires
+total-variation-grid-requires c κs =
+    let s = c .before .before .before in
+    raster-limits _ _ (allowed (c .before .before)) (s .args .image .now) (s .pre .image-length) (s .pre .inside)
+
+misfit-requires : tie.Need-misfit-requires
+misfit-requires c κs =
+    let s = c .before .before .before .before in
+    misfit-limits _ _ (allowed (c .before .before .before)) (s .args .image .now) (s .pre .image-length) (s .pre .inside) (s .pre .samples-length)
+
+-- the two sums
+variation : (c : tie.After-total-variation-grid) → let s = c .before .before .before .before in
+    let p = grid (s .args .t) (s .args .samples .now) in
+    pos (c .total-variation-grid .result) ≡ total (pairCount p) (λ j. abs (fall p (at (s .args .image .now)) j))
+variation c = let s = c .before .before .before .before in variation-at (s .args .t) (s .args .samples .now) (s .args .image .now) (c .total-variation-grid .ensures)
+
+data-term : (c : tie.After-misfit) → let s = c .before .before .before .before .before in
+    pos (c .misfit .result) ≡ misfit (grid (s .args .t) (s .args .samples .now)) (at (s .args .image .now))
+data-term c = let s = c .before .before .before .before .before in misfit-at (s .args .t) (s .args .samples .now) (s .args .image .now) (s .pre .image-length) (c .misfit .ensures)
+
+objective-requires : tie.Need-objective-requires
+objective-requires c κs =
+    let s = c .before .before .before .before .before in
+    omega (arith, largest-fits, price-fits (s .args .t) (s .args .samples .now) (at (s .args .image .now)) (data-term c) (variation (c .before))
+    (allowed (c .before .before .before .before)) (s .pre .inside))
+
+returns : tie.Need-returns
+returns c =
+    let s = c .before .before .before .before .before .before in
+    ap pos (c .objective .ensures) ∙ price-is (s .args .t) (s .args .samples .now) (at (s .args .image .now)) (data-term (c .before)) (variation (c .before .before))
+
+pub image-price-spec : {M : Type 1} → statement M
+image-price-spec =
+    tie.close
+    (tie.spec
+    cast-total-variation-grid
+    cast-total-variation-grid-2
+    total-variation-grid-requires
+    misfit-requires
+    objective-requires
+    returns)

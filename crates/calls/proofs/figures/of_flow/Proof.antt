@@ -1,0 +1,155 @@
+-- `calls::figures::of_flow` meets its contract. Assumes nothing.
+use mathlib.Core.Path.{_≡_, sym, ap, ap₂, _∙_, subst}
+use Prim.Native.Nat.{_+_, _*_, _^_, _≤_, _<_}
+use native.Mathlib.Omega.{arith}
+use borrow.Author.Needs.{needs}
+use lib.Dec.{lit<}
+use lib.IntN.{ℤ, pos, natAbs, _-ℤ_, _*ℤ_}
+use lib.Signed.{_≤ℤ_}
+use mir.Syntax.{w64}
+use mir.Val.{toZ, ofZ}
+use Rattle.integers.specs.Whole.{abs}
+use Rattle.integers.specs.Sum.{total}
+use Rattle.integers.proofs.Machine.{read}
+use Rattle.model.specs.Lists.{at}
+use Rattle.model.specs.Problem.{Problem, pairCount, fall, misfit, price, image, floor, slack}
+use Rattle.model.specs.Grid.{grid}
+use Rattle.model.proofs.Bounds as Bounds
+use Rattle.model.proofs.Bounds.{largest, largest-fits, image-inside, floor-bound}
+use Rattle.certificate.proofs.Distance.{floor-below}
+use Rattle.certificate.proofs.Grid.{grid-sound}
+use Rattle.raster.specs.Whole.{gridFall}
+use Rattle.raster.proofs.Model.{misfit-is, variation-is, work-is}
+use Rattle.calls.proofs.Jobs.{with-bytes, raster-limits, misfit-limits, work-limits, image-size, image-inside-box}
+use Rattle.calls.proofs.Objectives.{sized, price-is, price-fits, floor-is, floor-fits}
+use Rattle.calls.proofs.figures.of_flow.Statement.{statement}
+use Rattle.calls.proofs.figures.of_flow.Tie as tie
+
+cast-w : tie.Need-cast-w
+cast-w c = search needs
+
+cast-h : tie.Need-cast-h
+cast-h c = search needs
+
+allowed : (c : tie.After-shared-slice-known) → Bounds.Allowed (c .before .args .t) (c .before .args .samples .now)
+allowed c = with-bytes _ _ (c .before .pre .allowed) (λ i. omega (arith, c .shared-slice-known .given i))
+
+misfit-requires : tie.Need-misfit-requires
+misfit-requires c κs =
+    let k = c .before .before in
+    let s = k .before in
+    let ok = allowed k in
+    misfit-limits _ _ ok (s .args .image .now) (image-size _ _ ok (s .args .flow .now) (s .pre .flow-length) (s .pre .feasible) (s .pre .image))
+    (image-inside-box _ _ ok (s .args .flow .now) (s .pre .flow-length) (s .pre .feasible) (s .pre .image)) (s .pre .samples-length)
+
+total-variation-grid-requires : tie.Need-total-variation-grid-requires
+total-variation-grid-requires c κs =
+    let k = c .before .before .before in
+    let s = k .before in
+    work-limits _ _ (allowed k) (s .args .flow .now) (s .pre .flow-length) (s .pre .feasible) (s .pre .image) .raster
+
+-- the three sums
+data-term : (c : tie.After-misfit) → let s = c .before .before .before .before in
+    let p = grid (s .args .t) (s .args .samples .now) in
+    pos (c .misfit .result) ≡ misfit p (image p (at (s .args .flow .now)))
+data-term c =
+    let k = c .before .before .before in
+    let s = k .before in
+    sized _ (c .misfit .ensures) (image-size _ _ (allowed k) (s .args .flow .now) (s .pre .flow-length) (s .pre .feasible) (s .pre .image))
+    ∙ misfit-is (s .args .t) (s .args .samples .now) (s .args .flow .now) (s .pre .image)
+
+variation : (c : tie.After-total-variation-grid) → let s = c .before .before .before .before .before in
+    let p = grid (s .args .t) (s .args .samples .now) in
+    pos (c .total-variation-grid .result) ≡ total (pairCount p) (λ j. abs (fall p (image p (at (s .args .flow .now))) j))
+variation c =
+    let s = c .before .before .before .before .before in
+    c .total-variation-grid .ensures ∙ variation-is (s .args .t) (s .args .samples .now) (s .args .flow .now) (s .pre .image)
+
+priced : (c : tie.After-total-variation-grid) → let s = c .before .before .before .before .before in
+    c .before .misfit .result + 2 * (s .args .t .weight * c .total-variation-grid .result) ≤ largest
+priced c =
+    let k = c .before .before .before .before in
+    let s = k .before in
+    let p = grid (s .args .t) (s .args .samples .now) in
+    price-fits (s .args .t) (s .args .samples .now) (image p (at (s .args .flow .now))) (data-term (c .before)) (variation c) (allowed k)
+    (image-inside (s .args .t) (s .args .samples .now) (allowed k) (at (s .args .flow .now)))
+
+objective-requires : tie.Need-objective-requires
+objective-requires c κs = omega (arith, largest-fits, priced c)
+
+total-work-grid-requires : tie.Need-total-work-grid-requires
+total-work-grid-requires c κs =
+    let k = c .before .before .before .before .before in
+    let s = k .before in
+    work-limits _ _ (allowed k) (s .args .flow .now) (s .pre .flow-length) (s .pre .feasible) (s .pre .image)
+
+work : (c : tie.After-total-work-grid) → let s = c .before .before .before .before .before .before .before in
+    let p = grid (s .args .t) (s .args .samples .now) in
+    toZ w64 (ofZ w64 (c .total-work-grid .result)) ≡ total (pairCount p) (λ j. at (s .args .flow .now) j *ℤ fall p (image p (at (s .args .flow .now))) j)
+work c =
+    let s = c .before .before .before .before .before .before .before in
+    read w64 (c .total-work-grid .ok)
+    ∙ sized _ (c .total-work-grid .ensures) (s .pre .flow-length)
+    ∙ work-is (s .args .t) (s .args .samples .now) (s .args .flow .now) (s .pre .image)
+
+dual-requires : tie.Need-dual-requires
+dual-requires c κs =
+    let v = c .before .before in
+    let k = v .before .before .before .before in
+    let s = k .before in
+    omega (arith, lit, priced v, floor-fits (s .args .t) (s .args .samples .now) (at (s .args .flow .now)) (data-term (v .before)) (work c) (allowed k) (s .pre .feasible) (omega (arith, priced v)))
+  where
+    lit : 3 * largest < 2 ^ 63
+    lit = lit< tt
+
+-- price and floor
+primal : (c : tie.After-objective) → let s = c .before .before .before .before .before .before in
+    let p = grid (s .args .t) (s .args .samples .now) in
+    pos (c .objective .result) ≡ price p (image p (at (s .args .flow .now)))
+primal c =
+    let s = c .before .before .before .before .before .before in
+    let p = grid (s .args .t) (s .args .samples .now) in
+    ap pos (c .objective .ensures)
+    ∙ price-is (s .args .t) (s .args .samples .now) (image p (at (s .args .flow .now))) (data-term (c .before .before)) (variation (c .before))
+
+dual : (c : tie.After-dual) → let s = c .before .before .before .before .before .before .before .before in
+    toZ w64 (ofZ w64 (c .dual .result)) ≡ floor (grid (s .args .t) (s .args .samples .now)) (at (s .args .flow .now))
+dual c =
+    let s = c .before .before .before .before .before .before .before .before in
+    read w64 (c .dual .ok)
+    ∙ c .dual .ensures
+    ∙ floor-is (s .args .t) (s .args .samples .now) (at (s .args .flow .now)) (data-term (c .before .before .before .before)) (work (c .before))
+
+gap-requires : tie.Need-gap-requires
+gap-requires c κs =
+    let o = c .before .before in
+    let k = o .before .before .before .before .before in
+    let s = k .before in
+    let ok = allowed k in
+    let p = grid (s .args .t) (s .args .samples .now) in
+    let f = at (s .args .flow .now) in
+    rw (dual c) (
+      omega (arith, largest-fits, o .objective .ensures, priced (o .before), floor-bound (s .args .t) (s .args .samples .now) ok f (s .pre .feasible)),
+      rw (primal o) (floor-below p (grid-sound (s .args .t) (s .args .samples .now) (ok .box)) f (s .pre .feasible) (image p f) (image-inside (s .args .t) (s .args .samples .now) ok f)),
+    )
+
+returns : tie.Need-returns
+unfolding slack
+returns c = (
+    primal (c .before .before .before),
+    (dual (c .before), c .gap .ensures ∙ ap₂ (λ (a b : ℤ). a -ℤ b) (primal (c .before .before .before)) (dual (c .before))),
+  )
+
+pub of-flow-spec : {M : Type 1} → statement M
+of-flow-spec =
+    tie.close
+    (tie.spec
+    cast-w
+    cast-h
+    misfit-requires
+    total-variation-grid-requires
+    objective-requires
+    total-work-grid-requires
+    dual-requires
+    gap-requires
+    returns)

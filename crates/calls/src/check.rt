@@ -1,0 +1,29 @@
+// Check judges a flow and fills its image.
+
+use crate::answer::Answer;
+use crate::figures;
+use crate::judge;
+use model::Terms;
+use model::Verdict;
+use raster::image::fill_image;
+use raster::leaf;
+ghost use mathlib.Core.Path.{_≡_};
+ghost use Rattle.model.specs.Calls.{checkVerdict, checkAnswer, checkImage};
+ghost use Rattle.certificate.specs.Demand.{CheckDemand};
+ghost use Rattle.calls.specs.Answers.{answerOf};
+
+pub fn check(t: Terms, samples: &[u8], flow: &[i32], image: &mut [i32]) -> Answer
+    ensures { λ r. ⌜ answerOf r ≡ checkAnswer t (now (samples .entry)) (now (flow .entry)) (now (image .entry)) ⌝ }
+    ensures { λ _. ⌜ now (image .exit) ≡ checkImage t (now (samples .entry)) (now (flow .entry)) (now (image .entry)) ⌝ }
+    ensures { λ _. ⌜ (checkVerdict t (now (samples .entry)) (now (flow .entry)) (now (image .entry)) ≡ Verdict.Accept → CheckDemand t (now (samples .entry)) (now (flow .entry))) ⌝ }
+{
+    let verdict = judge::judge_check(t, samples.len(), flow, image.len());
+    if let Verdict::Refuse { number, place } = verdict {
+        return Answer::Refused { number, place };
+    }
+    let low = leaf::low_end(t.low);
+    let high = leaf::high_end(t.high);
+    fill_image(image, samples, flow, t.width as usize, t.height as usize, low, high);
+    let f = figures::of_flow(t, samples, flow, image);
+    Answer::Checked { price: f.price, floor: f.floor, slack: f.slack }
+}

@@ -1,0 +1,69 @@
+// Price, floor and slack of a flow and its image, in 64 bits.
+
+use integers::signed;
+use model::Terms;
+use raster::grid::total_variation_grid;
+use raster::grid::total_work_grid;
+use raster::pixels::misfit;
+ghost use Prim.Native.Nat.{_+_, _*_, _^_, _<_};
+ghost use mathlib.Core.Path.{_≡_};
+ghost use lib.IntN.{pos, natAbs, _+ℤ_, _-ℤ_, _*ℤ_};
+ghost use lib.Signed.{_≤ℤ_};
+ghost use Rattle.model.specs.Lists.{at};
+ghost use Rattle.model.specs.Problem;
+ghost use Rattle.model.specs.Grid.{grid};
+ghost use Rattle.calls.specs.Ready.{PriceReady, FlowReady};
+
+pub struct Figures {
+    pub price: u64,
+    pub floor: i64,
+    pub slack: u64,
+}
+
+// The objective: the data fidelity term plus twice the weighted total variation.
+fn objective(fidelity: u64, variation: u64, weight: u32) -> u64
+    requires { ⌜ fidelity + 2 * (weight * variation) < 2 ^ 63 ⌝ }
+    ensures { λ r. ⌜ r ≡ fidelity + 2 * (weight * variation) ⌝ }
+{
+    fidelity + 2 * ((weight as u64) * variation)
+}
+
+// The dual objective: the data fidelity term plus twice the sum of flow times fall.
+fn dual(fidelity: u64, work: i64) -> i64
+    requires { ⌜ fidelity + 2 * natAbs work < 2 ^ 63 ⌝ }
+    ensures { λ r. ⌜ r ≡ pos fidelity +ℤ pos 2 *ℤ work ⌝ }
+{
+    signed::add_wide(signed::natural_wide(fidelity), signed::mul_wide(2, work))
+}
+
+// The duality gap.
+fn gap(price: u64, floor: i64) -> u64
+    requires { ⌜ (price + natAbs floor < 2 ^ 63) × (floor ≤ℤ pos price) ⌝ }
+    ensures { λ r. ⌜ pos r ≡ pos price -ℤ floor ⌝ }
+{
+    signed::unsigned_wide(signed::sub_wide(signed::natural_wide(price), floor))
+}
+
+// The price of an image of the box.
+pub fn image_price(t: Terms, samples: &[u8], image: &[i32]) -> u64
+    requires { ⌜ PriceReady t (now samples) (now image) ⌝ }
+    ensures { λ r. ⌜ pos r ≡ Problem.price (grid t (now (samples .entry))) (at (now (image .entry))) ⌝ }
+{
+    let variation = total_variation_grid(image, t.width as usize, t.height as usize);
+    objective(misfit(image, samples), variation, t.weight)
+}
+
+// The figures of a flow whose image is at hand.
+pub fn of_flow(t: Terms, samples: &[u8], flow: &[i32], image: &[i32]) -> Figures
+    requires { ⌜ FlowReady t (now samples) (now flow) (now image) ⌝ }
+    ensures { λ r. ⌜ pos (r .price) ≡ Problem.price (grid t (now (samples .entry))) (Problem.image (grid t (now (samples .entry))) (at (now (flow .entry)))) ⌝ }
+    ensures { λ r. ⌜ r .floor ≡ Problem.floor (grid t (now (samples .entry))) (at (now (flow .entry))) ⌝ }
+    ensures { λ r. ⌜ pos (r .slack) ≡ Problem.slack (grid t (now (samples .entry))) (at (now (flow .entry))) ⌝ }
+{
+    let w = t.width as usize;
+    let h = t.height as usize;
+    let fidelity = misfit(image, samples);
+    let price = objective(fidelity, total_variation_grid(image, w, h), t.weight);
+    let floor = dual(fidelity, total_work_grid(flow, image, w, h));
+    Figures { price, floor, slack: gap(price, floor) }
+}
