@@ -4,19 +4,21 @@ use mathlib.Core.List.{List}
 use Prim.Native.Nat.{ℕ, _+_, _-_, _*_, _^_, _≤_, _<_}
 use native.Mathlib.Nat.{le-trans}
 use native.Mathlib.Omega.{arith}
+use mathlib.Core.Bool.{true}
+use borrow.Author.Tests.{leb-true}
 use lib.IntN.{ℤ, pos, natAbs, negℤ}
 use lib.ListN.{length, getD}
 use lib.Signed.{_≤ℤ_}
 use Rattle.integers.proofs.Parts.{parts, whole, by-≤, of-≤}
 use Rattle.integers.proofs.Absolute.{bounds→natAbs}
 use Rattle.model.specs.declared.Terms.{Terms}
-use Rattle.model.specs.Lists.{at, table}
-use Rattle.model.specs.Problem.{pairCount, Feasible, image, InBox}
-use Rattle.model.specs.Grid.{gridPairs, grid}
+use Rattle.model.specs.Lists.{at}
+use Rattle.model.specs.Problem.{Feasible, image, InBox}
+use Rattle.model.specs.Grid.{weightAllowed, grid}
 use Rattle.model.specs.Calls.{pixelsOf, pairsOf, imageOf}
 use Rattle.model.proofs.Lists.{length-table}
 use Rattle.model.proofs.Bounds as Bounds
-use Rattle.model.proofs.Bounds.{size-limits, weight-most, value-least, value-most, image-inside}
+use Rattle.model.proofs.Bounds.{size-limits, value-least, value-most, image-inside}
 use Rattle.raster.specs.Limits.{Within, MisfitLimits}
 use Rattle.raster.specs.Whole.{RasterLimits, WorkLimits}
 use Rattle.raster.proofs.Elements.{within-below}
@@ -27,6 +29,11 @@ module _ (t : Terms) (samples : List ℕ) where
   pub with-bytes : Allowed t → ((i : ℕ) → getD samples i 0 < 256) → Bounds.Allowed t samples
   with-bytes a bytes =
       record { size = a .size; weight = a .weight; box = a .box; high-byte = a .high-byte; bytes = λ i. omega (arith, bytes i) }
+
+  -- a flow within the weight
+  pub flow-most : (flow : List ℤ) → length flow ≡ pairsOf t → weightAllowed (t .weight) ≡ true → Feasible (grid t samples) (at flow) → Within (2 ^ 20) flow
+  unfolding weightAllowed
+  flow-most flow n h within = within-below flow (λ j l. omega (arith, within j (rw n at l), leb-true (t .weight) 65280 h))
 
   module _ (ok : Bounds.Allowed t samples) where
     -- an image of the box
@@ -57,12 +64,8 @@ module _ (t : Terms) (samples : List ℕ) where
             image-most = image-most;
           }
 
-    -- a flow within the weight ..
+    -- a flow within the weight, and its image
     module _ (flow : List ℤ) (n : length flow ≡ pairsOf t) (within : Feasible (grid t samples) (at flow)) where
-      pub flow-most : Within (2 ^ 20) flow
-      flow-most = within-below flow (λ j l. omega (arith, within j (rw n at l), weight-most t samples ok))
-
-      -- .. and its image
       module _ {values : List ℤ} (e : values ≡ imageOf t samples flow) where
         pub image-size : length values ≡ pixelsOf t
         unfolding imageOf
@@ -74,4 +77,4 @@ module _ (t : Terms) (samples : List ℕ) where
             (image-inside t samples ok (at flow) i l)
 
         pub work-limits : WorkLimits (t .width) (t .height) (pairsOf t) flow values
-        work-limits = record { raster = raster-limits values image-size image-inside-box; flow-length = n; flow-most = flow-most }
+        work-limits = record { raster = raster-limits values image-size image-inside-box; flow-length = n; flow-most = flow-most flow n (ok .weight) within }

@@ -1,6 +1,6 @@
 -- What it says that a call is accepted or refused: of its terms, lengths and contents, and of its answer and buffers.
 -- Assumes nothing.
-use mathlib.Core.Path.{_≡_, sym, ap, _∙_}
+use mathlib.Core.Path.{_≡_, sym, ap, ap₂, _∙_}
 use mathlib.Core.Bool.{Bool, true, false, not, true≢false}
 use mathlib.Core.List.{List, [], _∷_}
 use Prim.Native.Nat.{ℕ, _≤_, _<_}
@@ -12,10 +12,10 @@ use lib.ListN.{length}
 use Rattle.model.specs.declared.Terms.{Terms}
 use Rattle.model.specs.declared.Verdict.{Verdict}
 use Rattle.model.specs.Lists.{at, firstWhere}
-use Rattle.model.specs.Problem.{Feasible}
+use Rattle.model.specs.Problem.{Problem, Feasible, price, image, floor, slack}
 use Rattle.model.specs.Grid.{grid}
 use Rattle.model.specs.Verdict.{Row, firstRefusal, decided, left}
-use Rattle.model.specs.Calls.{Answer, refusal, checked, pixelsOf, pairsOf, sizeRow, weightRow, boxRow, lengthRow, flowRow, firstBeyond, imageOf, figuresOf, checkVerdict, checkAnswer, checkImage}
+use Rattle.model.specs.Calls.{Outcome, refusal, figures, checked, pixelsOf, pairsOf, sizeRow, weightRow, boxRow, lengthRow, flowRow, firstBeyond, imageOf, figuresOf, checkVerdict, checkAnswer, checkImage}
 use Rattle.model.proofs.Lists.{firstWhere-first}
 use Rattle.model.proofs.Refusals.{accepted-row, upper-accepts, firstRefusal-append}
 use Rattle.terms.proofs.Accepted.{AllowedTerms, accepted-terms}
@@ -38,6 +38,15 @@ within weight flow h j l =
     let beyond : ℕ → Bool = λ i. ltb weight (natAbs (at flow i)) in
     let none : length flow ≤ firstWhere (length flow) beyond = omega (arith, ltb-false (firstWhere (length flow) beyond) (length flow) h) in
     omega (arith, ltb-false weight (natAbs (at flow j)) (firstWhere-first (length flow) beyond .before j (omega arith)))
+
+-- figures that are those of a flow
+pub figured : (o : Outcome) (moved : ℕ) (t : Terms) (samples : List ℕ) (flow : List ℤ) {a b c : ℤ} →
+    a ≡ price (grid t samples) (image (grid t samples) (at flow)) → b ≡ floor (grid t samples) (at flow) → c ≡ slack (grid t samples) (at flow) →
+    figures o moved a b c ≡ figuresOf o moved t samples flow
+unfolding figuresOf
+figured o moved t samples flow {c} e f g =
+    let p : Problem = grid t samples in
+    ap₂ (λ (x y : ℤ). figures o moved x y c) e f ∙ ap (figures o moved (price p (image p (at flow))) (floor p (at flow))) g
 
 -- ---- check
 

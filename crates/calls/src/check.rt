@@ -23,7 +23,19 @@ pub fn check(t: Terms, samples: &[u8], flow: &[i32], image: &mut [i32]) -> Answe
     }
     let low = leaf::low_end(t.low);
     let high = leaf::high_end(t.high);
-    fill_image(image, samples, flow, t.width as usize, t.height as usize, low, high);
+    fill_image(
+        image,
+        samples,
+        flow,
+        t.width as usize,
+        t.height as usize,
+        low,
+        high,
+    );
     let f = figures::of_flow(t, samples, flow, image);
-    Answer::Checked { price: f.price, floor: f.floor, slack: f.slack }
+    Answer::Checked {
+        price: f.price,
+        floor: f.floor,
+        slack: f.slack,
+    }
 }

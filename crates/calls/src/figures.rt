@@ -65,5 +65,9 @@ pub fn of_flow(t: Terms, samples: &[u8], flow: &[i32], image: &[i32]) -> Figures
     let fidelity = misfit(image, samples);
     let price = objective(fidelity, total_variation_grid(image, w, h), t.weight);
     let floor = dual(fidelity, total_work_grid(flow, image, w, h));
-    Figures { price, floor, slack: gap(price, floor) }
+    Figures {
+        price,
+        floor,
+        slack: gap(price, floor),
+    }
 }

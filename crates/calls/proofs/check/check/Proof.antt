@@ -1,8 +1,21 @@
 -- `calls::check::check` meets its contract. Assumes nothing.
 use mathlib.Core.Path.{_≡_, sym, ap, ap₂, _∙_}
-use Prim.Native.Nat.{ℕ, _+_, _-_, _*_, _≤_}
+use Prim.Native.Nat.{_*_}
 use native.Mathlib.Omega.{arith}
 use borrow.Author.Needs.{needs}
+use lib.IntN.{ℤ}
+use mir.Syntax.{w32, w64}
+use Rattle.integers.proofs.Machine.{read}
+use Rattle.model.specs.declared.Verdict.{Verdict}
+use Rattle.model.specs.Lists.{table}
+use Rattle.model.specs.Calls.{checked, checkVerdict, imageOf}
+use Rattle.model.proofs.Bounds.{size-limits}
+use Rattle.model.proofs.Pairs.{grid-count}
+use Rattle.certificate.proofs.Grid.{check-demand}
+use Rattle.raster.specs.Rows.{imageValue}
+use Rattle.raster.proofs.Model.{image-is}
+use Rattle.calls.proofs.Jobs.{flow-most}
+use Rattle.calls.proofs.Verdicts.{not-both, figured, CheckAccepted, check-accepts, check-answers, check-fills, check-refuses, check-keeps}
 use Rattle.calls.proofs.check.check.Statement.{statement}
 use Rattle.calls.proofs.check.check.Tie as tie
 
@@ -13,10 +26,28 @@ enum-known-verdict : tie.Need-enum-known-verdict
 enum-known-verdict c = search needs
 
 returns : tie.Need-returns
-returns c = ?
+unfolding checkVerdict
+returns c =
+    let s = c .before .before .before .before .before in
+    let h = sym (c .before .before .before .judge-check .ensures) ∙ c .before .verdict .given .1 in
+    let t = s .args .t in
+    let b = s .args .samples .now in
+    let f = s .args .flow .now in
+    let x = s .args .image .now in
+    (check-refuses t b f x h, (check-keeps t b f x h, λ g. not-both h g))
 
 enum-told : tie.Need-enum-told
 enum-told c = search needs
+
+-- past the verdict
+accepted : (c : tie.After-enum-told) → let s = c .before .before .before .before in
+    checkVerdict (s .args .t) (s .args .samples .now) (s .args .flow .now) (s .args .image .now) ≡ Verdict.Accept
+unfolding checkVerdict
+accepted c = sym (c .before .before .judge-check .ensures) ∙ c .enum-told .given .1
+
+facts : (c : tie.After-enum-told) → let s = c .before .before .before .before in
+    CheckAccepted (s .args .t) (s .args .samples .now) (s .args .flow .now) (s .args .image .now)
+facts c = let s = c .before .before .before .before in check-accepts (s .args .t) (s .args .samples .now) (s .args .flow .now) (s .args .image .now) (accepted c)
 
 low-end-requires : tie.Need-low-end-requires
 low-end-requires c κs = search needs
@@ -31,16 +62,64 @@ cast-fill-image-2 : tie.Need-cast-fill-image-2
 cast-fill-image-2 c = search needs
 
 fill-image-requires : tie.Need-fill-image-requires
-fill-image-requires c κs = let g = c .struct-known2 in let h = c .before .struct-known in ?
+fill-image-requires c κs =
+    let e = c .before .before .before .before .before in
+    let s = e .before .before .before .before in
+    let a = facts e in
+    let t = s .args .t in
+    let z = size-limits (t .width) (t .height) (a .terms .size) in
+    record {
+      width-least = z .width-least;
+      height-least = z .height-least;
+      image-count = a .image-length;
+      sample-count = a .samples-length;
+      flow-count = a .flow-length ∙ grid-count (t .width) (t .height);
+      flow-most = flow-most t (s .args .samples .now) (s .args .flow .now) (a .flow-length) (a .terms .weight) (a .feasible);
+    }
+
+-- the image is the flow's
+filled : (c : tie.After-fill-image) → let s = c .before .before .before .before .before .before .before .before .before .before in
+    c .fill-image .last .0 ≡ imageOf (s .args .t) (s .args .samples .now) (s .args .flow .now)
+filled c =
+    let high = c .before .before .before .before in
+    let low = high .before in
+    let s = low .before .before .before .before .before in
+    let t = s .args .t in
+    c .fill-image .ensures
+    ∙ ap₂ (λ (a b : ℤ). table (t .width * t .height) (imageValue a b (s .args .samples .now) (s .args .flow .now) (t .width) (t .height)))
+    (read w32 (low .low-end .ok) ∙ low .low-end .ensures)
+    (read w32 (high .high-end .ok) ∙ high .high-end .ensures)
+    ∙ image-is t (s .args .samples .now) (s .args .flow .now)
 
 of-flow-requires : tie.Need-of-flow-requires
-of-flow-requires c κs = ?
+of-flow-requires c κs =
+    let i = c .before .before in
+    let e = i .before .before .before .before .before .before in
+    let a = facts e in
+    record {
+      allowed = record { size = a .terms .size; weight = a .terms .weight; box = a .terms .box; high-byte = omega (arith, i .before .struct-known2 .given .1 .1 .1 .1 .0 .fits) };
+      samples-length = a .samples-length;
+      flow-length = a .flow-length;
+      feasible = a .feasible;
+      image = filled i;
+    }
 
 same-length : tie.Need-same-length
 same-length c = search needs
 
 returns-2 : tie.Need-returns-2
-returns-2 c = ?
+returns-2 c =
+    let r = c .before in
+    let i = r .before .before .before in
+    let e = i .before .before .before .before .before .before in
+    let s = e .before .before .before .before in
+    let t = s .args .t in
+    let b = s .args .samples .now in
+    let f = s .args .flow .now in
+    let x = s .args .image .now in (
+      figured checked 0 t b f (r .of-flow .ensures .0) (read w64 (r .of-flow .ok .1 .1 .1 .0 .1) ∙ r .of-flow .ensures .1 .0) (r .of-flow .ensures .1 .1) ∙ check-answers t b f x (accepted e),
+      (filled i ∙ check-fills t b f x (accepted e), λ h. check-demand t b (facts e .terms .box) f (facts e .feasible)),
+    )
 
 pub check-spec : {M : Type 1} → statement M
 check-spec =

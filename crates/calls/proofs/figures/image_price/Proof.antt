@@ -48,8 +48,12 @@ data-term c = let s = c .before .before .before .before .before in misfit-at (s 
 objective-requires : tie.Need-objective-requires
 objective-requires c κs =
     let s = c .before .before .before .before .before in
-    omega (arith, largest-fits, price-fits (s .args .t) (s .args .samples .now) (at (s .args .image .now)) (data-term c) (variation (c .before))
-    (allowed (c .before .before .before .before)) (s .pre .inside))
+    omega (
+      arith,
+      largest-fits,
+      price-fits (s .args .t) (s .args .samples .now) (at (s .args .image .now)) (data-term c) (variation (c .before))
+          (allowed (c .before .before .before .before)) (s .pre .inside),
+    )
 
 returns : tie.Need-returns
 returns c =

@@ -136,9 +136,9 @@ gap-requires c κs =
 returns : tie.Need-returns
 unfolding slack
 returns c = (
-    primal (c .before .before .before),
-    (dual (c .before), c .gap .ensures ∙ ap₂ (λ (a b : ℤ). a -ℤ b) (primal (c .before .before .before)) (dual (c .before))),
-  )
+  primal (c .before .before .before),
+  (dual (c .before), c .gap .ensures ∙ ap₂ (λ (a b : ℤ). a -ℤ b) (primal (c .before .before .before)) (dual (c .before))),
+)
 
 pub of-flow-spec : {M : Type 1} → statement M
 of-flow-spec =
