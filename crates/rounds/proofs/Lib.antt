@@ -4,8 +4,12 @@
 --     Bounds      the bounds of T and R
 --     Ahead       one extrapolated number
 --     Runs        the numbers ahead by runs of pairs
+--     Model       a quick round in buffers is the model's
+--     Halves      a buffer of two halves
 pub mod Squares
 pub mod Reciprocal
 pub mod Bounds
 pub mod Ahead
 pub mod Runs
+pub mod Model
+pub mod Halves
