@@ -6,6 +6,8 @@
 --     Runs        the numbers ahead by runs of pairs
 --     Model       a quick round in buffers is the model's
 --     Halves      a buffer of two halves
+--     Kept        what quick rounds keep
+--     Turns       quick rounds in buffers, one after another
 pub mod Squares
 pub mod Reciprocal
 pub mod Bounds
@@ -13,3 +15,5 @@ pub mod Ahead
 pub mod Runs
 pub mod Model
 pub mod Halves
+pub mod Kept
+pub mod Turns

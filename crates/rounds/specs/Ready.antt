@@ -35,3 +35,10 @@ pub record QuickReady (t : Terms) (samples : List ℕ) (flow ahead image : List 
 -- the state that the buffers hold
 abbrev pub held : List ℤ → List ℤ → ℕ → Quick
 held flow ahead momentum = record { iterate = flow; extrapolated = ahead; momentum = momentum }
+
+-- before all quick rounds: an allowed number of them, and a work buffer of two halves
+pub record QuickJob (t : Terms) (quick : ℕ) (samples : List ℕ) (flow image work : List ℤ) : Type 0 where
+  pub limits : JobLimits t
+  pub lengths : JobLengths t samples flow image
+  pub quick-most : quick ≤ 4096
+  pub work-length : length work ≡ 2 * length flow

@@ -13,11 +13,11 @@ ghost use mathlib.Core.List.{_++_};
 ghost use lib.ListN.{length, drop};
 ghost use Rattle.model.specs.Lists.{table};
 ghost use Rattle.model.specs.Grid.{grid};
-ghost use Rattle.model.specs.Rounds.{eighth, quickRound};
+ghost use Rattle.model.specs.Rounds.{eighth, quickRound, quickRounds};
 ghost use Rattle.raster.specs.Run.{stepAt};
 ghost use Rattle.raster.specs.Whole.{rowStep, gridStep};
 ghost use Rattle.rounds.specs.Ahead.{aheadAt, rowAhead, gridAhead, AdvanceLimits, RowAdvance, GridAdvance};
-ghost use Rattle.rounds.specs.Ready.{QuickReady, held};
+ghost use Rattle.rounds.specs.Ready.{QuickReady, held, QuickJob};
 
 // One run of pairs: flow holds the earlier iterate and gets the next one, ahead holds R and gets
 // the next R.
@@ -159,4 +159,26 @@ fn quick_round(
     let m = flow.len();
     buffers::copy(&mut work[..m], flow);
     advance(t, samples, flow, &mut work[m..], image, momentum)
+}
+
+// Quick rounds from the start, P = R = 0 and T = 65,536: the flow gets P.
+pub fn quick_rounds(
+    t: Terms,
+    quick: u32,
+    samples: &[u8],
+    flow: &mut [i32],
+    image: &mut [i32],
+    work: &mut [i32],
+)
+    requires { ⌜ QuickJob t quick (now samples) (now flow) (now image) (now work) ⌝ }
+    ensures { λ _. ⌜ now (flow .exit) ≡ quickRounds eighth (grid t (now (samples .entry))) quick .iterate ⌝ }
+{
+    buffers::clear(flow);
+    buffers::clear(work);
+    let mut momentum = 65536;
+    let mut k = 0;
+    while k < quick {
+        momentum = quick_round(t, samples, flow, image, work, momentum);
+        k += 1;
+    }
 }
