@@ -5,9 +5,11 @@
 --     Ahead       one extrapolated number
 --     Runs        the numbers ahead by runs of pairs
 --     Model       a quick round in buffers is the model's
+--     Passes      what the passes of a round ask and leave
 --     Halves      a buffer of two halves
 --     Kept        what quick rounds keep
 --     Turns       quick rounds in buffers, one after another
+--     Rests       steady rounds in buffers, one after another
 pub mod Squares
 pub mod Reciprocal
 pub mod Bounds
@@ -17,3 +19,5 @@ pub mod Model
 pub mod Halves
 pub mod Kept
 pub mod Turns
+pub mod Rests
+pub mod Passes

@@ -42,3 +42,9 @@ pub record QuickJob (t : Terms) (quick : ℕ) (samples : List ℕ) (flow image w
   pub lengths : JobLengths t samples flow image
   pub quick-most : quick ≤ 4096
   pub work-length : length work ≡ 2 * length flow
+
+-- before steady rounds: a flow within the weight
+pub record SteadyReady (t : Terms) (samples : List ℕ) (flow image : List ℤ) : Type 0 where
+  pub limits : JobLimits t
+  pub lengths : JobLengths t samples flow image
+  pub flow-most : Within (t .weight) flow
