@@ -16,8 +16,8 @@ pub mod Bounds
 pub mod Ahead
 pub mod Runs
 pub mod Model
+pub mod Passes
 pub mod Halves
 pub mod Kept
 pub mod Turns
 pub mod Rests
-pub mod Passes

@@ -1,22 +1,17 @@
 -- `rounds::quick::advance` meets its contract: the image of the numbers ahead, then all pairs. Assumes nothing.
-use mathlib.Core.Path.{_≡_, sym, ap, ap₂, _∙_, subst}
-use Prim.Native.Nat.{_-_, _*_, _^_}
+use mathlib.Core.Path.{_≡_, sym, _∙_}
+use Prim.Native.Nat.{_-_}
 use native.Mathlib.Omega.{arith}
 use borrow.Author.Needs.{needs}
-use lib.IntN.{ℤ}
 use lib.ListN.{length}
 use mir.Syntax.{w32}
 use Rattle.integers.proofs.Machine.{read}
-use Rattle.model.specs.Lists.{table}
+use Rattle.model.specs.Grid.{gridPairs}
 use Rattle.model.specs.Rounds.{nextMomentum, quickRound}
 use Rattle.model.specs.Calls.{imageOf}
-use Rattle.model.proofs.Pairs.{grid-count}
-use Rattle.model.proofs.Lists.{length-table}
-use Rattle.raster.specs.Limits.{Within}
-use Rattle.raster.specs.Rows.{imageValue}
-use Rattle.raster.proofs.Model.{image-is}
 use Rattle.rounds.specs.Reciprocal.{Reciprocal}
-use Rattle.rounds.proofs.Model.{next-range, factor-most, image-most, iterate-is, ahead-is}
+use Rattle.rounds.proofs.Model.{next-range, factor-most, iterate-is, ahead-is}
+use Rattle.rounds.proofs.Passes.{fill-limits, grid-limits, filled-is}
 use Rattle.rounds.proofs.quick.advance.Statement.{statement}
 use Rattle.rounds.proofs.quick.advance.Tie as tie
 
@@ -32,38 +27,23 @@ low-end-requires c κs = search needs
 high-end-requires : tie.Need-high-end-requires
 high-end-requires c κs = search needs
 
+-- a number ahead for each pair
+ahead-length : (s : tie.Start) → length (s .args .ahead .now) ≡ length (gridPairs (s .args .t .width) (s .args .t .height))
+ahead-length s = sym (s .pre .same-length) ∙ s .pre .lengths .flow-length
+
 fill-image-requires : tie.Need-fill-image-requires
 fill-image-requires c κs =
     let s = c .before .before .before .before .before .before .before in
-    let p = s .pre in
-    record {
-      width-least = p .limits .width-least;
-      height-least = p .limits .height-least;
-      image-count = p .lengths .image-length;
-      sample-count = p .lengths .samples-length;
-      flow-count = sym (p .same-length) ∙ p .lengths .flow-length ∙ grid-count (s .args .t .width) (s .args .t .height);
-      flow-most = p .ahead-most;
-    }
+    fill-limits (s .args .t) (s .args .samples .now) (s .pre .limits) (ahead-length s) (s .pre .ahead-most) (s .pre .lengths .samples-length) (s .pre .lengths .image-length)
 
--- the image of the numbers ahead, in its limits
-module _ (c : tie.After-fill-image) where
-  image-filled : let s = c .before .before .before .before .before .before .before .before in
-      c .fill-image .last .0 ≡ imageOf (s .args .t) (s .args .samples .now) (s .args .ahead .now)
-  image-filled =
-      let s = c .before .before .before .before .before .before .before .before in
-      let l = c .before .before .low-end in
-      let h = c .before .high-end in
-      c .fill-image .ensures
-      ∙ ap₂ (λ (a b : ℤ). table (s .args .t .width * s .args .t .height) (imageValue a b (s .args .samples .now) (s .args .ahead .now) (s .args .t .width) (s .args .t .height)))
-      (read w32 (l .ok) ∙ l .ensures) (read w32 (h .ok) ∙ h .ensures)
-      ∙ image-is (s .args .t) (s .args .samples .now) (s .args .ahead .now)
-
-  image-limited : Within (2 ^ 20) (c .fill-image .last .0)
-  image-limited =
-      let s = c .before .before .before .before .before .before .before .before in
-      let k = c .before .before .before .before .before .before .struct-known .given in
-      subst (Within (2 ^ 20)) (sym image-filled)
-      (image-most (s .args .t) (s .args .samples .now) (k .1 .1 .1 .0 .fits) (k .1 .1 .1 .1 .0 .fits) (s .args .ahead .now))
+-- the image of the numbers ahead
+image-filled : (c : tie.After-fill-image) → let s = c .before .before .before .before .before .before .before .before in
+    c .fill-image .last .0 ≡ imageOf (s .args .t) (s .args .samples .now) (s .args .ahead .now)
+image-filled c =
+    let s = c .before .before .before .before .before .before .before .before in
+    let l = c .before .before .low-end in
+    let h = c .before .high-end in
+    filled-is (s .args .t) (s .args .samples .now) (s .args .ahead .now) (c .fill-image .ensures) (read w32 (l .ok) ∙ l .ensures) (read w32 (h .ok) ∙ h .ensures)
 
 next-momentum-requires : tie.Need-next-momentum-requires
 next-momentum-requires c κs = search needs
@@ -93,22 +73,12 @@ advance-grid-requires c κs =
     let f = c .before .before .before .before .before .before .before in
     let s = f .before .before .before .before .before .before .before .before in
     let p = s .pre in
+    let k = f .before .before .before .before .before .before .struct-known .given in
     rw (read w32 (c .natural .ok), c .natural .ensures)
     (record {
       grid =
-          record {
-            size =
-                record {
-                  width-least = p .limits .width-least;
-                  height-least = p .limits .height-least;
-                  pixels-most = p .limits .pixels-most;
-                  flow-length = sym (p .same-length) ∙ p .lengths .flow-length;
-                  image-length = ap length (f .fill-image .ensures) ∙ length-table _ _;
-                };
-            weight-most = omega (arith, p .limits .weight-most);
-            flow-most = p .ahead-most;
-            image-most = image-limited f;
-          };
+          grid-limits (s .args .t) (s .args .samples .now) (p .limits) (ahead-length s) (p .ahead-most) (k .1 .1 .1 .0 .fits)
+          (k .1 .1 .1 .1 .0 .fits) (image-filled f);
       same-length = p .same-length;
       weight-most = p .limits .weight-most;
       flow-most = p .flow-most;
