@@ -1,19 +1,16 @@
 -- Quick rounds stay within bounds: T from 65,536 to 65,536 × (rounds + 1), and R within three times the weights, though
 -- it may pass them once. Assumes nothing.
-use mathlib.Core.Path.{_≡_, refl, sym, ap, ap₂, _∙_, subst}
-use Prim.Native.Nat.{ℕ, zero, suc, _+_, _-_, _*_, _/_, _≤_, _<_, zero-le}
-use native.Mathlib.Nat.{div-le-of-le-mul, mul-le-mul, mul-le-mul-right, le-trans}
+use mathlib.Core.Path.{_≡_, sym, ap, _∙_, subst}
+use Prim.Native.Nat.{ℕ, zero, suc, _+_, _-_, _*_, _≤_, _<_}
+use native.Mathlib.Nat.{div-le-of-le-mul, mul-le-mul-right, le-trans}
 use native.Mathlib.Omega.{arith}
 use lib.IntN.{ℤ, pos, natAbs, _+ℤ_, _-ℤ_, _*ℤ_}
-use lib.ListN.{getD-replicate, length-replicate, length}
 use Rattle.integers.specs.Whole.{quotient}
 use Rattle.integers.proofs.Parts.{parts, whole, by-≡}
 use Rattle.integers.proofs.Absolute.{natAbs-sum, natAbs-difference, natAbs-product}
 use Rattle.integers.proofs.Quotient.{natAbs-quotient}
-use Rattle.model.specs.Lists.{at, table}
-use Rattle.model.specs.Problem.{Problem, pairCount}
-use Rattle.model.specs.Rounds.{step, nextMomentum, extrapolate, quickStart, quickRound, quickRounds}
-use Rattle.model.proofs.Lists.{length-table, getD-table}
+use Rattle.model.specs.Problem.{Problem}
+use Rattle.model.specs.Rounds.{extrapolate, quickStart, quickRound, quickRounds}
 use Rattle.model.proofs.Root.{momentum-grows, momentum-least}
 use Rattle.rounds.specs.Reciprocal.{Reciprocal}
 use Rattle.rounds.proofs.Reciprocal.{quotient-exact}
@@ -37,11 +34,11 @@ extrapolate-bound t next w earlier now h l e n =
     omega (arith, natAbs-sum now (quotient (a *ℤ x) (pos next)))
 
 -- and by the reciprocal of its quotient
-pub extrapolate-is : (t next m w : ℕ) (earlier now : ℤ) → 65536 ≤ t → zero < next → Reciprocal (t - 65536) next m →
+pub extrapolate-is : (t next m : ℕ) (earlier now : ℤ) → 65536 ≤ t → zero < next → Reciprocal (t - 65536) next m →
     natAbs (now -ℤ earlier) * next < 70368744177664 →
     now +ℤ quotient ((now -ℤ earlier) *ℤ pos m) (pos 70368744177664) ≡ extrapolate t next earlier now
 unfolding extrapolate
-extrapolate-is t next m w earlier now h p r small =
+extrapolate-is t next m earlier now h p r small =
     ap (λ (z : ℤ). now +ℤ z)
     (quotient-exact (t - 65536) next m (now -ℤ earlier) p r small
     ∙ ap (λ (z : ℤ). quotient (z *ℤ (now -ℤ earlier)) (pos next)) (sym (excess t h)))

@@ -1,19 +1,7 @@
 -- Multiplying by the reciprocal and shifting is dividing. Assumes nothing.
-use mathlib.Core.Path.{_≡_, refl, sym, ap, ap₂, _∙_, subst}
+use mathlib.Core.Path.{_≡_, sym, ap, _∙_}
 use Prim.Native.Nat.{ℕ, zero, suc, _+_, _*_, _/_, _%_, _^_, _≤_, _<_}
-use native.Mathlib.Nat.{
-  le-antisymm,
-  le-div-iff-mul-le,
-  div-lt-iff-lt-mul,
-  div-mul-le-self,
-  mul-le-mul-left,
-  mul-le-mul-right,
-  lt-of-mul-lt-mul-right,
-  le-of-mul-le-mul-right,
-  div-add-mod',
-  div-le-of-le-mul,
-  mod-lt,
-}
+use native.Mathlib.Nat.{le-div-iff-mul-le, div-lt-iff-lt-mul, div-mul-le-self, mul-le-mul-left, mul-le-mul-right, lt-of-mul-lt-mul-right, le-of-mul-le-mul-right, div-add-mod', div-le-of-le-mul, mod-lt}
 use native.Mathlib.Omega.{arith}
 use lib.Dec.{lit<}
 use lib.IntN.{ℤ, pos, negsuc, natAbs, negℤ, _*ℤ_}

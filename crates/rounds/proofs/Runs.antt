@@ -1,12 +1,12 @@
 -- The numbers ahead by runs: one row's run is its stretch of all horizontal pairs, and the vertical and the horizontal
 -- pairs are all pairs. Assumes nothing.
-use mathlib.Core.Path.{_≡_, sym, ap, ap₂, _∙_}
+use mathlib.Core.Path.{_≡_, ap, ap₂, _∙_}
 use mathlib.Core.List.{List}
 use Prim.Native.Nat.{ℕ, _+_, _-_, _*_, _≤_, _<_}
 use lib.IntN.{ℤ, pos}
 use lib.ListN.{length, take}
 use lib.Seq.{length-take-le, getD-take}
-use Rattle.model.specs.Lists.{at, table}
+use Rattle.model.specs.Lists.{table}
 use Rattle.raster.specs.Run.{stepAt}
 use Rattle.raster.specs.Stencil.{stepValue}
 use Rattle.raster.specs.Whole.{rowStep, gridStep}

@@ -1,3 +1,4 @@
 -- What the rounds' inner contracts cite beside the model's definitions.
 pub mod Reciprocal
 pub mod Ahead
+pub mod Ready

@@ -2,3 +2,4 @@
 pub mod buffers;
 pub mod momentum;
 pub mod quick;
+pub mod steady;

@@ -1,6 +1,6 @@
 -- `rounds::momentum::extrapolated` meets its contract, by the laws of Ahead.antt. Assumes nothing.
 use mathlib.Core.Path.{_≡_, refl, sym, ap, _∙_}
-use Prim.Native.Nat.{ℕ, _≤_}
+use Prim.Native.Nat.{_≤_}
 use borrow.Author.Needs.{needs}
 use native.Mathlib.Omega.{arith}
 use lib.IntN.{ℤ, pos, natAbs, _+ℤ_, _-ℤ_}
@@ -8,7 +8,7 @@ use lib.Signed.{ltZ}
 use mir.Syntax.{w32}
 use mir.Val.{toZ, ofZ}
 use mir.ValLaws.{toZ-ofZ}
-use Rattle.integers.proofs.Machine.{read, called, called₂}
+use Rattle.integers.proofs.Machine.{read, called₂}
 use Rattle.rounds.proofs.Ahead.{change-bound, product-most, share-most, ahead-down, ahead-up}
 use Rattle.rounds.proofs.momentum.extrapolated.Statement.{statement}
 use Rattle.rounds.proofs.momentum.extrapolated.Tie as tie

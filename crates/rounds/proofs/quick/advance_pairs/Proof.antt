@@ -1,7 +1,7 @@
 -- `rounds::quick::advance_pairs` meets its contract. Assumes nothing.
-use mathlib.Core.Path.{_≡_, refl, sym, ap, ap₂, _∙_}
+use mathlib.Core.Path.{_≡_, ap, ap₂, _∙_}
 use mathlib.Core.List.{List}
-use Prim.Native.Nat.{ℕ, _+_, _-_, _*_, _≤_, _<_}
+use Prim.Native.Nat.{ℕ, _+_, _-_}
 use native.Mathlib.Nat.{le-refl, le-trans}
 use native.Mathlib.Omega.{arith}
 use borrow.Author.Needs.{needs}
@@ -17,7 +17,7 @@ use Rattle.raster.proofs.Elements.{element, pair-limits}
 use Rattle.raster.proofs.Steps.{step-most}
 use Rattle.raster.specs.Limits.{Within}
 use Rattle.raster.proofs.Fill.{Filling, filling-none, filling-more, filling-all, filling-rest}
-use Rattle.rounds.specs.Ahead.{aheadOf, aheadAt, AdvanceLimits}
+use Rattle.rounds.specs.Ahead.{aheadOf, aheadAt}
 use Rattle.rounds.proofs.quick.advance_pairs.Statement.{statement}
 use Rattle.rounds.proofs.quick.advance_pairs.Tie as tie
 

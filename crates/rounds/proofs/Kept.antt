@@ -1,0 +1,64 @@
+-- What quick rounds keep: a number for each pair in P and in R, P within the weight and R within three times the weight.
+-- Assumes nothing.
+use mathlib.Core.Path.{_≡_, subst}
+use mathlib.Core.List.{List}
+use Prim.Native.Nat.{ℕ, zero, suc, _*_, zero-le}
+use lib.IntN.{ℤ, pos}
+use lib.ListN.{length, replicate, length-replicate}
+use Rattle.model.specs.declared.Terms.{Terms}
+use Rattle.model.specs.Lists.{at}
+use Rattle.model.specs.Problem.{Problem, pairCount}
+use Rattle.model.specs.Grid.{grid}
+use Rattle.model.specs.Rounds.{eighth, stepped, step, nextMomentum, Quick, quickStart, quickRound, quickRounds}
+use Rattle.model.proofs.Lists.{length-table, table-constant}
+use Rattle.model.proofs.Root.{momentum-least}
+use Rattle.raster.specs.Limits.{Within}
+use Rattle.raster.proofs.Elements.{within-table}
+use Rattle.rounds.proofs.Bounds.{extrapolate-bound, momentum-low}
+use Rattle.rounds.proofs.Model.{step-within}
+
+module _ (share : ℤ → ℤ) (p : Problem) where
+  pub step-size : (flow : List ℤ) → length (step share p flow) ≡ pairCount p
+  unfolding step
+  step-size flow = length-table (pairCount p) (stepped share p (at flow))
+
+  -- a round
+  module _ (s : Quick) where
+    pub round-iterate : length (quickRound share p s .iterate) ≡ pairCount p
+    unfolding quickRound
+    round-iterate = step-size (s .extrapolated)
+
+    pub round-ahead : length (quickRound share p s .extrapolated) ≡ pairCount p
+    unfolding quickRound
+    round-ahead = length-table (pairCount p) _
+
+  -- k rounds
+  pub iterate-size : (k : ℕ) → length (quickRounds share p k .iterate) ≡ pairCount p
+  unfolding quickRounds quickStart
+  iterate-size zero = length-replicate (pairCount p) (pos 0)
+  iterate-size (suc k) = round-iterate (quickRounds share p k)
+
+  pub ahead-size : (k : ℕ) → length (quickRounds share p k .extrapolated) ≡ pairCount p
+  unfolding quickRounds quickStart
+  ahead-size zero = length-replicate (pairCount p) (pos 0)
+  ahead-size (suc k) = round-ahead (quickRounds share p k)
+
+zeros-within : (n w : ℕ) → Within w (replicate n (pos 0))
+zeros-within n w = subst (Within w) (table-constant n (pos 0)) (within-table n (λ _. pos 0) (λ _ _. zero-le))
+
+module _ (t : Terms) (samples : List ℕ) where
+  pub iterate-within : (k : ℕ) → Within (t .weight) (quickRounds eighth (grid t samples) k .iterate)
+  unfolding quickRounds quickStart quickRound
+  iterate-within zero = zeros-within (pairCount (grid t samples)) (t .weight)
+  iterate-within (suc k) = step-within t samples (quickRounds eighth (grid t samples) k .extrapolated)
+
+  pub ahead-within : (k : ℕ) → Within (3 * t .weight) (quickRounds eighth (grid t samples) k .extrapolated)
+  unfolding quickRounds quickStart quickRound
+  ahead-within zero = zeros-within (pairCount (grid t samples)) (3 * t .weight)
+  ahead-within (suc k) =
+      let s : Quick = quickRounds eighth (grid t samples) k in
+      let low = momentum-low eighth (grid t samples) k in
+      within-table (pairCount (grid t samples)) _ (λ j _.
+      extrapolate-bound (s .momentum) (nextMomentum (s .momentum)) (t .weight) (at (s .iterate) j)
+      (at (step eighth (grid t samples) (s .extrapolated)) j) low (momentum-least (s .momentum) low) (iterate-within k j)
+      (step-within t samples (s .extrapolated) j))

@@ -1,0 +1,103 @@
+-- A quick round in buffers is the model's, on document 01's grid. Assumes nothing.
+use mathlib.Core.Path.{_≡_, sym, ap, _∙_, subst}
+use mathlib.Core.List.{List}
+use Prim.Native.Nat.{ℕ, _-_, _*_, _^_, _≤_, _<_}
+use native.Mathlib.Nat.{mul-le-mul, le-of-mul-le-mul-right}
+use native.Mathlib.Omega.{arith}
+use lib.IntN.{ℤ, pos, natAbs, _-ℤ_}
+use Rattle.integers.specs.Whole.{clamp}
+use Rattle.integers.proofs.Parts.{parts, whole, by-≤, of-≤}
+use Rattle.integers.proofs.Absolute.{bounds→natAbs, natAbs-difference}
+use Rattle.integers.proofs.Clamp.{Place, below, above, inside, clamp-place, natAbs-clamp}
+use Rattle.model.specs.declared.Terms.{Terms}
+use Rattle.model.specs.Lists.{at, table}
+use Rattle.model.specs.Problem.{pairCount, image}
+use Rattle.model.specs.Grid.{lowEnd, highEnd, grid}
+use Rattle.model.specs.Rounds.{eighth, stepped, step, nextMomentum, quickRound}
+use Rattle.model.specs.Calls.{imageOf}
+use Rattle.model.proofs.Lists.{getD-table}
+use Rattle.model.proofs.Root.{momentum-grows, momentum-least}
+use Rattle.raster.specs.Limits.{Within}
+use Rattle.raster.specs.Whole.{gridStep}
+use Rattle.raster.proofs.Elements.{within-table}
+use Rattle.raster.proofs.Fill.{table-cong}
+use Rattle.raster.proofs.Model.{step-is, stepped-is}
+use Rattle.rounds.specs.Reciprocal.{Reciprocal}
+use Rattle.rounds.specs.Ahead.{aheadOf, gridAhead}
+use Rattle.rounds.specs.Ready.{held}
+use Rattle.rounds.proofs.Bounds.{extrapolate-is}
+
+-- between two ends of 0 .. k
+clamp-most : {a b k : ℕ} (z : ℤ) → a ≤ k → b ≤ k → natAbs (clamp (pos a) (pos b) z) ≤ k
+clamp-most {a} {b} {k} z l u = by (clamp-place (pos a) (pos b) z)
+  where
+    by : {v : ℤ} → Place (pos a) (pos b) z v → natAbs v ≤ k
+    by (below h e) = subst (λ (v : ℤ). natAbs v ≤ k) (sym e) l
+    by (above h i e) = subst (λ (v : ℤ). natAbs v ≤ k) (sym e) u
+    by (inside h i e) =
+        subst (λ (v : ℤ). natAbs v ≤ k) (sym e)
+        (bounds→natAbs z
+        (by-≤ (search parts depth 12) (omega (whole, of-≤ h (search parts depth 12))))
+        (by-≤ (search parts depth 12) (omega (whole, of-≤ i (search parts depth 12)))))
+
+-- the next T of an allowed one
+pub next-range : (momentum : ℕ) → 65536 ≤ momentum → momentum < 2 ^ 29 - 65536 →
+    (0 < nextMomentum momentum) × (momentum - 65536 ≤ nextMomentum momentum) × (nextMomentum momentum < 2 ^ 29)
+next-range momentum h l =
+    let a = momentum-least momentum h in
+    let b = momentum-grows momentum in
+    (omega arith, omega arith, omega arith)
+
+-- the factor of a round is at most 1
+pub factor-most : (momentum m : ℕ) → 65536 ≤ momentum → momentum < 2 ^ 29 - 65536 →
+    Reciprocal (momentum - 65536) (nextMomentum momentum) m → m ≤ 2 ^ 46
+factor-most momentum m h l r =
+    let a = momentum-least momentum h in
+    let b = next-range momentum h l in
+    le-of-mul-le-mul-right {k = nextMomentum momentum} (omega (arith, r .near, b .2)) (b .0)
+
+module _ (t : Terms) (samples : List ℕ) where
+  -- a flow's image is within the limits of a pass, and a step within the weight
+  pub image-most : t .low < 256 → t .high < 256 → (flow : List ℤ) → Within (2 ^ 20) (imageOf t samples flow)
+  unfolding imageOf image lowEnd highEnd
+  image-most l u flow =
+      within-table (t .width * t .height) (image (grid t samples) (at flow)) (λ i _. clamp-most _ (omega arith) (omega arith))
+
+  pub step-within : (flow : List ℤ) → Within (t .weight) (step eighth (grid t samples) flow)
+  unfolding step stepped
+  step-within flow =
+      within-table (pairCount (grid t samples)) (stepped eighth (grid t samples) (at flow)) (λ j _. natAbs-clamp (t .weight) _)
+
+  module _ (flow ahead : List ℤ) (momentum : ℕ) {values : List ℤ} (e : values ≡ imageOf t samples ahead) where
+    pub iterate-is : table (pairCount (grid t samples)) (gridStep (t .width) (t .height) (pos (t .weight)) ahead values)
+        ≡ quickRound eighth (grid t samples) (held flow ahead momentum) .iterate
+    unfolding quickRound
+    iterate-is = stepped-is t samples ahead e
+
+    now-is : (j : ℕ) → j < pairCount (grid t samples) →
+        gridStep (t .width) (t .height) (pos (t .weight)) ahead values j ≡ at (step eighth (grid t samples) ahead) j
+    unfolding step
+    now-is j l =
+        step-is t samples ahead e j l
+        ∙ sym (getD-table (pairCount (grid t samples)) (stepped eighth (grid t samples) (at ahead)) j (pos 0) l)
+
+    module _ (m : ℕ) (weight-most : t .weight ≤ 65280) (flow-most : Within 65280 flow) (least : 65536 ≤ momentum)
+        (most : momentum < 2 ^ 29 - 65536) (r : Reciprocal (momentum - 65536) (nextMomentum momentum) m)
+      where
+        small : (j : ℕ) → natAbs (at (step eighth (grid t samples) ahead) j -ℤ at flow j) * nextMomentum momentum < 70368744177664
+        small j =
+            let now : ℤ = at (step eighth (grid t samples) ahead) j in
+            let d : natAbs (now -ℤ at flow j) ≤ 130560 =
+            omega (arith, natAbs-difference now (at flow j), step-within ahead j, flow-most j)
+            in
+            let n : nextMomentum momentum ≤ 2 ^ 29 = omega (arith, next-range momentum least most .2) in
+            omega (arith, mul-le-mul d n)
+
+        pub ahead-is : table (pairCount (grid t samples)) (gridAhead (t .width) (t .height) (pos (t .weight)) m flow ahead values)
+            ≡ quickRound eighth (grid t samples) (held flow ahead momentum) .extrapolated
+        unfolding quickRound
+        ahead-is =
+            table-cong (pairCount (grid t samples)) (λ j l.
+            ap (aheadOf m (at flow j)) (now-is j l)
+            ∙ extrapolate-is momentum (nextMomentum momentum) m (at flow j) (at (step eighth (grid t samples) ahead) j) least
+            (next-range momentum least most .0) r (small j))

@@ -1,0 +1,66 @@
+-- What the passes of a round ask and leave: the image of a flow, then all pairs. Assumes nothing.
+use mathlib.Core.Path.{_≡_, ap, ap₂, _∙_, sym, subst}
+use mathlib.Core.List.{List}
+use Prim.Native.Nat.{ℕ, _*_, _^_, _<_}
+use native.Mathlib.Omega.{arith}
+use lib.IntN.{ℤ, pos}
+use lib.ListN.{length}
+use Rattle.model.specs.declared.Terms.{Terms}
+use Rattle.model.specs.Lists.{at, table}
+use Rattle.model.specs.Problem.{image}
+use Rattle.model.specs.Grid.{lowEnd, highEnd, gridPairs, grid}
+use Rattle.model.specs.Calls.{imageOf}
+use Rattle.model.proofs.Lists.{length-table}
+use Rattle.model.proofs.Pairs.{grid-count}
+use Rattle.raster.specs.Limits.{Within, ImageLimits}
+use Rattle.raster.specs.Rows.{imageValue}
+use Rattle.raster.specs.Whole.{GridLimits}
+use Rattle.raster.proofs.Model.{image-is}
+use Rattle.rounds.specs.Ready.{JobLimits}
+use Rattle.rounds.proofs.Model.{image-most}
+
+-- an image has a value for each pixel
+pub image-size : (t : Terms) (samples : List ℕ) (flow : List ℤ) {values : List ℤ} → values ≡ imageOf t samples flow → length values ≡ t .width * t .height
+unfolding imageOf
+image-size t samples flow e = ap length e ∙ length-table (t .width * t .height) (image (grid t samples) (at flow))
+
+module _ (t : Terms) (samples : List ℕ) {flow values : List ℤ} (limits : JobLimits t)
+    (flow-length : length flow ≡ length (gridPairs (t .width) (t .height))) (flow-most : Within (2 ^ 20) flow)
+  where
+    pub fill-limits : length samples ≡ t .width * t .height → length values ≡ t .width * t .height →
+        ImageLimits values samples flow (t .width) (t .height)
+    fill-limits s v =
+        record {
+          width-least = limits .width-least;
+          height-least = limits .height-least;
+          image-count = v;
+          sample-count = s;
+          flow-count = flow-length ∙ grid-count (t .width) (t .height);
+          flow-most = flow-most;
+        }
+
+    pub grid-limits : t .low < 256 → t .high < 256 → values ≡ imageOf t samples flow →
+        GridLimits (t .width) (t .height) (pos (t .weight)) flow values
+    grid-limits l u e =
+        record {
+          size =
+              record {
+                width-least = limits .width-least;
+                height-least = limits .height-least;
+                pixels-most = limits .pixels-most;
+                flow-length = flow-length;
+                image-length = image-size t samples flow e;
+              };
+          weight-most = omega (arith, limits .weight-most);
+          flow-most = flow-most;
+          image-most = subst (Within (2 ^ 20)) (sym e) (image-most t samples l u flow);
+        }
+
+-- the image, by the ends of the box that the pass was given
+pub filled-is : (t : Terms) (samples : List ℕ) (flow : List ℤ) {values : List ℤ} {low high : ℤ} →
+    values ≡ table (t .width * t .height) (imageValue low high samples flow (t .width) (t .height)) →
+    low ≡ lowEnd (t .low) → high ≡ highEnd (t .high) → values ≡ imageOf t samples flow
+filled-is t samples flow e l u =
+    e
+    ∙ ap₂ (λ (a b : ℤ). table (t .width * t .height) (imageValue a b samples flow (t .width) (t .height))) l u
+    ∙ image-is t samples flow

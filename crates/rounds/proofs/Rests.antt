@@ -1,0 +1,125 @@
+-- Steady rounds in buffers, one after another. Assumes nothing.
+use mathlib.Core.Path.{_≡_, refl, sym, ap, _∙_, subst}
+use mathlib.Core.Bool.{Bool, true, false, not}
+use mathlib.Core.List.{List}
+use Prim.Native.Nat.{ℕ, zero, suc, _+_, _-_, _≤_, _<_, zero-le}
+use native.Mathlib.Omega.{arith}
+use lib.Dec.{ltb}
+use lib.IntN.{ℤ}
+use lib.ListN.{length}
+use Rattle.model.specs.declared.Terms.{Terms}
+use Rattle.model.specs.Lists.{at}
+use Rattle.model.specs.Problem.{Problem, pairCount}
+use Rattle.model.specs.Grid.{grid}
+use Rattle.model.specs.Rounds.{eighth, step, firstMoving, Steady, oneMore, steadyRounds}
+use Rattle.model.specs.Calls.{imageOf}
+use Rattle.raster.specs.Limits.{Within}
+use Rattle.rounds.specs.Ready.{SteadyReady}
+use Rattle.rounds.proofs.Kept.{step-size}
+use Rattle.rounds.proofs.Model.{step-within}
+
+-- whether some pair would move
+abbrev pub someMoves : Problem → List ℤ → Bool
+someMoves p flow = ltb (firstMoving eighth p (at flow)) (pairCount p)
+
+-- an end with no round
+abbrev pub ended : List ℤ → Bool → Steady
+ended flow moving = record { flow = flow; moved = 0; settled = not moving }
+
+-- k rounds before those of s
+abbrev pub later : ℕ → Steady → Steady
+later k s = record { flow = s .flow; moved = k + s .moved; settled = s .settled }
+
+later-none : (s : Steady) → s ≡ later 0 s
+later-none s =
+    let e : s .moved ≡ 0 + s .moved = omega arith in ap (λ (n : ℕ). record { flow = s .flow; moved = n; settled = s .settled }) e
+
+later-more : (k : ℕ) (s : Steady) → later k (oneMore s) ≡ later (k + 1) s
+later-more k s =
+    let e : k + suc (s .moved) ≡ k + 1 + s .moved = omega arith in
+    ap (λ (n : ℕ). record { flow = s .flow; moved = n; settled = s .settled }) e
+
+module _ (p : Problem) (flow : List ℤ) where
+  -- with another round allowed, by whether some pair would move
+  abbrev next : ℕ → Bool → Steady
+  next n moving =
+      elim moving as (λ _. Steady) [
+        | true ↦ oneMore (steadyRounds eighth p n (step eighth p flow))
+        | false ↦ record { flow = flow; moved = 0; settled = true }
+      ]
+
+  -- no pair would move, or no round is allowed
+  pub rests : (n : ℕ) → someMoves p flow ≡ false → steadyRounds eighth p n flow ≡ ended flow false
+  unfolding steadyRounds
+  rests zero e = rw e
+  rests (suc n) e = ap (next n) e
+
+  pub spent : steadyRounds eighth p 0 flow ≡ ended flow (someMoves p flow)
+  unfolding steadyRounds
+  spent = refl
+
+  -- a round
+  pub goes-on : (n : ℕ) → someMoves p flow ≡ true → steadyRounds eighth p (suc n) flow ≡ oneMore (steadyRounds eighth p n (step eighth p flow))
+  unfolding steadyRounds
+  goes-on n e = ap (next n) e
+
+-- after k rounds: the flow with its image, and what the rounds to come, of those allowed, make of it
+pub record Rested (t : Terms) (allowance : ℕ) (samples : List ℕ) (flow₀ : List ℤ) (k : ℕ) (flow image : List ℤ) (moving : Bool) : Type 0 where
+  pub round-most : k ≤ allowance
+  pub flow-length : length flow ≡ pairCount (grid t samples)
+  pub flow-most : Within (t .weight) flow
+  pub image-is : image ≡ imageOf t samples flow
+  pub moving-is : moving ≡ someMoves (grid t samples) flow
+  pub rest-is : steadyRounds eighth (grid t samples) allowance flow₀ ≡ later k (steadyRounds eighth (grid t samples) (allowance - k) flow)
+
+-- before the first round
+pub rested-none : {t : Terms} (allowance : ℕ) {samples : List ℕ} {flow image₀ image : List ℤ} {moving : Bool} → SteadyReady t samples flow image₀ →
+    image ≡ imageOf t samples flow → moving ≡ someMoves (grid t samples) flow → Rested t allowance samples flow 0 flow image moving
+rested-none {t} allowance {samples} {flow} r e m =
+    record {
+      round-most = zero-le;
+      flow-length = r .lengths .flow-length;
+      flow-most = r .flow-most;
+      image-is = e;
+      moving-is = m;
+      rest-is =
+          let n : allowance ≡ allowance - 0 = omega arith in
+          later-none _ ∙ ap (λ (a : ℕ). later 0 (steadyRounds eighth (grid t samples) a flow)) n;
+    }
+
+module _ {t : Terms} {allowance : ℕ} {samples : List ℕ} {flow₀ : List ℤ} {k : ℕ} {flow image : List ℤ} {moving : Bool}
+    (r : Rested t allowance samples flow₀ k flow image moving)
+  where
+    -- a round
+    pub rested-more : {flow₁ image₁ : List ℤ} {moving₁ : Bool} → moving ≡ true → k < allowance → flow₁ ≡ step eighth (grid t samples) flow →
+        image₁ ≡ imageOf t samples flow₁ → moving₁ ≡ someMoves (grid t samples) flow₁ →
+        Rested t allowance samples flow₀ (k + 1) flow₁ image₁ moving₁
+    rested-more {flow₁} g l s e m =
+        record {
+          round-most = omega arith;
+          flow-length = ap length s ∙ step-size eighth (grid t samples) flow;
+          flow-most = subst (Within (t .weight)) (sym s) (step-within t samples flow);
+          image-is = e;
+          moving-is = m;
+          rest-is =
+              let p : Problem = grid t samples in
+              let n : allowance - k ≡ suc (allowance - (k + 1)) = omega arith in
+              r .rest-is
+              ∙ ap (λ (a : ℕ). later k (steadyRounds eighth p a flow)) n
+              ∙ ap (later k) (goes-on p flow (allowance - (k + 1)) (sym (r .moving-is) ∙ g))
+              ∙ later-more k _
+              ∙ ap (λ (f : List ℤ). later (k + 1) (steadyRounds eighth p (allowance - (k + 1)) f)) (sym s);
+        }
+
+    -- the end
+    pub rested-end : (moving ≡ true → allowance ≤ k) → steadyRounds eighth (grid t samples) allowance flow₀ ≡ later k (ended flow moving)
+    rested-end h = r .rest-is ∙ ap (later k) (by moving (r .moving-is) h)
+      where
+        by : (b : Bool) → b ≡ someMoves (grid t samples) flow → (b ≡ true → allowance ≤ k) →
+            steadyRounds eighth (grid t samples) (allowance - k) flow ≡ ended flow b
+        by true e h =
+            let n : allowance - k ≡ 0 = omega (arith, h refl) in
+            ap (λ (a : ℕ). steadyRounds eighth (grid t samples) a flow) n
+            ∙ spent (grid t samples) flow
+            ∙ ap (ended flow) (sym e)
+        by false e h = rests (grid t samples) flow (allowance - k) (sym e)

@@ -1,0 +1,133 @@
+-- `rounds::quick::advance` meets its contract: the image of the numbers ahead, then all pairs. Assumes nothing.
+use mathlib.Core.Path.{_≡_, sym, _∙_}
+use Prim.Native.Nat.{_-_}
+use native.Mathlib.Omega.{arith}
+use borrow.Author.Needs.{needs}
+use lib.ListN.{length}
+use mir.Syntax.{w32}
+use Rattle.integers.proofs.Machine.{read}
+use Rattle.model.specs.Grid.{gridPairs}
+use Rattle.model.specs.Rounds.{nextMomentum, quickRound}
+use Rattle.model.specs.Calls.{imageOf}
+use Rattle.rounds.specs.Reciprocal.{Reciprocal}
+use Rattle.rounds.proofs.Model.{next-range, factor-most, iterate-is, ahead-is}
+use Rattle.rounds.proofs.Passes.{fill-limits, grid-limits, filled-is}
+use Rattle.rounds.proofs.quick.advance.Statement.{statement}
+use Rattle.rounds.proofs.quick.advance.Tie as tie
+
+cast-w : tie.Need-cast-w
+cast-w c = search needs
+
+cast-h : tie.Need-cast-h
+cast-h c = search needs
+
+low-end-requires : tie.Need-low-end-requires
+low-end-requires c κs = search needs
+
+high-end-requires : tie.Need-high-end-requires
+high-end-requires c κs = search needs
+
+-- a number ahead for each pair
+ahead-length : (s : tie.Start) → length (s .args .ahead .now) ≡ length (gridPairs (s .args .t .width) (s .args .t .height))
+ahead-length s = sym (s .pre .same-length) ∙ s .pre .lengths .flow-length
+
+fill-image-requires : tie.Need-fill-image-requires
+fill-image-requires c κs =
+    let s = c .before .before .before .before .before .before .before in
+    fill-limits (s .args .t) (s .args .samples .now) (s .pre .limits) (ahead-length s) (s .pre .ahead-most) (s .pre .lengths .samples-length) (s .pre .lengths .image-length)
+
+-- the image of the numbers ahead
+image-filled : (c : tie.After-fill-image) → let s = c .before .before .before .before .before .before .before .before in
+    c .fill-image .last .0 ≡ imageOf (s .args .t) (s .args .samples .now) (s .args .ahead .now)
+image-filled c =
+    let s = c .before .before .before .before .before .before .before .before in
+    let l = c .before .before .low-end in
+    let h = c .before .high-end in
+    filled-is (s .args .t) (s .args .samples .now) (s .args .ahead .now) (c .fill-image .ensures) (read w32 (l .ok) ∙ l .ensures) (read w32 (h .ok) ∙ h .ensures)
+
+next-momentum-requires : tie.Need-next-momentum-requires
+next-momentum-requires c κs = search needs
+
+sub-reciprocal : tie.Need-sub-reciprocal
+sub-reciprocal c = search needs
+
+reciprocal-requires : tie.Need-reciprocal-requires
+reciprocal-requires c κs =
+    let p = c .before .before .before .before .before .before .before .before .before .before .pre in
+    rw (c .next-momentum .ensures) (next-range _ (p .momentum-least) (p .momentum-most))
+
+natural-requires : tie.Need-natural-requires
+natural-requires c κs = search needs
+
+-- the factor, by the model's next T
+by-next : (c : tie.After-natural) →
+    let r = c .before .before .before .before in
+    let T = r .before .before .before .before .before .before .before .before .before .before .before .args .momentum in
+    Reciprocal (T - 65536) (nextMomentum T) (r .reciprocal .result)
+by-next c =
+    let r = c .before .before .before .before in
+    rw (← r .before .next-momentum .ensures) (r .reciprocal .ensures)
+
+advance-grid-requires : tie.Need-advance-grid-requires
+advance-grid-requires c κs =
+    let f = c .before .before .before .before .before .before .before in
+    let s = f .before .before .before .before .before .before .before .before in
+    let p = s .pre in
+    let k = f .before .before .before .before .before .before .struct-known .given in
+    rw (read w32 (c .natural .ok), c .natural .ensures)
+    (record {
+      grid =
+          grid-limits (s .args .t) (s .args .samples .now) (p .limits) (ahead-length s) (p .ahead-most) (k .1 .1 .1 .0 .fits)
+          (k .1 .1 .1 .1 .0 .fits) (image-filled f);
+      same-length = p .same-length;
+      weight-most = p .limits .weight-most;
+      flow-most = p .flow-most;
+      factor-most = factor-most _ _ (p .momentum-least) (p .momentum-most) (by-next c);
+    })
+
+same-length : tie.Need-same-length
+same-length c = search needs
+
+same-length-2 : tie.Need-same-length-2
+same-length-2 c = search needs
+
+same-length-3 : tie.Need-same-length-3
+same-length-3 c = search needs
+
+returns : tie.Need-returns
+returns c =
+    let g = c .before .before in
+    let n = g .before in
+    let f = n .before .before .before .before .before .before .before in
+    let s = f .before .before .before .before .before .before .before .before in
+    let p = s .pre in
+    let a = s .args in
+    let e = image-filled f in (
+      rw (read w32 (n .natural .ok), n .natural .ensures, p .lengths .flow-length) at (g .advance-grid .ensures .0)
+          ∙ iterate-is (a .t) (a .samples .now) (a .flow .now) (a .ahead .now) (a .momentum) e,
+      (
+        rw (read w32 (n .natural .ok), n .natural .ensures, p .lengths .flow-length) at (g .advance-grid .ensures .1)
+            ∙ ahead-is (a .t) (a .samples .now) (a .flow .now) (a .ahead .now) (a .momentum) e _ (p .limits .weight-most) (p .flow-most)
+            (p .momentum-least) (p .momentum-most) (by-next n),
+        unfold quickRound in n .before .before .before .before .before .next-momentum .ensures,
+      ),
+    )
+
+pub advance-spec : {M : Type 1} → statement M
+advance-spec =
+    tie.close
+    (tie.spec
+    cast-w
+    cast-h
+    low-end-requires
+    high-end-requires
+    fill-image-requires
+    next-momentum-requires
+    sub-reciprocal
+    reciprocal-requires
+    natural-requires
+    advance-grid-requires
+    same-length
+    same-length-2
+    same-length-3
+    returns)

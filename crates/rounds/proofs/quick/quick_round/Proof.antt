@@ -1,0 +1,88 @@
+-- `rounds::quick::quick_round` meets its contract: the earlier flow is copied, then the second half lent. Assumes nothing.
+use mathlib.Core.Path.{sym, ap, ap₂, _∙_, subst}
+use mathlib.Core.List.{List, _++_}
+use Prim.Native.Nat.{_+_, _≤_}
+use native.Mathlib.Omega.{arith}
+use borrow.Author.Needs.{needs}
+use lib.IntN.{ℤ}
+use lib.ListN.{length}
+use lib.Seq.{length-take-le}
+use Rattle.rounds.specs.Ready.{QuickReady}
+use Rattle.rounds.proofs.Halves.{second-half, second-back}
+use Rattle.rounds.proofs.quick.quick_round.Statement.{statement}
+use Rattle.rounds.proofs.quick.quick_round.Tie as tie
+
+-- the first half is within the buffer
+shorter : (c : tie.Start) → length (c .args .flow .now) ≤ length (c .args .work .now)
+shorter c = omega (arith, c .pre .0)
+
+slice-relend-prefix-copy : tie.Need-slice-relend-prefix-copy
+slice-relend-prefix-copy c = search needs
+
+slice-aggregate-copy : tie.Need-slice-aggregate-copy
+slice-aggregate-copy c = sym (length-take-le _ _ (shorter (c .before .before)))
+
+copy-requires : tie.Need-copy-requires
+copy-requires c κs = length-take-le _ _ (shorter (c .before .before .before))
+
+mul-advance : tie.Need-mul-advance
+mul-advance c = search needs
+
+sub-advance : tie.Need-sub-advance
+sub-advance c = search needs
+
+part-advance-start : tie.Need-part-advance-start
+part-advance-start c = search needs
+
+part-advance-end : tie.Need-part-advance-end
+part-advance-end c = search needs
+
+advance-requires : tie.Need-advance-requires
+advance-requires c κs =
+    let k = c .before .before .before .before in
+    let s = k .before .before .before .before in
+    subst
+    (λ (ahead : List ℤ). QuickReady (s .args .t) (s .args .samples .now) (s .args .flow .now) ahead (s .args .image .now) (s .args .momentum))
+    (sym (second-half (k .copy .last .0) (s .args .work .now) (ap length (k .copy .ensures))))
+    (s .pre .1)
+
+same-length : tie.Need-same-length
+same-length c = search needs
+
+same-length-2 : tie.Need-same-length-2
+same-length-2 c = search needs
+
+same-length-3 : tie.Need-same-length-3
+same-length-3 c = search needs
+
+returns : tie.Need-returns
+returns c =
+    let a = c .before .before .before in
+    let k = a .before .before .before .before .before in
+    let s = k .before .before .before .before in
+    let size = ap length (k .copy .ensures) in
+    let half = second-half (k .copy .last .0) (s .args .work .now) size in (
+      rw half at (a .advance .ensures .0),
+      (
+        second-back (k .copy .last .0) (s .args .work .now) size _
+            ∙ ap₂ (λ (l r : List ℤ). l ++ r) (k .copy .ensures) (rw half at (a .advance .ensures .1 .0)),
+        rw half at (a .advance .ensures .1 .1),
+      ),
+    )
+
+pub quick-round-spec : {M : Type 1} → statement M
+quick-round-spec =
+    tie.close
+    (tie.spec
+    slice-relend-prefix-copy
+    slice-aggregate-copy
+    copy-requires
+    mul-advance
+    sub-advance
+    part-advance-start
+    part-advance-end
+    advance-requires
+    same-length
+    same-length-2
+    same-length-3
+    returns)

@@ -1,0 +1,86 @@
+-- `rounds::quick::quick_rounds` meets its contract. Assumes nothing.
+use mathlib.Core.Path.{_≡_, sym, ap, _∙_}
+use Prim.Native.Nat.{ℕ, _-_, _*_}
+use native.Mathlib.Omega.{arith}
+use borrow.Author.Needs.{needs}
+use Rattle.rounds.proofs.Turns.{Turned, turned-none, turned-ready, turned-more, turned-length}
+use Rattle.rounds.proofs.quick.quick_rounds.Statement.{statement}
+use Rattle.rounds.proofs.quick.quick_rounds.Tie as tie
+
+abbrev Inv-loop : tie.InvT-loop
+Inv-loop t quick samples flow₀ image₀ work₀ momentum₀ k₀ flow image work momentum k = Turned t quick samples k flow image work momentum
+
+abbrev μ-loop : tie.MeasureT-loop
+μ-loop t quick samples flow₀ image₀ work₀ momentum₀ k₀ flow image work momentum k = quick - k
+
+clear-requires : tie.Need-clear-requires Inv-loop μ-loop
+clear-requires c κs = search needs
+
+clear-requires-2 : tie.Need-clear-requires-2 Inv-loop μ-loop
+clear-requires-2 c κs = search needs
+
+loop-holds : tie.Need-loop-holds Inv-loop μ-loop
+loop-holds c =
+    let s = c .before .before .before .before .before .before .before in
+    turned-none (s .pre) (c .before .before .before .before .clear .ensures) (c .before .clear2 .ensures)
+
+quick-round-requires : tie.Need-quick-round-requires Inv-loop μ-loop
+quick-round-requires c κs =
+    let i = c .before .before .before .before in
+    let s = i .before .before .before .before .before .before .before .before in
+    (i .loop .inv .work-length, turned-ready (i .loop .inv) (s .pre) (omega arith))
+
+add-k : tie.Need-add-k Inv-loop μ-loop
+add-k c = search needs
+
+loop-less : tie.Need-loop-less Inv-loop μ-loop
+loop-less c = search needs
+
+loop-again : tie.Need-loop-again Inv-loop μ-loop
+loop-again c =
+    let q = c .before .before .before in
+    let i = q .before .before .before .before .before in
+    turned-more (i .loop .inv) (omega arith) (c .before .image .given) (q .quick-round .ensures .0) (q .quick-round .ensures .1 .0) (q .quick-round .ensures .1 .1)
+
+same-length : tie.Need-same-length Inv-loop μ-loop
+same-length c =
+    let i = c .before in
+    let s = i .before .before .before .before .before .before .before .before in
+    turned-length (i .loop .inv) ∙ sym (s .pre .lengths .flow-length)
+
+same-length-2 : tie.Need-same-length-2 Inv-loop μ-loop
+same-length-2 c =
+    let i = c .before in
+    let s = i .before .before .before .before .before .before .before .before in
+    i .loop .inv .image-length ∙ sym (s .pre .lengths .image-length)
+
+same-length-3 : tie.Need-same-length-3 Inv-loop μ-loop
+same-length-3 c =
+    let i = c .before in
+    let s = i .before .before .before .before .before .before .before .before in
+    i .loop .inv .work-length ∙ ap (λ (n : ℕ). 2 * n) (same-length c) ∙ sym (s .pre .work-length)
+
+returns : tie.Need-returns Inv-loop μ-loop
+returns c =
+    let i = c .before in
+    let s = i .before .before .before .before .before .before .before .before in
+    let k : i .loop .k ≡ s .args .quick = omega (arith, i .loop .inv .round-most) in
+    rw k at (i .loop .inv .flow-is)
+
+pub quick-rounds-spec : {M : Type 1} → statement M
+quick-rounds-spec =
+    tie.close
+    (tie.spec
+    Inv-loop
+    μ-loop
+    clear-requires
+    clear-requires-2
+    loop-holds
+    quick-round-requires
+    add-k
+    loop-less
+    loop-again
+    same-length
+    same-length-2
+    same-length-3
+    returns)

@@ -1,0 +1,77 @@
+// Steady rounds: a step on the flow while some pair would move and the allowance lasts.
+
+use integers::signed;
+use model::Terms;
+use raster::grid;
+use raster::image::fill_image;
+use raster::leaf;
+use raster::pairs::Moving;
+ghost use mathlib.Core.Path.{_≡_};
+ghost use lib.Dec.{ltb};
+ghost use Rattle.model.specs.Lists.{at};
+ghost use Rattle.model.specs.Problem.{pairCount};
+ghost use Rattle.model.specs.Grid.{grid as theGrid};
+ghost use Rattle.model.specs.Rounds.{eighth, firstMoving, steadyRounds};
+ghost use Rattle.model.specs.Calls.{imageOf};
+ghost use Rattle.rounds.specs.Ready.{SteadyReady};
+
+// How steady rounds end: how many there were, and whether no pair would move.
+pub struct Steady {
+    pub moved: u32,
+    pub settled: bool,
+}
+
+// The test before a round, on the image of the flow: whether some pair would move.
+fn some_moves(t: Terms, samples: &[u8], flow: &[i32], image: &mut [i32]) -> bool
+    requires { ⌜ SteadyReady t (now samples) (now flow) (now image) ⌝ }
+    ensures { λ _. ⌜ now (image .exit) ≡ imageOf t (now (samples .entry)) (now (flow .entry)) ⌝ }
+    ensures { λ r. ⌜ r ≡ ltb (firstMoving eighth (theGrid t (now (samples .entry))) (at (now (flow .entry)))) (pairCount (theGrid t (now (samples .entry)))) ⌝ }
+{
+    let w = t.width as usize;
+    let h = t.height as usize;
+    fill_image(
+        image,
+        samples,
+        flow,
+        w,
+        h,
+        leaf::low_end(t.low),
+        leaf::high_end(t.high),
+    );
+    let first = grid::first_moving_grid(flow, image, w, h, signed::natural(t.weight));
+    match first {
+        Moving::At(_) => true,
+        Moving::Nothing => false,
+    }
+}
+
+// Steady rounds on the flow, and the image of the flow that they leave.
+pub fn steady_rounds(
+    t: Terms,
+    allowance: u16,
+    samples: &[u8],
+    flow: &mut [i32],
+    image: &mut [i32],
+) -> Steady
+    requires { ⌜ SteadyReady t (now samples) (now flow) (now image) ⌝ }
+    ensures { λ _. ⌜ now (flow .exit) ≡ steadyRounds eighth (theGrid t (now (samples .entry))) allowance (now (flow .entry)) .flow ⌝ }
+    ensures { λ _. ⌜ now (image .exit) ≡ imageOf t (now (samples .entry)) (now (flow .exit)) ⌝ }
+    ensures { λ r. ⌜ r .moved ≡ steadyRounds eighth (theGrid t (now (samples .entry))) allowance (now (flow .entry)) .moved ⌝ }
+    ensures { λ r. ⌜ r .settled ≡ steadyRounds eighth (theGrid t (now (samples .entry))) allowance (now (flow .entry)) .settled ⌝ }
+{
+    let w = t.width as usize;
+    let h = t.height as usize;
+    let weight = signed::natural(t.weight);
+    let most = allowance as u32;
+    let mut moved: u32 = 0;
+    let mut moving = some_moves(t, samples, flow, image);
+    while moving && moved < most {
+        grid::step_grid(flow, image, w, h, weight);
+        moved += 1;
+        moving = some_moves(t, samples, flow, image);
+    }
+    Steady {
+        moved: moved,
+        settled: !moving,
+    }
+}
