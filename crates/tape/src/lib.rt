@@ -1,0 +1,4 @@
+// The job tape: reading a job from bytes and writing one.
+pub mod bytes;
+pub mod record;
+pub mod tally;
