@@ -6,11 +6,17 @@ use Prim.Native.Nat.{ℕ, _+_, _≤_, _<_}
 use lib.ListN.{length, getD}
 use borrow.Author.Tests.{le-leb, lt-leb}
 use Rattle.model.specs.declared.Verdict.{Verdict}
-use Rattle.model.specs.Verdict.{firstRefusal}
-use Rattle.model.specs.Tape.{known, bodyLength, recordRows}
+use Rattle.model.specs.declared.Entry.{Entry}
+use Rattle.model.specs.Verdict.{firstRefusal, decided}
+use Rattle.model.specs.Tape.{known, bodyLength, recordRows, entryRows}
 use Rattle.model.proofs.Refusals.{refused, passed}
 use Rattle.tape.specs.declared.record.Form.{Form}
+use Rattle.tape.specs.declared.record.Cursor.{Cursor}
+use Rattle.tape.specs.declared.tally.Tally.{Tally}
+use Rattle.tape.specs.declared.step.Lent.{Lent}
+use Rattle.tape.specs.declared.step.Step.{Step}
 use Rattle.tape.specs.Record.{formOf, bodyRows}
+use Rattle.tape.specs.Step.{moved, settled}
 
 -- what a form says of its kind
 pub form-unknown : (kind : ℕ) (ok : Bool) → formOf kind ok ≡ Form.Unknown → known kind ≡ false
@@ -45,3 +51,8 @@ module _ (tape : List ℕ) (o : ℕ) (may : ℕ → Bool) where
         ≡ firstRefusal (bodyRows (length tape) o (getD tape o 0) (bodyLength (getD tape o 0)) (may (getD tape o 0)))
     unfolding recordRows
     known-kind k = passed _ _ (lt-leb (length tape) o h) ∙ passed _ _ (ap not k)
+
+-- what the verdict on a record's terms gives
+pub settles : (t : Tally) (e : Entry) (next : Cursor) (o : ℕ) (lent : Lent) {v : Verdict} →
+    firstRefusal (entryRows o (lent .samples) (lent .flow) e) ≡ v → decided v (moved t e next) Step.Refused ≡ settled t e next o lent
+settles t e next o lent h = ap (λ (v : Verdict). decided v (moved t e next) Step.Refused) (sym h)

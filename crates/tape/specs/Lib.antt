@@ -1,5 +1,9 @@
 -- What the contracts of the tape cite beside the model's definitions.
 --     Tally       what has been read so far, as the code counts it
 --     Record      one record at an offset: its numbers, or a refusal with its offset
+--     Step        one record taken into the tally
+--     Scan        a scan of the whole tape
 pub mod Tally
 pub mod Record
+pub mod Step
+pub mod Scan

@@ -1,4 +1,6 @@
 // The job tape: reading a job from bytes and writing one.
 pub mod bytes;
 pub mod record;
+pub mod scan;
+pub mod step;
 pub mod tally;
