@@ -72,7 +72,7 @@ module _ (tape : List ℕ) (lent : Lent) where
         go : {s : Step} {all : Reading} → Turn tape lent (r .fuel) o (r .progress) s all → s ≡ Step.Refused number place → Scanned.Refused number place ≡ scannedOf all
         go (Turn.refuse n q) h = cc
         go (Turn.done a z) h = cc
-        go (Turn.more a z) h = cc
+        go (Turn.more a v z) h = cc
 
     pub finished : Step.Done ≡ stepOf tape o t lent → Scanned.Whole t ≡ scannedOf wholeReading
     finished e = go (at-step e) refl
@@ -80,7 +80,7 @@ module _ (tape : List ℕ) (lent : Lent) where
         go : {s : Step} {all : Reading} → Turn tape lent (r .fuel) o (r .progress) s all → s ≡ Step.Done → Scanned.Whole t ≡ scannedOf all
         go (Turn.refuse n q) h = cc
         go (Turn.done a z) h = ap Scanned.Whole (r .counted)
-        go (Turn.more a z) h = cc
+        go (Turn.more a v z) h = cc
 
     reached : {u : Tally} → Passed tape o (allowed (r .progress)) → u ≡ tallyOf (absorbed (r .progress) (entryAt tape o)) →
         readFrom (r .fuel) tape (lent .samples) (lent .flow) (nextAt tape o) (absorbed (r .progress) (entryAt tape o)) ≡ wholeReading →
@@ -103,7 +103,7 @@ module _ (tape : List ℕ) (lent : Lent) where
         go : {s : Step} {all : Reading} → Turn tape lent (r .fuel) o (r .progress) s all → s ≡ Step.More u next → all ≡ wholeReading → Reached u (next .at) × (o < next .at)
         go (Turn.refuse n q) h w = let z : _≡_ {A = ℕ} 0 1 = cc in absurd (omega arith)
         go (Turn.done a z) h w = let z : _≡_ {A = ℕ} 0 1 = cc in absurd (omega arith)
-        go (Turn.more a z) h w =
+        go (Turn.more a v z) h w =
             let same-tally : u ≡ tallyOf (absorbed (r .progress) (entryAt tape o)) = cc in
             let same-place : nextAt tape o ≡ next .at = cc in
             (subst (Reached u) same-place (reached a same-tally w), subst (λ (i : ℕ). o < i) same-place (omega arith))

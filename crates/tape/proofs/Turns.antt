@@ -76,12 +76,17 @@ moved-kind t next (suc (suc (suc (suc zero)))) b h = refl
 moved-kind t next (suc (suc (suc (suc (suc zero))))) b h = refl
 moved-kind t next (suc (suc (suc (suc (suc (suc k)))))) b h = absurd (omega (arith, ltb-true (suc (suc (suc (suc (suc (suc k)))))) 6 h))
 
+-- the verdict on the terms of the record at offset o
+abbrev pub termsVerdict : List ℕ → Lent → ℕ → Verdict
+termsVerdict tape lent o = firstRefusal (entryRows o (lent .samples) (lent .flow) (entryAt tape o))
+
 module _ (tape : List ℕ) (lent : Lent) (k o : ℕ) (p : Progress) where
   -- the step, and what is still to be read after it
   pub data Turn : Step → Reading → Type 0 where
     refuse : (number place : ℕ) → Turn (Step.Refused number place) (turned number place)
     done : Passed tape o (allowed p) → getD tape o 0 ≡ 0 → Turn Step.Done (whole p)
-    more : Passed tape o (allowed p) → ¬ (getD tape o 0 ≡ 0) →
+    more : Passed tape o (allowed p) → termsVerdict tape lent o ≡ Verdict.Accept →
+        ¬ (getD tape o 0 ≡ 0) →
         Turn (Step.More (tallyOf (absorbed p (entryAt tape o))) (record { at = nextAt tape o }))
         (readFrom k tape (lent .samples) (lent .flow) (nextAt tape o) (absorbed p (entryAt tape o)))
 
@@ -93,35 +98,32 @@ module _ (tape : List ℕ) (lent : Lent) (k o : ℕ) (p : Progress) where
   upon Verdict.Accept = after (eqb (getD tape o 0) 0)
   upon (Verdict.Refuse number place) = turned number place
 
-  terms-verdict : Verdict
-  terms-verdict = firstRefusal (entryRows o (lent .samples) (lent .flow) (entryAt tape o))
-
-  unrolled : upon (decided (firstRefusal (recordRows tape o (allowed p))) terms-verdict Verdict.Refuse) ≡ readFrom (suc k) tape (lent .samples) (lent .flow) o p
-  unfolding readFrom after upon terms-verdict
+  unrolled : upon (decided (firstRefusal (recordRows tape o (allowed p))) (termsVerdict tape lent o) Verdict.Refuse) ≡ readFrom (suc k) tape (lent .samples) (lent .flow) o p
+  unfolding readFrom after upon
   unrolled = ap upon (sym (firstRefusal-append (recordRows tape o (allowed p)) (entryRows o (lent .samples) (lent .flow) (entryAt tape o))))
 
-  ends : (z : Bool) → eqb (getD tape o 0) 0 ≡ z → Passed tape o (allowed p) →
+  ends : (z : Bool) → eqb (getD tape o 0) 0 ≡ z → Passed tape o (allowed p) → termsVerdict tape lent o ≡ Verdict.Accept →
       Turn (cond z Step.Done (Step.More (tallied (tallyOf p) (entryAt tape o)) (record { at = nextAt tape o }))) (after z)
   unfolding after
-  ends true e h = done h (eqb-true _ _ e)
-  ends false e h =
+  ends true e h v = done h (eqb-true _ _ e)
+  ends false e h v =
       subst (λ (t : Tally). Turn (Step.More t (record { at = nextAt tape o })) (after false))
-      (sym (tallied-absorbed p (entryAt tape o))) (more h (eqb-false _ _ e))
+      (sym (tallied-absorbed p (entryAt tape o))) (more h v (eqb-false _ _ e))
 
-  judged : (v : Verdict) → Passed tape o (allowed p) →
+  judged : (v : Verdict) → termsVerdict tape lent o ≡ v → Passed tape o (allowed p) →
       Turn (decided v (moved (tallyOf p) (entryAt tape o) (record { at = nextAt tape o })) Step.Refused) (upon v)
   unfolding upon
-  judged (Verdict.Refuse number place) h = refuse number place
-  judged Verdict.Accept h =
+  judged (Verdict.Refuse number place) e h = refuse number place
+  judged Verdict.Accept e h =
       subst (λ (s : Step). Turn s (after (eqb (getD tape o 0) 0)))
       (sym (moved-kind (tallyOf p) (record { at = nextAt tape o }) (getD tape o 0) (λ i. getD tape (o + 1 + i) 0) (h .isKnown)))
-      (ends (eqb (getD tape o 0) 0) refl h)
+      (ends (eqb (getD tape o 0) 0) refl h e)
 
   read-one : (v : Verdict) → firstRefusal (recordRows tape o (allowed p)) ≡ v →
-      Turn (taken (decided v (recordAt tape o) Got.Refused) o (tallyOf p) lent) (upon (decided v terms-verdict Verdict.Refuse))
-  unfolding upon terms-verdict
+      Turn (taken (decided v (recordAt tape o) Got.Refused) o (tallyOf p) lent) (upon (decided v (termsVerdict tape lent o) Verdict.Refuse))
+  unfolding upon
   read-one (Verdict.Refuse number place) e = refuse number place
-  read-one Verdict.Accept e = judged terms-verdict (passed-record tape o (allowed p) e)
+  read-one Verdict.Accept e = judged (termsVerdict tape lent o) refl (passed-record tape o (allowed p) e)
 
   pub turn : Turn (stepOf tape o (tallyOf p) lent) (readFrom (suc k) tape (lent .samples) (lent .flow) o p)
   unfolding stepOf gotAt
