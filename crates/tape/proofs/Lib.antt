@@ -5,7 +5,11 @@
 --     Rows        the rows of a record, as the code goes down them
 --     Turns       one turn of reading
 --     Reached     what a scan keeps from turn to turn
+--     Offsets     where the records of a job stand on its tape
 --     Accepted    an accepted tape is the bytes of the job that was read
+--     Numbers     its numbers, where the code reads them
+--     Judged      what reading gives after the scan
+--     Passed      what the counts of a tape that has passed say
 pub mod Digits
 pub mod Sequences
 pub mod Entries
@@ -13,3 +17,7 @@ pub mod Rows
 pub mod Turns
 pub mod Reached
 pub mod Accepted
+pub mod Numbers
+pub mod Judged
+pub mod Passed
+pub mod Offsets

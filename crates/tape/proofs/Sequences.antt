@@ -1,12 +1,15 @@
 -- Laws of `table` and `chain` over the elements of a list. Assumes nothing.
 use mathlib.Core.Path.{_≡_, refl, sym, ap, ap₂, _∙_, subst}
-use mathlib.Core.List.{List, [], _∷_, _++_}
+use mathlib.Core.List.{List, [], _∷_, _++_, append-assoc}
+use mathlib.Core.Logic.{⊎-elim}
 use Prim.Native.Nat.{ℕ, zero, suc, _+_, _*_, _≤_, _<_}
 use native.Mathlib.Nat.{le-refl}
+use native.Mathlib.Numerals.{add-one}
 use native.Mathlib.Omega.{arith}
-use lib.ListN.{length, getD, take, drop, length-append, length-drop, List·getD-append}
-use lib.Seq.{take-suc, getD-drop, getD-at}
-use Rattle.model.specs.Lists.{table, chain}
+use lib.ListN.{length, getD, take, drop, set, length-append, length-drop, List·getD-append}
+use lib.Seq.{take-suc, drop-cons, drop-at, drop-append-add, append-snoc, set-at, getD-drop, getD-at}
+use Rattle.model.specs.Lists.{table, chain, overwritten}
+use Rattle.model.proofs.Lists.{last, length-table, length-chain}
 
 module _ {A : Type 0} where
   -- a part of a list, element by element
@@ -35,3 +38,52 @@ module _ {A B : Type 0} (g : A → List B) (d : A) where
       ∙ ap₂ _++_
       (chain-cong (length xs) (λ i l. ap g (List·getD-append xs (x ∷ []) d i l)))
       (ap g (getD-at xs x [] d (length xs) refl))
+
+-- ---- a buffer filled from its front
+
+module _ {A : Type 0} (buffer : List A) (g : ℕ → A) where
+  pub filled-none : buffer ≡ overwritten (table 0 g) buffer
+  unfolding table
+  filled-none = refl
+
+  pub filled-length : (i : ℕ) → i ≤ length buffer → length (overwritten (table i g) buffer) ≡ length buffer
+  filled-length i h =
+      length-append (table i g) (drop (length (table i g)) buffer)
+      ∙ omega (arith, length-table i g, length-drop (length (table i g)) buffer)
+
+  pub filled-more : (i : ℕ) (x : A) → i < length buffer → x ≡ g i →
+      set (overwritten (table i g) buffer) i x ≡ overwritten (table (i + 1) g) buffer
+  unfolding table
+  filled-more i x h e =
+      ap (λ (l : List A). set (table i g ++ l) i x) (ap (λ (n : ℕ). drop n buffer) (length-table i g) ∙ drop-cons buffer i x h)
+      ∙ set-at (table i g) (getD buffer i x) (drop (suc i) buffer) x i (length-table i g)
+      ∙ sym (append-snoc (table i g) x (drop (suc i) buffer))
+      ∙ ap₂ (λ (y : A) (n : ℕ). table i g ++ (y ∷ []) ++ drop n buffer) e (sym (length-table (suc i) g))
+      ∙ ap (λ (n : ℕ). overwritten (table n g) buffer) (sym (add-one i))
+
+-- ---- a chain of lists of one length, with more behind it
+
+module _ {A : Type 0} (k : ℕ) (g : ℕ → List A) (even : (i : ℕ) → length (g i) ≡ k) where
+  pub chain-drop : (n i : ℕ) (behind : List A) → i < n → (rest : List A) × (drop (i * k) (chain n g ++ behind) ≡ g i ++ rest)
+  unfolding chain
+  chain-drop zero i behind h = absurd (omega arith)
+  chain-drop (suc n) i behind h = ⊎-elim (λ (l : i < n). before (chain-drop n i (g n ++ behind) l)) here (last i n h)
+    where
+      regroup : chain n g ++ g n ++ behind ≡ chain n g ++ (g n ++ behind)
+      regroup = append-assoc (chain n g) (g n) behind
+
+      before : (rest : List A) × (drop (i * k) (chain n g ++ (g n ++ behind)) ≡ g i ++ rest) →
+          (rest : List A) × (drop (i * k) (chain n g ++ g n ++ behind) ≡ g i ++ rest)
+      before (rest, e) = (rest, ap (drop (i * k)) regroup ∙ e)
+
+      here : i ≡ n → (rest : List A) × (drop (i * k) (chain n g ++ g n ++ behind) ≡ g i ++ rest)
+      here e = (
+        behind,
+        ap (drop (i * k)) regroup
+            ∙ drop-at (chain n g) (g n ++ behind) (i * k) (length-chain k g even n ∙ ap (λ (m : ℕ). m * k) (sym e))
+            ∙ ap (λ (m : ℕ). g m ++ behind) (sym e),
+      )
+
+  pub chain-past : (n m : ℕ) (behind : List A) → drop (n * k + m) (chain n g ++ behind) ≡ drop m behind
+  chain-past n m behind =
+      ap (λ (l : ℕ). drop (l + m) (chain n g ++ behind)) (sym (length-chain k g even n)) ∙ drop-append-add (chain n g) behind m

@@ -3,7 +3,11 @@
 --     Record      one record at an offset: its numbers, or a refusal with its offset
 --     Step        one record taken into the tally
 --     Scan        a scan of the whole tape
+--     Places      where the numbers of a whole tape stand
+--     Answers     document 01's values for each answer of read and write
 pub mod Tally
 pub mod Record
 pub mod Step
 pub mod Scan
+pub mod Places
+pub mod Answers

@@ -1,5 +1,7 @@
 // The job tape: reading a job from bytes and writing one.
 pub mod bytes;
+pub mod fill;
+pub mod read;
 pub mod record;
 pub mod scan;
 pub mod step;

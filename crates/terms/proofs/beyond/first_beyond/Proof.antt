@@ -34,23 +34,23 @@ first weight flow k f = sym (firstWhere-is (length flow) _ k f)
 loop-holds : tie.Need-loop-holds Inv-loop μ-loop
 loop-holds c = (zero-le, λ k h. absurd (omega arith))
 
-mul-beyond : tie.Need-mul-beyond Inv-loop μ-loop
-mul-beyond c = search needs
+mul-is-beyond : tie.Need-mul-is-beyond Inv-loop μ-loop
+mul-is-beyond c = search needs
 
-shared-slice-copy-out-beyond : tie.Need-shared-slice-copy-out-beyond Inv-loop μ-loop
-shared-slice-copy-out-beyond c = omega arith
+shared-slice-copy-out-is-beyond : tie.Need-shared-slice-copy-out-is-beyond Inv-loop μ-loop
+shared-slice-copy-out-is-beyond c = omega arith
 
-beyond-requires : tie.Need-beyond-requires Inv-loop μ-loop
-beyond-requires c κs = search needs
+is-beyond-requires : tie.Need-is-beyond-requires Inv-loop μ-loop
+is-beyond-requires c κs = search needs
 
--- what `beyond` answers at `i`
-answer : (c : tie.After-beyond Inv-loop μ-loop) →
-    c .beyond .result ≡ ltb (c .before .before .before .before .args .weight)
+-- what `is_beyond` answers at `i`
+answer : (c : tie.After-is-beyond Inv-loop μ-loop) →
+    c .is-beyond .result ≡ ltb (c .before .before .before .before .args .weight)
     (natAbs (at (c .before .before .before .before .args .flow .now) (c .before .before .before .loop .i)))
 answer c =
     let z : ℤ = at (c .before .before .before .before .args .flow .now) (c .before .before .before .loop .i) in
-    let f : SFits w32 z = record { sfits = c .before .beyond-arg .given } in
-    c .beyond .ensures
+    let f : SFits w32 z = record { sfits = c .before .is-beyond-arg .given } in
+    c .is-beyond .ensures
     ∙ ap (λ (y : ℤ). ltb (c .before .before .before .before .args .weight) (natAbs y)) (toZ-ofZ f)
 
 returns : tie.Need-returns Inv-loop μ-loop
@@ -88,9 +88,9 @@ first-beyond-spec =
     Inv-loop
     μ-loop
     loop-holds
-    mul-beyond
-    shared-slice-copy-out-beyond
-    beyond-requires
+    mul-is-beyond
+    shared-slice-copy-out-is-beyond
+    is-beyond-requires
     returns
     add-i
     loop-less
