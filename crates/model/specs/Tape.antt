@@ -297,18 +297,21 @@ tapeOf t r samples numbers =
     ++ chain (length numbers) (λ j. encoded (Flow (at numbers j)))
     ++ encoded End
 
-unfoldable pub writeVerdict : Terms → Rounds → List ℕ → List ℤ → List ℕ → Verdict
-writeVerdict t r samples numbers output =
-    firstRefusal
-    (sizeRow t 0
+-- Where write turns back, `room` being its output's length: 16 after the other lengths, 8 last
+abbrev pub writeRows : Terms → Rounds → List ℕ → List ℤ → ℕ → List Row
+writeRows t r samples numbers room =
+    sizeRow t 0
     ∷ weightRow t 0
     ∷ boxRow t 0
     ∷ roundsRow r 0
     ∷ lengthRow 4 samples (pixelsOf t)
     ∷ row (not (eqb (length numbers) 0) && not (eqb (length numbers) (pairsOf t))) 5 0
-    ∷ row (ltb (length output) (length (tapeOf t r samples numbers))) 16 0
+    ∷ row (ltb room (length (tapeOf t r samples numbers))) 16 0
     ∷ flowRow (t .weight) numbers
-    ∷ [])
+    ∷ []
+
+unfoldable pub writeVerdict : Terms → Rounds → List ℕ → List ℤ → List ℕ → Verdict
+writeVerdict t r samples numbers output = firstRefusal (writeRows t r samples numbers (length output))
 
 -- What write gives: the byte count. Accepted: number and place are 0. Refused: zeros but for number and place
 pub record WriteAnswer : Type 0 where

@@ -1,7 +1,7 @@
 -- Numbers in bytes: the two's complement is the machine's. Assumes nothing.
 use mathlib.Core.Path.{_≡_, refl, sym, ap, ap₂, _∙_, subst⁻¹}
 use mathlib.Core.Bool.{Bool, true, false, cond}
-use mathlib.Core.List.{List, [], _∷_}
+use mathlib.Core.List.{List, [], _∷_, _++_}
 use Prim.Native.Nat.{ℕ, suc, _+_, _-_, _*_, _/_, _%_, _^_, _≤_, _<_}
 use native.Mathlib.Nat.{div-add-mod', div-div-eq-div-mul}
 use native.Mathlib.Omega.{arith}
@@ -92,3 +92,10 @@ module _ {b0 b1 b2 b3 : ℕ} (h0 : b0 < 256) (h1 : b1 < 256) (h2 : b2 < 256) (h3
 
       four : byteOf n 0 ≡ b0 → byteOf n 1 ≡ b1 → byteOf n 2 ≡ b2 → byteOf n 3 ≡ b3 → bytes n ≡ b0 ∷ b1 ∷ b2 ∷ b3 ∷ []
       four e0 e1 e2 e3 = cc
+
+-- four bytes are two and two
+pub four-halves : (n : ℕ) → twoBytes (n % 65536) ++ twoBytes (n / 65536) ≡ byteOf n 0 ∷ byteOf n 1 ∷ byteOf n 2 ∷ byteOf n 3 ∷ []
+four-halves n = four (omega arith) (omega arith) (omega arith) (ap (λ (q : ℕ). q % 256) (div-div-eq-div-mul n 65536 256))
+  where
+    four : {a b c d e f g h : ℕ} → a ≡ e → b ≡ f → c ≡ g → d ≡ h → a ∷ b ∷ c ∷ d ∷ [] ≡ e ∷ f ∷ g ∷ h ∷ []
+    four p q r s = cc

@@ -9,6 +9,7 @@
 --     Accepted    an accepted tape is the bytes of the job that was read
 --     Numbers     its numbers, where the code reads them
 --     Judged      what reading gives after the scan
+--     WriteRows   the rows of write
 --     Passed      what the counts of a tape that has passed say
 pub mod Digits
 pub mod Sequences
@@ -20,4 +21,5 @@ pub mod Accepted
 pub mod Numbers
 pub mod Judged
 pub mod Passed
+pub mod WriteRows
 pub mod Offsets

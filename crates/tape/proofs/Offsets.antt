@@ -2,7 +2,8 @@
 -- numbers, 5 bytes each, and the end. Assumes nothing.
 use mathlib.Core.Path.{_≡_, refl, sym, ap, _∙_}
 use mathlib.Core.List.{List, [], _∷_, _++_, append-assoc}
-use Prim.Native.Nat.{ℕ, _+_, _*_, _<_}
+use Prim.Native.Nat.{ℕ, _+_, _*_, _≤_, _<_}
+use native.Mathlib.Nat.{zero-add}
 use native.Mathlib.Omega.{arith}
 use lib.IntN.{ℤ, pos}
 use lib.ListN.{length, getD, drop, length-append}
@@ -11,10 +12,11 @@ use Rattle.model.specs.declared.Terms.{Terms}
 use Rattle.model.specs.declared.Rounds.{Rounds}
 use Rattle.model.specs.declared.Entry.{Entry}
 use Rattle.model.specs.declared.Entry.the-variants.{End, Size, WeightBox, RoundLimits, Sample, Flow}
-use Rattle.model.specs.Lists.{at, chain}
+use Rattle.model.specs.Lists.{at, chain, overwritten}
 use Rattle.model.specs.Tape.{encoded, tapeOf}
 use Rattle.model.proofs.Lists.{length-chain}
-use Rattle.tape.proofs.Sequences.{chain-drop, chain-past}
+use Rattle.tape.specs.Places.{Put}
+use Rattle.tape.proofs.Sequences.{chain-drop, chain-past, placed-front, put-then}
 
 module _ (t : Terms) (r : Rounds) (s : List ℕ) (f : List ℤ) where
   abbrev header : List ℕ
@@ -71,3 +73,18 @@ module _ (t : Terms) (r : Rounds) (s : List ℕ) (f : List ℤ) where
       past-header (length s * 2 + (length f * 5 + 0))
       ∙ chain-past 2 sampleAt (λ _. refl) (length s) (length f * 5 + 0) (flow ++ encoded End)
       ∙ chain-past 5 flowAt (λ _. refl) (length f) 0 (encoded End)
+
+  -- the parts of the tape, laid one behind the other at the front of a buffer
+  pub assembled : {p q m n : ℕ} {buffer b₁ b₂ b₃ left : List ℕ} →
+      Put 0 header buffer p b₁ → Put p samples b₁ q b₂ → Put q flow b₂ m b₃ → Put m (encoded End) b₃ n left →
+      length (tapeOf t r s f) ≤ length buffer → (n ≡ length (tapeOf t r s f)) × (left ≡ overwritten (tapeOf t r s f) buffer)
+  unfolding tapeOf
+  assembled {n} {buffer} {left} a b c d h =
+      let x : length (header ++ samples) ≡ length header + length samples = length-append header samples in
+      let y : length (header ++ samples ++ flow) ≡ length (header ++ samples) + length flow = length-append (header ++ samples) flow in
+      let z : length (header ++ samples ++ flow ++ encoded End) ≡ length (header ++ samples ++ flow) + 1 = length-append (header ++ samples ++ flow) (encoded End) in
+      let w : Put 0 (header ++ samples ++ flow ++ encoded End) buffer n left =
+      put-then (put-then (put-then a b (omega (arith, h, x, y, z))) c (omega (arith, h, x, y, z))) d (omega (arith, h, x, y, z)) in (
+        w .behind ∙ zero-add (length (header ++ samples ++ flow ++ encoded End)),
+        w .laid ∙ placed-front buffer (header ++ samples ++ flow ++ encoded End),
+      )
