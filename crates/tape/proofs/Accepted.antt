@@ -276,7 +276,7 @@ module _ (tape : List ℕ) (lent : Lent) (byte : (i : ℕ) → getD tape i 0 < 2
     where
       go : {s : Step} {r : Reading} → Turn tape lent k o p s r → r ≡ whole q →
           ((o : ℕ) (p q : Progress) → Good o p → readFrom k tape (lent .samples) (lent .flow) o p ≡ whole q → Job q) → Job q
-      go (Turn.refuse n f) w ih = let z : _≡_ {A = ℕ} 0 1 = cc in absurd (omega arith)
+      go (Turn.refuse n f _) w ih = let z : _≡_ {A = ℕ} 0 1 = cc in absurd (omega arith)
       go (Turn.done h z) w ih = subst Job (cc) (ending o p g h z)
       go (Turn.more h v z) w ih = ih _ _ q (growing o p g h v z) w
 

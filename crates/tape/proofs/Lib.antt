@@ -10,6 +10,8 @@
 --     Numbers     its numbers, where the code reads them
 --     Judged      what reading gives after the scan
 --     WriteRows   the rows of write
+--     Walk        reading goes on over a record whose bytes stand at its offset
+--     RoundTrip   writing and reading undo each other
 --     Passed      what the counts of a tape that has passed say
 pub mod Digits
 pub mod Sequences
@@ -22,4 +24,6 @@ pub mod Numbers
 pub mod Judged
 pub mod Passed
 pub mod WriteRows
+pub mod Walk
+pub mod RoundTrip
 pub mod Offsets

@@ -88,3 +88,11 @@ module _ (t : Terms) (r : Rounds) (s : List ℕ) (f : List ℤ) where
         w .behind ∙ zero-add (length (header ++ samples ++ flow ++ encoded End)),
         w .laid ∙ placed-front buffer (header ++ samples ++ flow ++ encoded End),
       )
+
+  -- the records of the header
+  pub header-here :
+      (drop 0 (tapeOf t r s f) ≡ encoded (Size (t .width) (t .height)) ++ drop 5 (tapeOf t r s f))
+      × (drop 5 (tapeOf t r s f) ≡ encoded (WeightBox (t .weight) (t .low) (t .high)) ++ drop 10 (tapeOf t r s f))
+      × (drop 10 (tapeOf t r s f) ≡ encoded (RoundLimits (r .quick) (r .allowance)) ++ drop 15 (tapeOf t r s f))
+  unfolding tapeOf
+  header-here = (refl, refl, refl)

@@ -70,7 +70,7 @@ module _ (tape : List ℕ) (lent : Lent) where
     refused {number} {place} e = go (at-step e) refl
       where
         go : {s : Step} {all : Reading} → Turn tape lent (r .fuel) o (r .progress) s all → s ≡ Step.Refused number place → Scanned.Refused number place ≡ scannedOf all
-        go (Turn.refuse n q) h = cc
+        go (Turn.refuse n q _) h = cc
         go (Turn.done a z) h = cc
         go (Turn.more a v z) h = cc
 
@@ -78,7 +78,7 @@ module _ (tape : List ℕ) (lent : Lent) where
     finished e = go (at-step e) refl
       where
         go : {s : Step} {all : Reading} → Turn tape lent (r .fuel) o (r .progress) s all → s ≡ Step.Done → Scanned.Whole t ≡ scannedOf all
-        go (Turn.refuse n q) h = cc
+        go (Turn.refuse n q _) h = cc
         go (Turn.done a z) h = ap Scanned.Whole (r .counted)
         go (Turn.more a v z) h = cc
 
@@ -101,7 +101,7 @@ module _ (tape : List ℕ) (lent : Lent) where
     onward {u} {next} e = go (at-step e) refl refl
       where
         go : {s : Step} {all : Reading} → Turn tape lent (r .fuel) o (r .progress) s all → s ≡ Step.More u next → all ≡ wholeReading → Reached u (next .at) × (o < next .at)
-        go (Turn.refuse n q) h w = let z : _≡_ {A = ℕ} 0 1 = cc in absurd (omega arith)
+        go (Turn.refuse n q _) h w = let z : _≡_ {A = ℕ} 0 1 = cc in absurd (omega arith)
         go (Turn.done a z) h w = let z : _≡_ {A = ℕ} 0 1 = cc in absurd (omega arith)
         go (Turn.more a v z) h w =
             let same-tally : u ≡ tallyOf (absorbed (r .progress) (entryAt tape o)) = cc in

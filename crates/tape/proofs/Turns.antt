@@ -1,18 +1,18 @@
 -- One turn of reading: the step that the code takes is the one that the definition makes. Assumes nothing.
-use mathlib.Core.Path.{_≡_, refl, sym, ap, subst}
+use mathlib.Core.Path.{_≡_, refl, sym, ap, ap₂, _∙_, subst}
 use mathlib.Core.Bool.{Bool, true, false, _&&_, cond, true≢false}
 use mathlib.Core.List.{List, [], _∷_, _++_}
 use Prim.Native.Nat.{ℕ, zero, suc, _+_, _≤_, _<_}
 use native.Mathlib.Omega.{arith}
 use lib.Dec.{eqb, ltb}
 use lib.ListN.{length, getD, length-append}
-use borrow.Author.Tests.{leb-false, ltb-false, ltb-true, eqb-true, eqb-false, not-false, lt-ltb}
+use borrow.Author.Tests.{leb-false, ltb-false, ltb-true, eqb-true, eqb-false, not-false, eq-eqb, ne-eqb}
 use Rattle.model.specs.declared.Verdict.{Verdict}
 use Rattle.model.specs.declared.Entry.{Entry}
 use Rattle.model.specs.declared.Entry.the-variants.{End, Size, WeightBox, RoundLimits, Sample, Flow}
 use Rattle.model.specs.Verdict.{firstRefusal, decided}
 use Rattle.model.specs.Tape.{known, bodyLength, decoded, Progress, allowed, absorbed, recordRows, entryRows, Reading, turned, whole, readFrom}
-use Rattle.model.proofs.Refusals.{accepted-row, firstRefusal-append}
+use Rattle.model.proofs.Refusals.{accepted-row, firstRefusal-append, Numbered, refused-number}
 use Rattle.tape.specs.declared.tally.Tally.{Tally}
 use Rattle.tape.specs.declared.record.Cursor.{Cursor}
 use Rattle.tape.specs.declared.record.Got.{Got}
@@ -76,6 +76,19 @@ moved-kind t next (suc (suc (suc (suc zero)))) b h = refl
 moved-kind t next (suc (suc (suc (suc (suc zero))))) b h = refl
 moved-kind t next (suc (suc (suc (suc (suc (suc k)))))) b h = absurd (omega (arith, ltb-true (suc (suc (suc (suc (suc (suc k)))))) 6 h))
 
+-- no row has the number 0
+record-numbered : (tape : List ℕ) (o : ℕ) (may : ℕ → Bool) → Numbered (recordRows tape o may)
+unfolding recordRows
+record-numbered tape o may = omega arith
+
+entry-numbered : (o samples flow : ℕ) (e : Entry) → Numbered (entryRows o samples flow e)
+entry-numbered o samples flow End = tt
+entry-numbered o samples flow (Size w h) = omega arith
+entry-numbered o samples flow (WeightBox weight low high) = omega arith
+entry-numbered o samples flow (RoundLimits q a) = omega arith
+entry-numbered o samples flow (Sample s) = tt
+entry-numbered o samples flow (Flow f) = tt
+
 -- the verdict on the terms of the record at offset o
 abbrev pub termsVerdict : List ℕ → Lent → ℕ → Verdict
 termsVerdict tape lent o = firstRefusal (entryRows o (lent .samples) (lent .flow) (entryAt tape o))
@@ -83,7 +96,7 @@ termsVerdict tape lent o = firstRefusal (entryRows o (lent .samples) (lent .flow
 module _ (tape : List ℕ) (lent : Lent) (k o : ℕ) (p : Progress) where
   -- the step, and what is still to be read after it
   pub data Turn : Step → Reading → Type 0 where
-    refuse : (number place : ℕ) → Turn (Step.Refused number place) (turned number place)
+    refuse : (number place : ℕ) → 0 < number → Turn (Step.Refused number place) (turned number place)
     done : Passed tape o (allowed p) → getD tape o 0 ≡ 0 → Turn Step.Done (whole p)
     more : Passed tape o (allowed p) → termsVerdict tape lent o ≡ Verdict.Accept →
         ¬ (getD tape o 0 ≡ 0) →
@@ -113,7 +126,7 @@ module _ (tape : List ℕ) (lent : Lent) (k o : ℕ) (p : Progress) where
   judged : (v : Verdict) → termsVerdict tape lent o ≡ v → Passed tape o (allowed p) →
       Turn (decided v (moved (tallyOf p) (entryAt tape o) (record { at = nextAt tape o })) Step.Refused) (upon v)
   unfolding upon
-  judged (Verdict.Refuse number place) e h = refuse number place
+  judged (Verdict.Refuse number place) e h = refuse number place (refused-number _ (entry-numbered o (lent .samples) (lent .flow) (entryAt tape o)) e)
   judged Verdict.Accept e h =
       subst (λ (s : Step). Turn s (after (eqb (getD tape o 0) 0)))
       (sym (moved-kind (tallyOf p) (record { at = nextAt tape o }) (getD tape o 0) (λ i. getD tape (o + 1 + i) 0) (h .isKnown)))
@@ -122,7 +135,7 @@ module _ (tape : List ℕ) (lent : Lent) (k o : ℕ) (p : Progress) where
   read-one : (v : Verdict) → firstRefusal (recordRows tape o (allowed p)) ≡ v →
       Turn (taken (decided v (recordAt tape o) Got.Refused) o (tallyOf p) lent) (upon (decided v (termsVerdict tape lent o) Verdict.Refuse))
   unfolding upon
-  read-one (Verdict.Refuse number place) e = refuse number place
+  read-one (Verdict.Refuse number place) e = refuse number place (refused-number _ (record-numbered tape o (allowed p)) e)
   read-one Verdict.Accept e = judged (termsVerdict tape lent o) refl (passed-record tape o (allowed p) e)
 
   pub turn : Turn (stepOf tape o (tallyOf p) lent) (readFrom (suc k) tape (lent .samples) (lent .flow) o p)
@@ -130,3 +143,22 @@ module _ (tape : List ℕ) (lent : Lent) (k o : ℕ) (p : Progress) where
   turn =
       subst (Turn (taken (gotAt tape o (tallyOf p)) o (tallyOf p) lent)) unrolled
       (read-one (firstRefusal (recordRows tape o (allowed p))) refl)
+
+  -- reading goes on over a record that its rows and the rows of its terms accept, and ends at the end
+  pub unrolled-on : firstRefusal (recordRows tape o (allowed p)) ≡ Verdict.Accept → termsVerdict tape lent o ≡ Verdict.Accept →
+      ¬ (getD tape o 0 ≡ 0) →
+      readFrom (suc k) tape (lent .samples) (lent .flow) o p
+      ≡ readFrom k tape (lent .samples) (lent .flow) (nextAt tape o) (absorbed p (entryAt tape o))
+  unfolding after upon
+  unrolled-on a b z =
+      sym unrolled
+      ∙ ap₂ (λ (v w : Verdict). upon (decided v w Verdict.Refuse)) a b
+      ∙ ap after (ne-eqb (getD tape o 0) 0 z)
+
+  pub unrolled-end : firstRefusal (recordRows tape o (allowed p)) ≡ Verdict.Accept → termsVerdict tape lent o ≡ Verdict.Accept →
+      getD tape o 0 ≡ 0 → readFrom (suc k) tape (lent .samples) (lent .flow) o p ≡ whole p
+  unfolding after upon
+  unrolled-end a b z =
+      sym unrolled
+      ∙ ap₂ (λ (v w : Verdict). upon (decided v w Verdict.Refuse)) a b
+      ∙ ap after (eq-eqb (getD tape o 0) 0 z)

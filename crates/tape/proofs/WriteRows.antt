@@ -1,8 +1,9 @@
 -- The rows of write: those of the terms, then the lower ones. Assumes nothing.
-use mathlib.Core.Path.{_≡_, ap, _∙_}
+use mathlib.Core.Path.{_≡_, refl, ap, _∙_}
 use mathlib.Core.Bool.{false, not, _&&_}
 use mathlib.Core.List.{List, [], _∷_}
 use Prim.Native.Nat.{ℕ, _≤_}
+use native.Mathlib.Omega.{arith}
 use lib.Dec.{eqb, ltb}
 use lib.IntN.{ℤ}
 use lib.ListN.{length}
@@ -14,7 +15,7 @@ use Rattle.model.specs.declared.Verdict.{Verdict}
 use Rattle.model.specs.Verdict.{row, firstRefusal, decided, left}
 use Rattle.model.specs.Calls.{pixelsOf, pairsOf, sizeRow, weightRow, boxRow, roundsRow, lengthRow, firstBeyond, flowRow}
 use Rattle.model.specs.Tape.{tapeOf, writeRows, writeVerdict, writeOf, writeAnswer, writeOutput}
-use Rattle.model.proofs.Refusals.{accepted-row, firstRefusal-append}
+use Rattle.model.proofs.Refusals.{accepted-row, firstRefusal-append, refused-number}
 use Rattle.terms.proofs.Accepted.{AllowedTerms}
 use Rattle.tape.specs.Writing.{lowerRows}
 use Rattle.tape.proofs.Offsets.{tape-length}
@@ -76,3 +77,15 @@ module _ (t : Terms) (r : Rounds) (samples : List ℕ) (numbers : List ℤ) (out
   pub written-output : writeOutput t r samples numbers output ≡ left v (overwritten (tapeOf t r samples numbers) output) output
   unfolding writeOutput writeVerdict
   written-output = ap (λ (x : Verdict). left x (overwritten (tapeOf t r samples numbers) output) output) e
+
+-- an answer with number 0 is an acceptance
+pub accepted-answer : (t : Terms) (r : Rounds) (samples : List ℕ) (numbers : List ℤ) (output : List ℕ) →
+    writeAnswer t r samples numbers output .number ≡ 0 → firstRefusal (writeRows t r samples numbers (length output)) ≡ Verdict.Accept
+unfolding writeAnswer writeVerdict
+accepted-answer t r samples numbers output h = go (firstRefusal (writeRows t r samples numbers (length output))) refl h
+  where
+    go : (v : Verdict) → firstRefusal (writeRows t r samples numbers (length output)) ≡ v →
+        writeOf v (length (tapeOf t r samples numbers)) .number ≡ 0 → v ≡ Verdict.Accept
+    go Verdict.Accept e z = refl
+    go (Verdict.Refuse n p) e z =
+        absurd (omega (arith, refused-number (writeRows t r samples numbers (length output)) (omega arith) e))
