@@ -16,7 +16,9 @@ pub fn two_at(tape: &[u8], at: usize) -> u32
     requires { ⌜ at + 1 < length (now tape) ⌝ }
     ensures { λ r. ⌜ (r ≡ fromTwo (getD (now (tape .entry)) at 0) (getD (now (tape .entry)) (at + 1) 0)) × (r < 65536) ⌝ }
 {
-    wide(tape[at]) + 256 * wide(tape[at + 1])
+    let low = wide(tape[at]);
+    let high = wide(tape[at + 1]);
+    low + 256 * high
 }
 
 // A number of 32 bits, read as two's complement.
