@@ -4,6 +4,7 @@ pub mod fill;
 pub mod lay;
 pub mod put;
 pub mod read;
+pub mod reader;
 pub mod record;
 pub mod scan;
 pub mod step;

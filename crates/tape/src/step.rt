@@ -1,8 +1,8 @@
 // One record taken into the tally: its terms are judged at the record, and the counts move on.
 
+use crate::reader::record_at;
 use crate::record::Cursor;
 use crate::record::Got;
-use crate::record::next_record;
 use crate::tally::Tally;
 use model::Entry;
 use model::Rounds;
@@ -133,7 +133,7 @@ pub fn advance(tape: &[u8], at: usize, t: Tally, lent: Lent) -> Step
     requires { ⌜ (t .samples < 2 ^ 63) × (t .flows < 2 ^ 63) ⌝ }
     ensures { λ r. ⌜ r ≡ stepOf (now (tape .entry)) at t lent ⌝ }
 {
-    let got = next_record(tape, at, t);
+    let got = record_at(tape, at, t);
     match got {
         Got::Refused(number, place) => Step::Refused(number, place),
         Got::Record(entry, next) => take(t, entry, next, at, lent),
