@@ -1,8 +1,8 @@
 -- Document 01's numbers and values for each case of the answers that read and write give.
 use mathlib.Core.Bool.{false}
 use Rattle.model.specs.Tape.{nothing, ReadAnswer, WriteAnswer}
-use Rattle.tape.specs.declared.read.ReadResult.{ReadResult}
-use Rattle.tape.specs.declared.write.WriteResult.{WriteResult}
+use Rattle.tape.specs.declared.reading.ReadResult.{ReadResult}
+use Rattle.tape.specs.declared.writing.WriteResult.{WriteResult}
 
 -- Accepted: number and place are 0. Refused: zeros but for number and place
 abbrev pub readAnswerOf : ReadResult → ReadAnswer

@@ -1,9 +1,9 @@
--- `tape::read::read` meets its contract. Assumes nothing.
+-- `tape::reading::read` meets its contract. Assumes nothing.
 use mathlib.Core.Path.{_≡_, sym, _∙_}
 use Rattle.tape.proofs.Judged.{scanned-refused, refused-reading, answer-by, samples-by, flow-by}
 use borrow.Author.Needs.{needs}
-use Rattle.tape.proofs.read.read.Statement.{statement}
-use Rattle.tape.proofs.read.read.Tie as tie
+use Rattle.tape.proofs.reading.read.Statement.{statement}
+use Rattle.tape.proofs.reading.read.Tie as tie
 
 scan-tape-requires : tie.Need-scan-tape-requires
 scan-tape-requires c κs = search needs

@@ -1,4 +1,4 @@
--- `tape::write::judge_write` meets its contract. Assumes nothing.
+-- `tape::writing::judge_write` meets its contract. Assumes nothing.
 use mathlib.Core.Path.{_≡_, sym, ap, _∙_}
 use mathlib.Core.List.{List, [], _∷_}
 use lib.ListN.{length}
@@ -10,8 +10,8 @@ use Rattle.terms.proofs.Accepted.{accepted-terms}
 use Rattle.tape.specs.Writing.{lowerRows}
 use Rattle.tape.proofs.WriteRows.{write-rows}
 use borrow.Author.Needs.{needs}
-use Rattle.tape.proofs.write.judge_write.Statement.{statement}
-use Rattle.tape.proofs.write.judge_write.Tie as tie
+use Rattle.tape.proofs.writing.judge_write.Statement.{statement}
+use Rattle.tape.proofs.writing.judge_write.Tie as tie
 
 -- the verdict on the terms decides, or the lower rows do
 rows : (c : tie.Start) {v : Verdict} → let a = c .args in

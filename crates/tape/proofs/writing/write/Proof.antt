@@ -1,11 +1,11 @@
--- `tape::write::write` meets its contract. Assumes nothing.
+-- `tape::writing::write` meets its contract. Assumes nothing.
 use mathlib.Core.Path.{_≡_, sym, ap, _∙_}
 use Prim.Native.Nat.{ℕ}
 use Rattle.model.specs.Tape.{WriteAnswer}
 use Rattle.tape.proofs.WriteRows.{accepted-write, written-answer, written-output}
 use borrow.Author.Needs.{needs}
-use Rattle.tape.proofs.write.write.Statement.{statement}
-use Rattle.tape.proofs.write.write.Tie as tie
+use Rattle.tape.proofs.writing.write.Statement.{statement}
+use Rattle.tape.proofs.writing.write.Tie as tie
 
 judge-write-requires : tie.Need-judge-write-requires
 judge-write-requires c κs = search needs
