@@ -1,9 +1,9 @@
 -- An accepted tape is the bytes of the job that was read. Assumes nothing.
 use mathlib.Core.Path.{_≡_, refl, sym, ap, ap₂, _∙_, subst, subst⁻¹}
-use mathlib.Core.Bool.{Bool, true, false, not, _&&_, _||_, true≢false}
+use mathlib.Core.Bool.{Bool, true, false, _&&_, _||_, true≢false}
 use mathlib.Core.List.{List, [], _∷_, _++_, append-nil, append-assoc}
 use mathlib.Core.Logic.{_⊎_, inl, inr, ⊎-elim}
-use Prim.Native.Nat.{ℕ, zero, suc, _+_, _*_, _≤_, _<_, zero-le}
+use Prim.Native.Nat.{ℕ, zero, suc, _+_, _≤_, _<_, zero-le}
 use native.Mathlib.Omega.{arith}
 use lib.Dec.{eqb, ltb}
 use lib.IntN.{ℤ, pos}
@@ -21,7 +21,7 @@ use Rattle.model.specs.Lists.{at, chain}
 use Rattle.model.specs.Grid.{sizeAllowed, weightAllowed, boxAllowed}
 use Rattle.model.specs.Verdict.{firstRefusal}
 use Rattle.model.specs.Calls.{pixelsOf, pairsOf}
-use Rattle.model.specs.Tape.{known, decoded, encoded, Progress, nothing, allowedAfter, allowed, absorbed, entryRows, Reading, turned, whole, readFrom, tapeOf}
+use Rattle.model.specs.Tape.{known, decoded, encoded, Progress, nothing, allowedAfter, allowed, absorbed, entryRows, Reading, whole, readFrom, tapeOf}
 use Rattle.model.proofs.Lists.{last}
 use Rattle.model.proofs.Refusals.{accepted-row}
 use Rattle.terms.proofs.Size.{both-true}

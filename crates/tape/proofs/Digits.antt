@@ -8,7 +8,7 @@ use native.Mathlib.Omega.{arith}
 use lib.Dec.{ltb}
 use lib.IntN.{ℤ, pos, negsuc, subℕ}
 use mir.Syntax.{w32}
-use mir.Val.{Fits, SFits, toZ, ofZ, sel}
+use mir.Val.{SFits, toZ, ofZ, sel}
 use mir.Facts.{toZ-ofZ, ofZ-toZ}
 use mir.ValLaws.{ofZ-fits, toZ-fits}
 use borrow.Author.Tests.{lt-ltb, le-ltb}

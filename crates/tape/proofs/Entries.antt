@@ -3,10 +3,8 @@ use mathlib.Core.Path.{_≡_, refl, sym, ap, ap₂, _∙_, fun-ext}
 use mathlib.Core.Bool.{true}
 use mathlib.Core.List.{List, [], _∷_, _++_}
 use Prim.Native.Nat.{ℕ, zero, suc, _+_, _≤_, _<_}
-use native.Mathlib.Nat.{add-assoc}
-use native.Mathlib.Numerals.{add-one, one-add}
+use native.Mathlib.Numerals.{add-one}
 use native.Mathlib.Omega.{arith}
-use lib.IntN.{ℤ}
 use lib.ListN.{length, getD, take, drop}
 use lib.Seq.{drop-cons, take-add, getD-drop}
 use mir.Syntax.{w32}
@@ -15,7 +13,7 @@ use borrow.Author.Tests.{ltb-true}
 use Rattle.model.specs.declared.Entry.{Entry}
 use Rattle.model.specs.declared.Entry.the-variants.{End, Size, WeightBox, RoundLimits, Sample, Flow}
 use Rattle.model.specs.Lists.{table}
-use Rattle.model.specs.Tape.{known, bodyLength, decoded, encoded, twoBytes}
+use Rattle.model.specs.Tape.{known, bodyLength, decoded, encoded}
 use Rattle.tape.proofs.Digits.{two-there, two-back, four-there, four-back}
 use Rattle.tape.proofs.Sequences.{take-drop-table}
 use Rattle.tape.proofs.Turns.{entryAt, nextAt}

@@ -1,8 +1,8 @@
 -- The numbers of an accepted tape, where the code reads them. Assumes nothing.
-use mathlib.Core.Path.{_≡_, refl, sym, ap, _∙_, subst}
+use mathlib.Core.Path.{_≡_, sym, ap, _∙_, subst}
 use mathlib.Core.Bool.{Bool}
-use mathlib.Core.List.{List, _++_}
-use Prim.Native.Nat.{ℕ, _+_, _*_, _≤_, _<_}
+use mathlib.Core.List.{List}
+use Prim.Native.Nat.{ℕ, _+_, _*_, _<_}
 use native.Mathlib.Omega.{arith}
 use lib.Dec.{ltb}
 use lib.IntN.{ℤ, pos, natAbs}
@@ -11,7 +11,7 @@ use lib.Seq.{ext-getD, getD-drop}
 use Rattle.model.specs.declared.Entry.{Entry}
 use Rattle.model.specs.Lists.{at, table, firstWhere}
 use Rattle.model.specs.Calls.{firstBeyond}
-use Rattle.model.specs.Tape.{encoded, decoded, fromFour, Progress, tapeOf}
+use Rattle.model.specs.Tape.{decoded, fromFour, Progress, tapeOf}
 use Rattle.model.proofs.Lists.{First, firstWhere-first, firstWhere-is, length-table, getD-table}
 use Rattle.tape.specs.declared.step.Lent.{Lent}
 use Rattle.tape.specs.Places.{numberAt}

@@ -1,16 +1,16 @@
 -- What the counts of a tape that has passed say: its length, that the buffers are long enough, and what read gives and
 -- leaves. Assumes nothing.
-use mathlib.Core.Path.{_≡_, refl, sym, ap, ap₂, _∙_, subst, subst⁻¹}
+use mathlib.Core.Path.{_≡_, sym, ap, _∙_, subst, subst⁻¹}
 use mathlib.Core.Bool.{not}
 use mathlib.Core.List.{List}
-use mathlib.Core.Logic.{_⊎_, ⊎-elim}
+use mathlib.Core.Logic.{⊎-elim}
 use Prim.Native.Nat.{ℕ, _+_, _*_, _≤_, _<_}
 use native.Mathlib.Omega.{arith}
 use lib.Dec.{eqb, ltb}
 use lib.IntN.{ℤ, natAbs}
 use lib.ListN.{length, getD}
 use Rattle.model.specs.Lists.{table, firstWhere, overwritten}
-use Rattle.model.specs.Calls.{pixelsOf, pairsOf}
+use Rattle.model.specs.Calls.{pairsOf}
 use Rattle.model.specs.Tape.{Progress, turned, whole, reading, readAnswer, readSamples, readFlow}
 use Rattle.tape.specs.declared.tally.Tally.{Tally}
 use Rattle.tape.specs.declared.scan.Scanned.{Scanned}

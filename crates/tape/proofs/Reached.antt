@@ -1,13 +1,13 @@
 -- What the scan's loop keeps: the counts are those of some progress, from which reading goes on as from the start.
 -- Assumes nothing.
 use mathlib.Core.Path.{_≡_, refl, sym, ap, _∙_, subst, subst₂}
-use mathlib.Core.List.{List, [], _∷_, _++_}
-use Prim.Native.Nat.{ℕ, zero, suc, _+_, _-_, _≤_, _<_, zero-le}
+use mathlib.Core.List.{List, [], _∷_}
+use Prim.Native.Nat.{ℕ, suc, _+_, _-_, _≤_, _<_, zero-le}
 use native.Mathlib.Omega.{arith}
-use lib.ListN.{length, getD, length-append}
+use lib.ListN.{length, length-append}
 use Rattle.model.specs.declared.Entry.{Entry}
 use Rattle.model.specs.declared.Entry.the-variants.{End, Size, WeightBox, RoundLimits, Sample, Flow}
-use Rattle.model.specs.Tape.{Progress, nothing, allowed, absorbed, Reading, turned, whole, readFrom}
+use Rattle.model.specs.Tape.{Progress, nothing, allowed, absorbed, Reading, readFrom}
 use Rattle.tape.specs.declared.tally.Tally.{Tally}
 use Rattle.tape.specs.declared.record.Cursor.{Cursor}
 use Rattle.tape.specs.declared.step.Lent.{Lent}

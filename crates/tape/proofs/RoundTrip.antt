@@ -2,7 +2,7 @@
 use mathlib.Core.Path.{_≡_, refl, sym, ap, ap₂, _∙_, subst}
 use mathlib.Core.Bool.{Bool, true, false, not, _&&_, _||_, cond, true≢false, or-true, and-false}
 use mathlib.Core.Logic.{_⊎_, inl, inr, ⊎-elim}
-use mathlib.Core.List.{List, [], _∷_, _++_}
+use mathlib.Core.List.{List, []}
 use Prim.Native.Nat.{ℕ, zero, suc, _+_, _*_, _^_, _≤_, _<_}
 use native.Mathlib.Omega.{arith}
 use lib.Dec.{eqb, ltb}
@@ -15,18 +15,16 @@ use borrow.Author.Tests.{lt-ltb, le-ltb, ltb-false, leb-true, eq-eqb, eqb-true, 
 use Rattle.model.specs.declared.Terms.{Terms}
 use Rattle.model.specs.declared.Rounds.{Rounds}
 use Rattle.model.specs.declared.Verdict.{Verdict}
-use Rattle.model.specs.declared.Entry.{Entry}
 use Rattle.model.specs.declared.Entry.the-variants.{End, Size, WeightBox, RoundLimits, Sample, Flow}
 use Rattle.model.specs.Lists.{at, overwritten}
 use Rattle.model.specs.Grid.{weightAllowed}
 use Rattle.model.specs.Verdict.{firstRefusal}
 use Rattle.model.specs.Calls.{pixelsOf, pairsOf, firstBeyond}
-use Rattle.model.specs.Tape.{encoded, Progress, nothing, allowedAfter, allowed, absorbed, entryRows, Reading, whole, readFrom, ReadAnswer, readAnswer, readSamples, readFlow, tapeOf, writeRows, WriteAnswer, writeAnswer, writeOutput}
+use Rattle.model.specs.Tape.{Progress, nothing, allowedAfter, Reading, whole, readFrom, ReadAnswer, readAnswer, readSamples, readFlow, tapeOf, writeRows, WriteAnswer, writeAnswer, writeOutput}
 use Rattle.model.proofs.Lists.{firstWhere-first}
 use Rattle.model.proofs.Refusals.{accepted, passed}
 use Rattle.terms.proofs.Size.{allowed-size}
 use Rattle.tape.specs.declared.step.Lent.{Lent}
-use Rattle.tape.proofs.Entries.{Ranged, kindOf}
 use Rattle.tape.proofs.Offsets.{tape-length, sample-here, flow-here, end-here, header-here}
 use Rattle.tape.proofs.WriteRows.{Writable, accepted-write, accepted-answer, written-answer, written-output}
 use Rattle.tape.proofs.Accepted.{Job, accepted-job}

@@ -153,6 +153,13 @@ module _ (k : ℕ) (g : ℕ → List ℕ) (even : (i : ℕ) → length (g i) ≡
   unfolding chain
   chain-start = put-none o buffer
 
+  -- how much has been laid, and that the buffer keeps its length
+  pub chain-laid : (i : ℕ) {next : ℕ} {left : List ℕ} → Put o (chain i g) buffer next left → o + i * k ≤ length buffer →
+      (next ≡ o + i * k) × (length left ≡ length buffer)
+  chain-laid i p h =
+      let n : length (chain i g) ≡ i * k = length-chain k g even i in
+      (omega (arith, p .behind), put-length p (omega arith))
+
   pub chain-next : (i : ℕ) {next : ℕ} {left : List ℕ} → Put o (chain i g) buffer next left →
       {last : ℕ} {after : List ℕ} → Put next (g i) left last after → o + i * k + k ≤ length buffer → Put o (chain (i + 1) g) buffer last after
   unfolding chain

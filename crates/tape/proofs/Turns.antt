@@ -1,7 +1,7 @@
 -- One turn of reading: the step that the code takes is the one that the definition makes. Assumes nothing.
 use mathlib.Core.Path.{_≡_, refl, sym, ap, ap₂, _∙_, subst}
-use mathlib.Core.Bool.{Bool, true, false, _&&_, cond, true≢false}
-use mathlib.Core.List.{List, [], _∷_, _++_}
+use mathlib.Core.Bool.{Bool, true, false, _&&_, cond}
+use mathlib.Core.List.{List, [], _∷_}
 use Prim.Native.Nat.{ℕ, zero, suc, _+_, _≤_, _<_}
 use native.Mathlib.Omega.{arith}
 use lib.Dec.{eqb, ltb}
@@ -20,7 +20,7 @@ use Rattle.tape.specs.declared.step.Lent.{Lent}
 use Rattle.tape.specs.declared.step.Step.{Step}
 use Rattle.tape.specs.Tally.{tallyOf}
 use Rattle.tape.specs.Record.{recordAt, gotAt}
-use Rattle.tape.specs.Step.{tallied, moved, taken, settled, stepOf}
+use Rattle.tape.specs.Step.{tallied, moved, taken, stepOf}
 
 -- the record at offset o, and where the next begins
 abbrev pub entryAt : List ℕ → ℕ → Entry

@@ -1,21 +1,20 @@
 -- Reading goes on over a record whose bytes stand at its offset. Assumes nothing.
-use mathlib.Core.Path.{_≡_, refl, sym, ap, ap₂, _∙_, subst}
+use mathlib.Core.Path.{_≡_, refl, sym, ap, ap₂, _∙_}
 use mathlib.Core.Bool.{Bool, true, false, not, _&&_}
-use mathlib.Core.List.{List, [], _∷_, _++_}
-use Prim.Native.Nat.{ℕ, zero, suc, _+_, _≤_, _<_}
+use mathlib.Core.List.{List, _++_}
+use Prim.Native.Nat.{ℕ, zero, suc, _+_, _≤_}
 use native.Mathlib.Omega.{arith}
 use lib.Dec.{eqb, ltb}
 use lib.ListN.{length, getD, drop, length-append, length-drop}
-use borrow.Author.Tests.{lt-leb, le-ltb, ne-eqb, eqb-true, ltb-true}
+use borrow.Author.Tests.{lt-leb, le-ltb, ne-eqb}
 use Rattle.model.specs.declared.Verdict.{Verdict}
 use Rattle.model.specs.declared.Entry.{Entry}
 use Rattle.model.specs.declared.Entry.the-variants.{End, Size, WeightBox, RoundLimits, Sample, Flow}
 use Rattle.model.specs.Verdict.{firstRefusal}
-use Rattle.model.specs.Tape.{known, bodyLength, decoded, encoded, Progress, allowed, absorbed, recordRows, entryRows, Reading, turned, whole, readFrom}
+use Rattle.model.specs.Tape.{known, bodyLength, encoded, Progress, allowed, absorbed, recordRows, entryRows, whole, readFrom}
 use Rattle.model.proofs.Refusals.{accepted, passed}
 use Rattle.tape.specs.declared.step.Lent.{Lent}
-use Rattle.tape.specs.declared.step.Step.{Step}
-use Rattle.tape.proofs.Turns.{entryAt, nextAt, termsVerdict, Passed, unrolled-on, unrolled-end}
+use Rattle.tape.proofs.Turns.{nextAt, termsVerdict, Passed, unrolled-on, unrolled-end}
 use Rattle.tape.proofs.Entries.{Ranged, kindOf, kind-here, entry-here}
 
 -- the rows of a record accept it

@@ -3,10 +3,9 @@
 use crate::bytes::complement_of;
 use model::Entry;
 ghost use mathlib.Core.List.{[], _∷_, _++_};
-ghost use Prim.Native.Nat.{_+_, _*_, _≤_};
-ghost use lib.ListN.{length, getD};
+ghost use Prim.Native.Nat.{_+_, _≤_};
+ghost use lib.ListN.{length};
 ghost use Rattle.model.specs.declared.Entry.{Entry};
-ghost use Rattle.model.specs.Lists.{at, chain};
 ghost use Rattle.model.specs.Tape.{twoBytes, fourBytes, encoded};
 ghost use Rattle.tape.specs.Places.{Put};
 

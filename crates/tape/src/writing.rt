@@ -11,7 +11,6 @@ use terms::pixels;
 use terms::quick_allowed;
 ghost use mathlib.Core.Path.{_≡_};
 ghost use mathlib.Core.Bool.{true};
-ghost use lib.ListN.{length};
 ghost use Rattle.model.specs.Grid.{sizeAllowed};
 ghost use Rattle.model.specs.Verdict.{firstRefusal};
 ghost use Rattle.model.specs.Calls.{pixelsOf};

@@ -1,5 +1,5 @@
 -- A signed local holds bits: what the code reads back of a number of 32 bits, widens, tests and casts. Assumes nothing.
-use mathlib.Core.Path.{_≡_, refl, sym, ap, _∙_, subst, subst⁻¹}
+use mathlib.Core.Path.{_≡_, refl, sym, _∙_, subst, subst⁻¹}
 use mathlib.Core.Bool.{true, false, true≢false}
 use Prim.Native.Nat.{ℕ, _^_, _<_, zero-le}
 use native.Mathlib.Omega.{arith}

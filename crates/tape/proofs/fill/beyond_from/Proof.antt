@@ -1,17 +1,15 @@
 -- `tape::fill::beyond_from` meets its contract. The loop's invariant: no number before `j` is beyond the weight.
 -- Assumes nothing.
 use mathlib.Core.Path.{_≡_, sym, _∙_, ap}
-use mathlib.Core.Bool.{Bool, true, false}
+use mathlib.Core.Bool.{Bool}
 use mathlib.Core.List.{List}
-use Prim.Native.Nat.{ℕ, _+_, _*_, _-_, _≤_, _<_, zero-le}
+use Prim.Native.Nat.{ℕ, _+_, _*_, _-_}
 use native.Mathlib.Omega.{arith}
 use borrow.Author.Needs.{needs}
-use borrow.Author.Count.{below-more}
 use lib.Dec.{ltb}
 use lib.IntN.{ℤ, natAbs}
-use lib.ListN.{length}
 use mir.Facts.{toZ-ofZ}
-use Rattle.model.proofs.Lists.{First, firstWhere-is}
+use Rattle.terms.proofs.Search.{Searched, search-start, search-on, search-found, search-none}
 use Rattle.tape.specs.Places.{numberAt}
 use Rattle.tape.proofs.fill.beyond_from.Statement.{statement}
 use Rattle.tape.proofs.fill.beyond_from.Tie as tie
@@ -20,13 +18,13 @@ abbrev test : List ℕ → ℕ → ℕ → ℕ → Bool
 test tape start weight j = ltb weight (natAbs (numberAt tape (start + 5 * j)))
 
 abbrev Inv-loop : tie.InvT-loop
-Inv-loop tape start count weight j₀ j = (j ≤ count) × ((k : ℕ) → k < j → test tape start weight k ≡ false)
+Inv-loop tape start count weight j₀ j = Searched count (test tape start weight) j
 
 abbrev μ-loop : tie.MeasureT-loop
 μ-loop tape start count weight j₀ j = count - j
 
 loop-holds : tie.Need-loop-holds Inv-loop μ-loop
-loop-holds c = (zero-le, λ k h. absurd (omega arith))
+loop-holds c = search-start _ _
 
 mul-four-at : tie.Need-mul-four-at Inv-loop μ-loop
 mul-four-at c = omega arith
@@ -54,9 +52,8 @@ answer c =
 returns : tie.Need-returns Inv-loop μ-loop
 returns c =
     let s = c .before .before .before .before in
-    sym
-    (firstWhere-is _ _ _
-    (record { within = s .loop .inv .0; before = s .loop .inv .1; found = λ _. sym (answer (c .before)) ∙ c .if1 .taken }))
+    let a = s .before .before .args in
+    search-found _ (test (a .tape .now) (a .start) (a .weight)) _ (s .loop .inv) (sym (answer (c .before)) ∙ c .if1 .taken)
 
 add-j : tie.Need-add-j Inv-loop μ-loop
 add-j c = omega arith
@@ -66,14 +63,15 @@ loop-less c = omega arith
 
 loop-again : tie.Need-loop-again Inv-loop μ-loop
 loop-again c =
-    (omega arith, below-more _ _ (c .before .before .before .before .loop .inv .1) (sym (answer (c .before)) ∙ c .if1 .left))
+    let s = c .before .before .before .before in
+    let a = s .before .before .args in
+    search-on _ (test (a .tape .now) (a .start) (a .weight)) _ (s .loop .inv) (c .before .before .before .loop-test .taken)
+    (sym (answer (c .before)) ∙ c .if1 .left)
 
 returns-2 : tie.Need-returns-2 Inv-loop μ-loop
 returns-2 c =
-    let s = c .before in
-    sym
-    (firstWhere-is _ _ _
-    (record { within = s .loop .inv .0; before = s .loop .inv .1; found = λ h. absurd (omega arith) }))
+    let a = c .before .before .before .args in
+    search-none _ (test (a .tape .now) (a .start) (a .weight)) _ (c .before .loop .inv) (c .loop-test .left)
 
 pub beyond-from-spec : {M : Type 1} → statement M
 beyond-from-spec =

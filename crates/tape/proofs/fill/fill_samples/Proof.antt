@@ -1,10 +1,9 @@
 -- `tape::fill::fill_samples` meets its contract. The loop's invariant: the first `i` samples have been laid down.
 -- Assumes nothing.
-use mathlib.Core.Path.{_≡_, refl, ap, _∙_, subst}
+use mathlib.Core.Path.{_≡_, refl, ap, _∙_}
 use mathlib.Core.List.{List}
 use Prim.Native.Nat.{ℕ, _+_, _*_, _-_, _≤_, zero-le}
 use native.Mathlib.Omega.{arith}
-use borrow.Author.Needs.{needs}
 use lib.ListN.{length, getD, set}
 use Rattle.model.specs.Lists.{table, overwritten}
 use Rattle.tape.proofs.Sequences.{filled-none, filled-length, filled-more}

@@ -1,5 +1,5 @@
 -- `tape::lay::lay_flow` meets its contract. The loop's invariant: the records before `j` have been laid. Assumes nothing.
-use mathlib.Core.Path.{_≡_, refl, sym, ap, _∙_, subst}
+use mathlib.Core.Path.{_≡_, refl, subst}
 use mathlib.Core.List.{List}
 use Prim.Native.Nat.{ℕ, _+_, _*_, _-_, _≤_, zero-le}
 use native.Mathlib.Omega.{arith}
@@ -7,14 +7,13 @@ use borrow.Author.Needs.{needs}
 use lib.IntN.{ℤ}
 use lib.ListN.{length}
 use mir.Syntax.{w32}
-use mir.Val.{SFits, toZ, ofZ}
+use mir.Val.{SFits}
 use mir.Facts.{toZ-ofZ}
 use Rattle.model.specs.declared.Entry.{Entry}
 use Rattle.model.specs.Lists.{at, chain}
 use Rattle.model.specs.Tape.{encoded}
-use Rattle.model.proofs.Lists.{length-chain}
 use Rattle.tape.specs.Places.{Put}
-use Rattle.tape.proofs.Sequences.{chain-start, chain-next, put-length}
+use Rattle.tape.proofs.Sequences.{chain-start, chain-laid, chain-next}
 use Rattle.tape.proofs.lay.lay_flow.Statement.{statement}
 use Rattle.tape.proofs.lay.lay_flow.Tie as tie
 
@@ -36,9 +35,7 @@ laid : (c : tie.At-loop Inv-loop μ-loop) → let a = c .before .before .args in
     (c .loop .next ≡ a .o + c .loop .j * 5) × (length (c .loop .output) ≡ length (a .output .now))
 laid c =
     let a = c .before .before .args in
-    let p = c .loop .inv .1 in
-    let n : length (chain (c .loop .j) (records (a .flow .now))) ≡ c .loop .j * 5 = length-chain 5 _ (λ _. refl) (c .loop .j) in
-    (omega (arith, p .behind, n), put-length p (omega (arith, n, c .loop .inv .0, c .before .before .pre)))
+    chain-laid 5 (records (a .flow .now)) (λ _. refl) (c .loop .j) (c .loop .inv .1) (omega (arith, c .loop .inv .0, c .before .before .pre))
 
 mul-t6 : tie.Need-mul-t6 Inv-loop μ-loop
 mul-t6 c = search needs

@@ -1,16 +1,14 @@
 -- `tape::lay::lay_samples` meets its contract. The loop's invariant: the records before `i` have been laid. Assumes nothing.
-use mathlib.Core.Path.{_≡_, refl, sym, ap, _∙_, subst}
+use mathlib.Core.Path.{_≡_, refl, subst}
 use mathlib.Core.List.{List}
 use Prim.Native.Nat.{ℕ, _+_, _*_, _-_, _≤_, zero-le}
 use native.Mathlib.Omega.{arith}
-use borrow.Author.Needs.{needs}
 use lib.ListN.{length, getD}
 use Rattle.model.specs.declared.Entry.{Entry}
-use Rattle.model.specs.Lists.{at, chain}
+use Rattle.model.specs.Lists.{chain}
 use Rattle.model.specs.Tape.{encoded}
-use Rattle.model.proofs.Lists.{length-chain}
 use Rattle.tape.specs.Places.{Put}
-use Rattle.tape.proofs.Sequences.{chain-start, chain-next, put-length}
+use Rattle.tape.proofs.Sequences.{chain-start, chain-laid, chain-next}
 use Rattle.tape.proofs.lay.lay_samples.Statement.{statement}
 use Rattle.tape.proofs.lay.lay_samples.Tie as tie
 
@@ -32,9 +30,7 @@ laid : (c : tie.At-loop Inv-loop μ-loop) → let a = c .before .before .before 
     (c .loop .next ≡ a .o + c .loop .i * 2) × (length (c .loop .output) ≡ length (a .output .now))
 laid c =
     let a = c .before .before .before .args in
-    let p = c .loop .inv .1 in
-    let n : length (chain (c .loop .i) (records (a .samples .now))) ≡ c .loop .i * 2 = length-chain 2 _ (λ _. refl) (c .loop .i) in
-    (omega (arith, p .behind, n), put-length p (omega (arith, n, c .loop .inv .0, c .before .before .before .pre)))
+    chain-laid 2 (records (a .samples .now)) (λ _. refl) (c .loop .i) (c .loop .inv .1) (omega (arith, c .loop .inv .0, c .before .before .before .pre))
 
 shared-slice-read-t11 : tie.Need-shared-slice-read-t11 Inv-loop μ-loop
 shared-slice-read-t11 c = omega arith

@@ -1,13 +1,13 @@
 -- `tape::lay::lay_tape` meets its contract. Assumes nothing.
-use mathlib.Core.Path.{_≡_, refl, ap, _∙_}
-use mathlib.Core.List.{List, _++_}
+use mathlib.Core.Path.{_≡_, refl}
+use mathlib.Core.List.{List}
 use Prim.Native.Nat.{ℕ, _+_, _*_, _≤_}
 use native.Mathlib.Omega.{arith}
 use lib.IntN.{ℤ}
 use lib.ListN.{length, getD}
 use Rattle.model.specs.declared.Entry.{Entry}
 use Rattle.model.specs.Lists.{at, chain}
-use Rattle.model.specs.Tape.{encoded, tapeOf}
+use Rattle.model.specs.Tape.{encoded}
 use Rattle.model.proofs.Lists.{length-chain}
 use Rattle.tape.proofs.Offsets.{tape-length, assembled}
 use borrow.Author.Needs.{needs}

@@ -1,5 +1,4 @@
 -- `tape::put::put_code` meets its contract. Assumes nothing.
-use Prim.Native.Nat.{ℕ, _+_, _*_, _/_, _%_}
 use native.Mathlib.Omega.{arith}
 use Rattle.tape.proofs.Sequences.{put-then}
 use borrow.Author.Needs.{needs}

@@ -1,7 +1,6 @@
 -- `tape::put::put_number` meets its contract. Assumes nothing.
 use mathlib.Core.Path.{subst}
 use mathlib.Core.List.{_∷_}
-use Prim.Native.Nat.{ℕ, _+_, _*_, _/_, _%_}
 use native.Mathlib.Omega.{arith}
 use lib.IntN.{ℤ}
 use mir.Facts.{toZ-ofZ}

@@ -1,7 +1,7 @@
 -- `tape::put::put_two` meets its contract. Assumes nothing.
 use mathlib.Core.Path.{_≡_, subst}
 use mathlib.Core.List.{[], _∷_}
-use Prim.Native.Nat.{ℕ, _+_, _*_, _/_, _%_}
+use Prim.Native.Nat.{ℕ, _/_, _%_}
 use native.Mathlib.Omega.{arith}
 use Rattle.tape.proofs.Sequences.{put-then}
 use Rattle.tape.specs.Places.{Put}

@@ -1,5 +1,5 @@
 -- `tape::reading::read` meets its contract. Assumes nothing.
-use mathlib.Core.Path.{_≡_, sym, _∙_}
+use mathlib.Core.Path.{sym, _∙_}
 use Rattle.tape.proofs.Judged.{scanned-refused, refused-reading, answer-by, samples-by, flow-by}
 use borrow.Author.Needs.{needs}
 use Rattle.tape.proofs.reading.read.Statement.{statement}

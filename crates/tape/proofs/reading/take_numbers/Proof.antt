@@ -5,7 +5,6 @@ use native.Mathlib.Omega.{arith}
 use borrow.Author.Needs.{needs}
 use lib.ListN.{length, getD}
 use Rattle.model.specs.Tape.{turned}
-use Rattle.tape.specs.declared.tally.Tally.{Tally}
 use Rattle.tape.proofs.Judged.{answer-by, samples-by, flow-by}
 use Rattle.tape.proofs.Passed.{firstOn, room, beyond, left}
 use Rattle.tape.proofs.reading.take_numbers.Statement.{statement}

@@ -1,6 +1,5 @@
 -- `tape::record::whole_record` meets its contract. Assumes nothing.
 use mathlib.Core.Path.{_≡_, ap, sym, _∙_}
-use mathlib.Core.Bool.{Bool}
 use Prim.Native.Nat.{ℕ, _+_, _≤_}
 use native.Mathlib.Omega.{arith}
 use borrow.Author.Needs.{needs}
@@ -12,7 +11,7 @@ use Rattle.model.specs.Verdict.{firstRefusal, decided}
 use Rattle.model.specs.Tape.{bodyLength, decoded}
 use Rattle.model.proofs.Refusals.{accepted-row}
 use Rattle.tape.specs.declared.record.Got.{Got}
-use Rattle.tape.specs.Record.{bodyRows, recordAt, wholeAt}
+use Rattle.tape.specs.Record.{bodyRows, recordAt}
 use Rattle.tape.proofs.record.whole_record.Statement.{statement}
 use Rattle.tape.proofs.record.whole_record.Tie as tie
 

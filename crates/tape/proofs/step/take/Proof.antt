@@ -1,10 +1,8 @@
 -- `tape::step::take` meets its contract. Assumes nothing.
 use mathlib.Core.Path.{_≡_, sym, ap, _∙_}
 use borrow.Author.Needs.{needs}
-use native.Mathlib.Omega.{arith}
 use Rattle.model.specs.declared.Entry.{Entry}
 use Rattle.model.proofs.Refusals.{accepted}
-use Rattle.tape.specs.declared.tally.Tally.{Tally}
 use Rattle.tape.specs.Step.{settled}
 use Rattle.tape.proofs.Rows.{settles}
 use Rattle.tape.proofs.step.take.Statement.{statement}

@@ -1,16 +1,15 @@
 -- `tape::step::take_size` meets its contract. Assumes nothing.
 use mathlib.Core.Path.{_≡_, sym, ap, ap₂, _∙_}
-use mathlib.Core.Bool.{Bool, true, false, not, _||_}
+use mathlib.Core.Bool.{true, not, _||_}
 use Prim.Native.Nat.{ℕ, _*_}
 use borrow.Author.Needs.{needs}
-use borrow.Author.Tests.{not-true, not-false}
+use borrow.Author.Tests.{not-false}
 use lib.Dec.{ltb}
 use lib.ListN.{length}
 use Rattle.model.specs.declared.Entry.{Entry}
 use Rattle.model.specs.Grid.{sizeAllowed, gridPairs}
 use Rattle.model.specs.Tape.{sized}
 use Rattle.model.proofs.Refusals.{accepted, refused, passed}
-use Rattle.tape.specs.declared.tally.Tally.{Tally}
 use Rattle.tape.specs.declared.step.Step.{Step}
 use Rattle.tape.proofs.Rows.{settles}
 use Rattle.tape.proofs.step.take_size.Statement.{statement}

@@ -1,8 +1,7 @@
 -- `tape::step::take_weight` meets its contract. Assumes nothing.
-use mathlib.Core.Path.{_≡_, sym, ap, _∙_}
-use mathlib.Core.Bool.{true, false, not}
+use mathlib.Core.Path.{sym, ap, _∙_}
+use mathlib.Core.Bool.{not}
 use borrow.Author.Needs.{needs}
-use borrow.Author.Tests.{not-true, not-false}
 use Rattle.model.specs.declared.Entry.{Entry}
 use Rattle.model.proofs.Refusals.{accepted, refused, passed}
 use Rattle.tape.proofs.Rows.{settles}

@@ -1,13 +1,13 @@
 -- `tape::writing::judge_flow` meets its contract: it goes down the rows. Assumes nothing.
 use mathlib.Core.Path.{_≡_, sym, ap, _∙_}
-use mathlib.Core.Bool.{not, _&&_, true, false}
-use Prim.Native.Nat.{ℕ, _+_, _*_}
+use mathlib.Core.Bool.{not, _&&_}
+use Prim.Native.Nat.{ℕ}
 use native.Mathlib.Omega.{arith}
 use lib.Dec.{eqb, ltb}
 use lib.ListN.{length}
 use borrow.Author.Tests.{lt-ltb, le-ltb}
 use Rattle.model.specs.declared.Verdict.{Verdict}
-use Rattle.model.specs.Calls.{pairsOf, firstBeyond}
+use Rattle.model.specs.Calls.{pairsOf}
 use Rattle.model.proofs.Refusals.{accepted, refused, passed}
 use Rattle.terms.proofs.Size.{allowed-size}
 use borrow.Author.Needs.{needs}

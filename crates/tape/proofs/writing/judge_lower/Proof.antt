@@ -1,9 +1,6 @@
 -- `tape::writing::judge_lower` meets its contract: it goes down the rows. Assumes nothing.
 use mathlib.Core.Path.{_≡_, sym, ap, _∙_}
-use mathlib.Core.Bool.{not, true, false}
-use Prim.Native.Nat.{ℕ}
-use native.Mathlib.Omega.{arith}
-use lib.Dec.{eqb}
+use mathlib.Core.Bool.{not, false}
 use borrow.Author.Tests.{not-true, not-false, eq-eqb, ne-eqb}
 use Rattle.model.specs.Calls.{pixelsOf}
 use Rattle.model.proofs.Refusals.{refused, passed}

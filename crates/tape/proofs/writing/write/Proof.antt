@@ -1,7 +1,6 @@
 -- `tape::writing::write` meets its contract. Assumes nothing.
-use mathlib.Core.Path.{_≡_, sym, ap, _∙_}
+use mathlib.Core.Path.{sym, ap, _∙_}
 use Prim.Native.Nat.{ℕ}
-use Rattle.model.specs.Tape.{WriteAnswer}
 use Rattle.tape.proofs.WriteRows.{accepted-write, written-answer, written-output}
 use borrow.Author.Needs.{needs}
 use Rattle.tape.proofs.writing.write.Statement.{statement}

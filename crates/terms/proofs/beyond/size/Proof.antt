@@ -3,10 +3,10 @@ use mathlib.Core.Path.{_≡_, ap, sym, _∙_}
 use Prim.Native.Nat.{ℕ, suc, _^_, _<_}
 use native.Mathlib.Omega.{arith}
 use lib.IntN.{ℤ, pos, negsuc, natAbs, _-ℤ_}
+use Rattle.integers.proofs.Ring.{zero--ℤ}
 use mir.Syntax.{w32, w64}
 use mir.Val.{toZ, ofZ}
 use mir.Facts.{toZ-ofZ}
-use Rattle.integers.proofs.Ring.{zero--ℤ}
 use Rattle.terms.proofs.Signed.{wide-fits, wide-is, negative, natural, natural-fits, natural-is, unsigned-cast}
 use Rattle.terms.proofs.beyond.size.Statement.{statement}
 use Rattle.terms.proofs.beyond.size.Tie as tie
