@@ -26,9 +26,9 @@ use Rattle.raster.proofs.Model.{value-at}
 use Rattle.calls.specs.Ready.{Allowed}
 
 module _ (t : Terms) (samples : List ℕ) where
-  pub with-bytes : Allowed t → ((i : ℕ) → getD samples i 0 < 256) → Bounds.Allowed t samples
-  with-bytes a bytes =
-      record { size = a .size; weight = a .weight; box = a .box; high-byte = a .high-byte; bytes = λ i. omega (arith, bytes i) }
+  pub with-bytes : Allowed t → t .high < 256 → ((i : ℕ) → getD samples i 0 < 256) → Bounds.Allowed t samples
+  with-bytes a high bytes =
+      record { size = a .size; weight = a .weight; box = a .box; high-byte = omega arith; bytes = λ i. omega (arith, bytes i) }
 
   -- a flow within the weight
   pub flow-most : (flow : List ℤ) → length flow ≡ pairsOf t → weightAllowed (t .weight) ≡ true → Feasible (grid t samples) (at flow) → Within (2 ^ 20) flow

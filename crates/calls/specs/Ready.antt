@@ -2,7 +2,7 @@
 use mathlib.Core.Path.{_≡_}
 use mathlib.Core.Bool.{true}
 use mathlib.Core.List.{List}
-use Prim.Native.Nat.{ℕ, _≤_}
+use Prim.Native.Nat.{ℕ}
 use lib.IntN.{ℤ}
 use lib.ListN.{length}
 use Rattle.model.specs.declared.Terms.{Terms}
@@ -11,12 +11,11 @@ use Rattle.model.specs.Problem.{Feasible, InBox}
 use Rattle.model.specs.Grid.{sizeAllowed, weightAllowed, boxAllowed, grid}
 use Rattle.model.specs.Calls.{pixelsOf, pairsOf, imageOf}
 
--- allowed terms of bytes
+-- allowed terms
 pub record Allowed (t : Terms) : Type 0 where
   pub size : sizeAllowed (t .width) (t .height) ≡ true
   pub weight : weightAllowed (t .weight) ≡ true
   pub box : boxAllowed (t .low) (t .high) ≡ true
-  pub high-byte : t .high ≤ 255
 
 -- price: an image of the box
 pub record PriceReady (t : Terms) (samples : List ℕ) (values : List ℤ) : Type 0 where

@@ -1,16 +1,17 @@
 // Where each call turns back: the rows of document 01's table, from the top.
 
-use model::Rounds;
 use model::Terms;
 use model::Verdict;
+use raster::leaf;
+use raster::pixels::first_outside;
 ghost use Prim.Native.Nat.{_*_};
 ghost use mathlib.Core.Path.{_≡_};
 ghost use mathlib.Core.Bool.{not};
 ghost use mathlib.Core.List.{[], _∷_};
-ghost use lib.Dec.{eqb};
+ghost use lib.Dec.{eqb, ltb};
 ghost use lib.ListN.{length};
 ghost use Rattle.model.specs.Verdict.{row, firstRefusal, decided};
-ghost use Rattle.model.specs.Calls.{pixelsOf, pairsOf, sizeRow, weightRow, boxRow, roundsRow, flowRow};
+ghost use Rattle.model.specs.Calls.{pixelsOf, pairsOf, sizeRow, weightRow, boxRow, flowRow, imageRow};
 
 // The first of two verdicts that refuses.
 fn first(upper: Verdict, lower: Verdict) -> Verdict
@@ -60,4 +61,70 @@ pub fn judge_check(t: Terms, samples: usize, flow: &[i32], image: usize) -> Verd
         first(exact(flow.len(), m, 5), exact(image, n, 6)),
     );
     first(lengths, judge_flow(flow, t.weight))
+}
+
+// 9: an image value outside the box, at the first index.
+fn judge_image(image: &[i32], t: Terms) -> Verdict
+    ensures { λ r. ⌜ r ≡ firstRefusal (imageRow t (now (image .entry)) ∷ []) ⌝ }
+{
+    let place = first_outside(image, leaf::low_end(t.low), leaf::high_end(t.high));
+    if place < image.len() {
+        Verdict::Refuse { number: 9, place }
+    } else {
+        Verdict::Accept
+    }
+}
+
+// Price: 1, 2, 3; 4, 6; 9.
+pub fn judge_price(t: Terms, samples: usize, image: &[i32]) -> Verdict
+    ensures { λ r. ⌜ r ≡ firstRefusal (sizeRow t 0 ∷ weightRow t 0 ∷ boxRow t 0 ∷ row (not (eqb samples (pixelsOf t))) 4 0 ∷ row (not (eqb (length (now (image .entry))) (pixelsOf t))) 6 0 ∷ imageRow t (now (image .entry)) ∷ []) ⌝ }
+{
+    let terms = terms::judge_terms(t);
+    let Verdict::Accept = terms else {
+        return terms;
+    };
+    let n = terms::pixels(t.width, t.height);
+    let lengths = first(exact(samples, n, 4), exact(image.len(), n, 6));
+    first(lengths, judge_image(image, t))
+}
+
+// 10: quick rounds over 4,096.
+fn judge_rounds(quick: u32) -> Verdict
+    ensures { λ r. ⌜ r ≡ firstRefusal (row (ltb 4096 quick) 10 0 ∷ []) ⌝ }
+{
+    if terms::quick_allowed(quick) {
+        Verdict::Accept
+    } else {
+        Verdict::Refuse {
+            number: 10,
+            place: 0,
+        }
+    }
+}
+
+// Run: 1, 2, 3; 10; 4, 5, 6, 7. Of its buffers only the lengths count.
+pub fn judge_run(
+    t: Terms,
+    quick: u32,
+    samples: usize,
+    flow: usize,
+    image: usize,
+    work: usize,
+) -> Verdict
+    ensures { λ r. ⌜ r ≡ firstRefusal (sizeRow t 0 ∷ weightRow t 0 ∷ boxRow t 0 ∷ row (ltb 4096 quick) 10 0 ∷ row (not (eqb samples (pixelsOf t))) 4 0 ∷ row (not (eqb flow (pairsOf t))) 5 0 ∷ row (not (eqb image (pixelsOf t))) 6 0 ∷ row (not (eqb work (2 * pairsOf t))) 7 0 ∷ []) ⌝ }
+{
+    let terms = terms::judge_terms(t);
+    let Verdict::Accept = terms else {
+        return terms;
+    };
+    let n = terms::pixels(t.width, t.height);
+    let m = terms::pairs(t.width, t.height);
+    let lengths = first(
+        exact(samples, n, 4),
+        first(
+            exact(flow, m, 5),
+            first(exact(image, n, 6), exact(work, 2 * m, 7)),
+        ),
+    );
+    first(judge_rounds(quick), lengths)
 }

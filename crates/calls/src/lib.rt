@@ -4,3 +4,5 @@ pub mod answer;
 pub mod check;
 pub mod figures;
 pub mod judge;
+pub mod price;
+pub mod run;

@@ -59,6 +59,18 @@ unfolding total
 constant zero w = ap pos (omega arith)
 constant (suc m) w = ap (λ (s : ℤ). s +ℤ pos w) (constant m w) ∙ ap pos (omega arith)
 
+-- a run ends with a flow within the weights
+pub ending-flow : (t : Terms) (r : Rounds) (samples : List ℕ) → boxAllowed (t .low) (t .high) ≡ true →
+    (length (ending t r samples .flow) ≡ pairCount (grid t samples)) × Feasible (grid t samples) (at (ending t r samples .flow))
+unfolding ending quickFlow
+ending-flow t r samples box =
+    let p : Problem = grid t samples in
+    let e =
+    steady-ends eighth p (grid-sound t samples box) 4 8 7 eighth-rounding (λ i _. degree-at-most-4 t samples i) (r .allowance)
+    (quickRounds eighth p (r .quick) .iterate) (quick-size eighth p (r .quick)) (quick-feasible eighth p (r .quick))
+    in
+    (e .size, e .feasible)
+
 -- Run: whatever the scan and the rounds
 pub run-demand : (t : Terms) (r : Rounds) (samples : List ℕ) → boxAllowed (t .low) (t .high) ≡ true → RunDemand t r samples
 unfolding ending quickFlow
@@ -70,9 +82,7 @@ run-demand t r samples box =
     let within = quick-feasible eighth p (r .quick) in
     let degrees : (i : ℕ) → i < p .pixels → degree p i ≤ 4 = λ i _. degree-at-most-4 t samples i in
     record {
-      certificate =
-          certificate p sound (at (ending t r samples .flow))
-          (steady-ends eighth p sound 4 8 7 eighth-rounding degrees (r .allowance) start size within .feasible);
+      certificate = certificate p sound (at (ending t r samples .flow)) (ending-flow t r samples box .1);
       moved = moved-bound eighth p sound 4 8 7 eighth-rounding degrees (r .allowance) start size within;
       settled =
           λ e.

@@ -2,7 +2,8 @@
 use mathlib.Core.Path.{_≡_, refl, sym, ap, ap₂, _∙_}
 use mathlib.Core.Bool.{Bool, true, false}
 use mathlib.Core.List.{List, [], _∷_, _++_}
-use Prim.Native.Nat.{ℕ}
+use Prim.Native.Nat.{ℕ, _<_}
+use native.Mathlib.Omega.{arith}
 use Rattle.model.specs.Verdict.{Verdict, Accept, Refuse, Row, orElse, firstRefusal, decided}
 
 pub accepted : firstRefusal [] ≡ Accept
@@ -55,3 +56,19 @@ module _ (upper lower : List Row) where
   -- the first of two verdicts that refuses is that of their rows, one after the other
   pub joined : {v a b : Verdict} → v ≡ decided a b Refuse → a ≡ firstRefusal upper → b ≡ firstRefusal lower → v ≡ firstRefusal (upper ++ lower)
   joined e f g = e ∙ ap₂ (λ (x y : Verdict). decided x y Refuse) f g ∙ sym (firstRefusal-append upper lower)
+
+-- ---- no row has the number 0, so a refusal is never taken for an acceptance
+
+abbrev pub Numbered : List Row → Type 0
+Numbered [] = Unit {0}
+Numbered (r ∷ rows) = (0 < r .number) × Numbered rows
+
+pub refused-number : (rows : List Row) → Numbered rows → {n p : ℕ} → firstRefusal rows ≡ Refuse n p → 0 < n
+unfolding firstRefusal
+refused-number [] h e = let z : _≡_ {A = ℕ} 0 1 = cc in absurd (omega arith)
+refused-number (r ∷ rows) h {n} {p} e = split (r .applies) e (refused-number rows (h .1))
+  where
+    split : (t : Bool) → orElse t (Refuse (r .number) (r .place)) (firstRefusal rows) ≡ Refuse n p →
+        (firstRefusal rows ≡ Refuse n p → 0 < n) → 0 < n
+    split true k ih = let same : r .number ≡ n = cc in omega (arith, h .0)
+    split false k ih = ih k

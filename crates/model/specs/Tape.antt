@@ -79,6 +79,14 @@ decoded kind b =
 
 -- ---- The order allowed
 
+-- terms of this size alone, and terms with this weight and this box
+abbrev pub sized : ℕ → ℕ → Terms
+sized w h = record { width = w; height = h; weight = 0; low = 0; high = 0 }
+
+abbrev pub weighted : Terms → ℕ → ℕ → ℕ → Terms
+weighted t weight low high =
+    record { width = t .width; height = t .height; weight = weight; low = low; high = high }
+
 -- What has been read so far: how many of the records 1, 2, 3 (the header), their numbers, the samples, the flow numbers
 pub record Progress : Type 0 where
   pub header : ℕ
@@ -91,26 +99,30 @@ abbrev pub nothing : Progress
 nothing =
     record {
       header = 0;
-      terms = record { width = 0; height = 0; weight = 0; low = 0; high = 0 };
+      terms = sized 0 0;
       rounds = record { quick = 0; allowance = 0 };
       samples = [];
       flow = [];
     }
 
--- Order: 1, 2, 3, all samples, then all flow numbers or none, then 0
-unfoldable pub allowed : Progress → ℕ → Bool
-allowed p kind =
-    let sampled : Bool = eqb (p .header) 3 && eqb (length (p .samples)) (pixelsOf (p .terms)) in
+-- Order: 1, 2, 3, all samples, then all flow numbers or none, then 0. So this kind may come where `header` of the records
+-- 1, 2, 3, `samples` of all `pixels` samples and `flows` of all `pairs` flow numbers have been read
+unfoldable pub allowedAfter : (header samples pixels flows pairs kind : ℕ) → Bool
+allowedAfter header samples pixels flows pairs kind =
+    let sampled : Bool = eqb header 3 && eqb samples pixels in
     getD
-    ((sampled && (eqb (length (p .flow)) 0 || eqb (length (p .flow)) (pairsOf (p .terms))))
-    ∷ eqb (p .header) 0
-    ∷ eqb (p .header) 1
-    ∷ eqb (p .header) 2
-    ∷ (eqb (p .header) 3 && ltb (length (p .samples)) (pixelsOf (p .terms)))
-    ∷ (sampled && ltb (length (p .flow)) (pairsOf (p .terms)))
+    ((sampled && (eqb flows 0 || eqb flows pairs))
+    ∷ eqb header 0
+    ∷ eqb header 1
+    ∷ eqb header 2
+    ∷ (eqb header 3 && ltb samples pixels)
+    ∷ (sampled && ltb flows pairs)
     ∷ [])
     kind
     false
+
+abbrev pub allowed : Progress → ℕ → Bool
+allowed p = allowedAfter (p .header) (length (p .samples)) (pixelsOf (p .terms)) (length (p .flow)) (pairsOf (p .terms))
 
 -- what has been read once this record has been, too
 abbrev pub absorbed : Progress → Entry → Progress
@@ -118,7 +130,7 @@ absorbed p End = p
 absorbed p (Size w h) =
     record {
       header = 1;
-      terms = record { width = w; height = h; weight = 0; low = 0; high = 0 };
+      terms = sized w h;
       rounds = p .rounds;
       samples = p .samples;
       flow = p .flow;
@@ -126,7 +138,7 @@ absorbed p (Size w h) =
 absorbed p (WeightBox weight low high) =
     record {
       header = 2;
-      terms = record { width = p .terms .width; height = p .terms .height; weight = weight; low = low; high = high };
+      terms = weighted (p .terms) weight low high;
       rounds = p .rounds;
       samples = p .samples;
       flow = p .flow;
@@ -158,29 +170,31 @@ absorbed p (Flow f) =
 
 -- ---- Where reading turns back
 
--- Per record at offset o: 12 unknown kind; 14 kind not allowed here; 13 the input ends before the record does; 15 a byte
--- after the end. Where the input ends and a record is due there is no kind to judge: that 13 stands first
-unfoldable pub recordRows : List ℕ → ℕ → Progress → List Row
-recordRows tape o p =
+-- Per record at offset o, where `may` tells which kinds are allowed: 12 unknown kind; 14 kind not allowed here; 13 the
+-- input ends before the record does; 15 a byte after the end. Where the input ends and a record is due there is no kind
+-- to judge: that 13 stands first
+unfoldable pub recordRows : List ℕ → ℕ → (ℕ → Bool) → List Row
+recordRows tape o may =
     let kind : ℕ = getD tape o 0 in
     row (leb (length tape) o) 13 (length tape)
     ∷ row (not (known kind)) 12 o
-    ∷ row (not (allowed p kind)) 14 o
+    ∷ row (not (may kind)) 14 o
     ∷ row (ltb (length tape) (o + 1 + bodyLength kind)) 13 (length tape)
     ∷ row (eqb kind 0 && ltb (o + 1) (length tape)) 15 (o + 1)
     ∷ []
 
 -- Terms are judged at their record, whose offset is the place; 16 right after 1, for all samples and all pairs, at place 0
-abbrev pub entryRows : ℕ → ℕ → ℕ → Progress → Entry → List Row
-entryRows o samplesLent flowLent p End = []
-entryRows o samplesLent flowLent p (Size w h) =
-    sizeRow (p .terms) o
-    ∷ row (ltb samplesLent (pixelsOf (p .terms)) || ltb flowLent (pairsOf (p .terms))) 16 0
+abbrev pub entryRows : ℕ → ℕ → ℕ → Entry → List Row
+entryRows o samplesLent flowLent End = []
+entryRows o samplesLent flowLent (Size w h) =
+    sizeRow (sized w h) o
+    ∷ row (ltb samplesLent (pixelsOf (sized w h)) || ltb flowLent (pairsOf (sized w h))) 16 0
     ∷ []
-entryRows o samplesLent flowLent p (WeightBox weight low high) = weightRow (p .terms) o ∷ boxRow (p .terms) o ∷ []
-entryRows o samplesLent flowLent p (RoundLimits q a) = roundsRow (p .rounds) o ∷ []
-entryRows o samplesLent flowLent p (Sample s) = []
-entryRows o samplesLent flowLent p (Flow f) = []
+entryRows o samplesLent flowLent (WeightBox weight low high) =
+    weightRow (weighted (sized 0 0) weight low high) o ∷ boxRow (weighted (sized 0 0) weight low high) o ∷ []
+entryRows o samplesLent flowLent (RoundLimits q a) = roundsRow (record { quick = q; allowance = a }) o ∷ []
+entryRows o samplesLent flowLent (Sample s) = []
+entryRows o samplesLent flowLent (Flow f) = []
 
 -- ---- Reading
 
@@ -199,13 +213,12 @@ readFrom zero tape samplesLent flowLent o p = turned 13 (length tape)
 readFrom (suc k) tape samplesLent flowLent o p =
     let kind : ℕ = getD tape o 0 in
     let entry : Entry = decoded kind (λ i. getD tape (o + 1 + i) 0) in
-    let next : Progress = absorbed p entry in
-    elim (firstRefusal (recordRows tape o p ++ entryRows o samplesLent flowLent next entry)) [
+    elim (firstRefusal (recordRows tape o (allowed p) ++ entryRows o samplesLent flowLent entry)) [
       | Refuse number place ↦ turned number place
       | Accept ↦
           elim (eqb kind 0) [
             | true ↦ whole p
-            | false ↦ readFrom k tape samplesLent flowLent (o + 1 + bodyLength kind) next
+            | false ↦ readFrom k tape samplesLent flowLent (o + 1 + bodyLength kind) (absorbed p entry)
           ]
     ]
 
@@ -284,18 +297,21 @@ tapeOf t r samples numbers =
     ++ chain (length numbers) (λ j. encoded (Flow (at numbers j)))
     ++ encoded End
 
-unfoldable pub writeVerdict : Terms → Rounds → List ℕ → List ℤ → List ℕ → Verdict
-writeVerdict t r samples numbers output =
-    firstRefusal
-    (sizeRow t 0
+-- Where write turns back, `room` being its output's length: 16 after the other lengths, 8 last
+abbrev pub writeRows : Terms → Rounds → List ℕ → List ℤ → ℕ → List Row
+writeRows t r samples numbers room =
+    sizeRow t 0
     ∷ weightRow t 0
     ∷ boxRow t 0
     ∷ roundsRow r 0
     ∷ lengthRow 4 samples (pixelsOf t)
     ∷ row (not (eqb (length numbers) 0) && not (eqb (length numbers) (pairsOf t))) 5 0
-    ∷ row (ltb (length output) (length (tapeOf t r samples numbers))) 16 0
+    ∷ row (ltb room (length (tapeOf t r samples numbers))) 16 0
     ∷ flowRow (t .weight) numbers
-    ∷ [])
+    ∷ []
+
+unfoldable pub writeVerdict : Terms → Rounds → List ℕ → List ℤ → List ℕ → Verdict
+writeVerdict t r samples numbers output = firstRefusal (writeRows t r samples numbers (length output))
 
 -- What write gives: the byte count. Accepted: number and place are 0. Refused: zeros but for number and place
 pub record WriteAnswer : Type 0 where

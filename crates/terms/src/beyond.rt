@@ -16,7 +16,7 @@ fn size(value: i32) -> u32
     }
 }
 
-fn beyond(value: i32, weight: u32) -> bool
+pub fn is_beyond(value: i32, weight: u32) -> bool
     ensures { λ r. ⌜ r ≡ ltb weight (natAbs value) ⌝ }
 {
     weight < size(value)
@@ -28,7 +28,7 @@ pub fn first_beyond(flow: &[i32], weight: u32) -> usize
 {
     let mut i = 0;
     while i < flow.len() {
-        if beyond(flow[i], weight) {
+        if is_beyond(flow[i], weight) {
             return i;
         }
         i += 1;

@@ -6,6 +6,7 @@ mod limits;
 mod verdict;
 
 pub use beyond::first_beyond;
+pub use beyond::is_beyond;
 pub use counts::pairs;
 pub use counts::pixels;
 pub use limits::box_allowed;

@@ -1,7 +1,6 @@
 -- `calls::check::check` meets its contract. Assumes nothing.
 use mathlib.Core.Path.{_≡_, sym, ap, ap₂, _∙_}
 use Prim.Native.Nat.{_*_}
-use native.Mathlib.Omega.{arith}
 use borrow.Author.Needs.{needs}
 use lib.IntN.{ℤ}
 use mir.Syntax.{w32, w64}
@@ -97,7 +96,7 @@ of-flow-requires c κs =
     let e = i .before .before .before .before .before .before in
     let a = facts e in
     record {
-      allowed = record { size = a .terms .size; weight = a .terms .weight; box = a .terms .box; high-byte = omega (arith, i .before .struct-known2 .given .1 .1 .1 .1 .0 .fits) };
+      allowed = record { size = a .terms .size; weight = a .terms .weight; box = a .terms .box };
       samples-length = a .samples-length;
       flow-length = a .flow-length;
       feasible = a .feasible;

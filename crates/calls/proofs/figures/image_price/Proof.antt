@@ -22,18 +22,18 @@ cast-total-variation-grid c = search needs
 cast-total-variation-grid-2 : tie.Need-cast-total-variation-grid-2
 cast-total-variation-grid-2 c = search needs
 
-allowed : (c : tie.After-shared-slice-known) → Bounds.Allowed (c .before .args .t) (c .before .args .samples .now)
-allowed c = with-bytes _ _ (c .before .pre .allowed) (λ i. omega (arith, c .shared-slice-known .given i))
+allowed : (c : tie.After-struct-known) → Bounds.Allowed (c .before .before .args .t) (c .before .before .args .samples .now)
+allowed c = with-bytes _ _ (c .before .before .pre .allowed) (c .struct-known .given .1 .1 .1 .1 .0 .fits) (λ i. omega (arith, c .before .shared-slice-known .given i))
 
 total-variation-grid-requires : tie.Need-total-variation-grid-requires
 total-variation-grid-requires c κs =
     let s = c .before .before .before in
-    raster-limits _ _ (allowed (c .before .before)) (s .args .image .now) (s .pre .image-length) (s .pre .inside)
+    raster-limits _ _ (allowed (c .before)) (s .args .image .now) (s .pre .image-length) (s .pre .inside)
 
 misfit-requires : tie.Need-misfit-requires
 misfit-requires c κs =
     let s = c .before .before .before .before in
-    misfit-limits _ _ (allowed (c .before .before .before)) (s .args .image .now) (s .pre .image-length) (s .pre .inside) (s .pre .samples-length)
+    misfit-limits _ _ (allowed (c .before .before)) (s .args .image .now) (s .pre .image-length) (s .pre .inside) (s .pre .samples-length)
 
 -- the two sums
 variation : (c : tie.After-total-variation-grid) → let s = c .before .before .before .before in
@@ -52,7 +52,7 @@ objective-requires c κs =
       arith,
       largest-fits,
       price-fits (s .args .t) (s .args .samples .now) (at (s .args .image .now)) (data-term c) (variation (c .before))
-          (allowed (c .before .before .before .before)) (s .pre .inside),
+          (allowed (c .before .before .before)) (s .pre .inside),
     )
 
 returns : tie.Need-returns

@@ -31,21 +31,21 @@ cast-w c = search needs
 cast-h : tie.Need-cast-h
 cast-h c = search needs
 
-allowed : (c : tie.After-shared-slice-known) → Bounds.Allowed (c .before .args .t) (c .before .args .samples .now)
-allowed c = with-bytes _ _ (c .before .pre .allowed) (λ i. omega (arith, c .shared-slice-known .given i))
+allowed : (c : tie.After-struct-known) → Bounds.Allowed (c .before .before .args .t) (c .before .before .args .samples .now)
+allowed c = with-bytes _ _ (c .before .before .pre .allowed) (c .struct-known .given .1 .1 .1 .1 .0 .fits) (λ i. omega (arith, c .before .shared-slice-known .given i))
 
 misfit-requires : tie.Need-misfit-requires
 misfit-requires c κs =
-    let k = c .before .before in
-    let s = k .before in
+    let k = c .before in
+    let s = k .before .before in
     let ok = allowed k in
     misfit-limits _ _ ok (s .args .image .now) (image-size _ _ ok (s .args .flow .now) (s .pre .flow-length) (s .pre .feasible) (s .pre .image))
     (image-inside-box _ _ ok (s .args .flow .now) (s .pre .flow-length) (s .pre .feasible) (s .pre .image)) (s .pre .samples-length)
 
 total-variation-grid-requires : tie.Need-total-variation-grid-requires
 total-variation-grid-requires c κs =
-    let k = c .before .before .before in
-    let s = k .before in
+    let k = c .before .before in
+    let s = k .before .before in
     work-limits _ _ (allowed k) (s .args .flow .now) (s .pre .flow-length) (s .pre .feasible) (s .pre .image) .raster
 
 -- the three sums
@@ -53,8 +53,8 @@ data-term : (c : tie.After-misfit) → let s = c .before .before .before .before
     let p = grid (s .args .t) (s .args .samples .now) in
     pos (c .misfit .result) ≡ misfit p (image p (at (s .args .flow .now)))
 data-term c =
-    let k = c .before .before .before in
-    let s = k .before in
+    let k = c .before .before in
+    let s = k .before .before in
     sized _ (c .misfit .ensures) (image-size _ _ (allowed k) (s .args .flow .now) (s .pre .flow-length) (s .pre .feasible) (s .pre .image))
     ∙ misfit-is (s .args .t) (s .args .samples .now) (s .args .flow .now) (s .pre .image)
 
@@ -68,8 +68,8 @@ variation c =
 priced : (c : tie.After-total-variation-grid) → let s = c .before .before .before .before .before in
     c .before .misfit .result + 2 * (s .args .t .weight * c .total-variation-grid .result) ≤ largest
 priced c =
-    let k = c .before .before .before .before in
-    let s = k .before in
+    let k = c .before .before .before in
+    let s = k .before .before in
     let p = grid (s .args .t) (s .args .samples .now) in
     price-fits (s .args .t) (s .args .samples .now) (image p (at (s .args .flow .now))) (data-term (c .before)) (variation c) (allowed k)
     (image-inside (s .args .t) (s .args .samples .now) (allowed k) (at (s .args .flow .now)))
@@ -79,8 +79,8 @@ objective-requires c κs = omega (arith, largest-fits, priced c)
 
 total-work-grid-requires : tie.Need-total-work-grid-requires
 total-work-grid-requires c κs =
-    let k = c .before .before .before .before .before in
-    let s = k .before in
+    let k = c .before .before .before .before in
+    let s = k .before .before in
     work-limits _ _ (allowed k) (s .args .flow .now) (s .pre .flow-length) (s .pre .feasible) (s .pre .image)
 
 work : (c : tie.After-total-work-grid) → let s = c .before .before .before .before .before .before .before in
@@ -95,8 +95,8 @@ work c =
 dual-requires : tie.Need-dual-requires
 dual-requires c κs =
     let v = c .before .before in
-    let k = v .before .before .before .before in
-    let s = k .before in
+    let k = v .before .before .before in
+    let s = k .before .before in
     omega (arith, lit, priced v, floor-fits (s .args .t) (s .args .samples .now) (at (s .args .flow .now)) (data-term (v .before)) (work c) (allowed k) (s .pre .feasible) (omega (arith, priced v)))
   where
     lit : 3 * largest < 2 ^ 63
@@ -123,8 +123,8 @@ dual c =
 gap-requires : tie.Need-gap-requires
 gap-requires c κs =
     let o = c .before .before in
-    let k = o .before .before .before .before .before in
-    let s = k .before in
+    let k = o .before .before .before .before in
+    let s = k .before .before in
     let ok = allowed k in
     let p = grid (s .args .t) (s .args .samples .now) in
     let f = at (s .args .flow .now) in

@@ -1,71 +1,38 @@
--- `terms::beyond::size` meets its contract: a signed local is its bits, and reading them back gives the number. Assumes nothing.
-use mathlib.Core.Path.{_≡_, sym, ap, _∙_, subst, subst⁻¹}
-use mathlib.Core.Bool.{true, false, true≢false}
-use Prim.Native.Nat.{zero, suc, zero-le}
+-- `terms::beyond::size` meets its contract. Assumes nothing.
+use mathlib.Core.Path.{_≡_, ap, sym, _∙_}
+use Prim.Native.Nat.{ℕ, suc, _^_, _<_}
 use native.Mathlib.Omega.{arith}
-use lib.IntN.{ℤ, pos, negsuc, natAbs, negℤ, _-ℤ_}
-use lib.Dec.{T, lit<}
-use lib.Signed.{nonNeg, ltZ}
-use mir.Syntax.{w32, w64}
-use mir.Val.{SFits, Fits, toZ, ofZ}
-use mir.Facts.{sfits-widen, toZ-ofZ}
-use borrow.Author.Tests.{le-ltb}
+use lib.IntN.{ℤ, pos, negsuc, natAbs, _-ℤ_}
 use Rattle.integers.proofs.Ring.{zero--ℤ}
-use Rattle.integers.proofs.Absolute.{natAbs-neg}
+use mir.Syntax.{w32, w64}
+use mir.Val.{toZ, ofZ}
+use mir.Facts.{toZ-ofZ}
+use Rattle.terms.proofs.Signed.{wide-fits, wide-is, negative, natural, natural-fits, natural-is, unsigned-cast}
 use Rattle.terms.proofs.beyond.size.Statement.{statement}
 use Rattle.terms.proofs.beyond.size.Tie as tie
 
-module _ (z : ℤ) (f : SFits w32 z) where
-  -- z widened to 64 bits, as it is read back
-  wide-is : toZ w64 (ofZ w64 (toZ w32 (ofZ w32 z))) ≡ z
-  wide-is = ap (λ (y : ℤ). toZ w64 (ofZ w64 y)) (toZ-ofZ f) ∙ toZ-ofZ {w = w64} (sfits-widen tt f)
-
-  opposite-fits : SFits w64 (negℤ z)
-  opposite-fits = go z f
-    where
-      go : (z : ℤ) → SFits w32 z → SFits w64 (negℤ z)
-      go (pos zero) h = record { sfits = lit< tt }
-      go (pos (suc n)) h = record { sfits = omega (arith, h .sfits) }
-      go (negsuc n) h = record { sfits = omega (arith, h .sfits) }
-
-  opposite : pos 0 -ℤ toZ w64 (ofZ w64 (toZ w32 (ofZ w32 z))) ≡ negℤ z
-  opposite = ap (λ (y : ℤ). pos 0 -ℤ y) wide-is ∙ zero--ℤ z
-
-  opposite-is : toZ w64 (ofZ w64 (pos 0 -ℤ toZ w64 (ofZ w64 (toZ w32 (ofZ w32 z))))) ≡ negℤ z
-  opposite-is = ap (λ (y : ℤ). toZ w64 (ofZ w64 y)) opposite ∙ toZ-ofZ {w = w64} opposite-fits
-
--- the casts to an unsigned number
-below-zero : (z : ℤ) → SFits w32 z → ltZ z (pos 0) ≡ true → T (nonNeg (negℤ z)) × Fits w32 (natAbs (negℤ z))
-below-zero (pos n) f h = absurd (true≢false (sym h ∙ le-ltb n 0 zero-le))
-below-zero (negsuc n) f h = (tt, record { fits = omega (arith, f .sfits) })
-
-from-zero : (z : ℤ) → SFits w32 z → ltZ z (pos 0) ≡ false → T (nonNeg z) × Fits w32 (natAbs z)
-from-zero (pos n) f h = (tt, record { fits = omega (arith, f .sfits) })
-from-zero (negsuc n) f h = absurd (true≢false h)
+-- 0 − value, where the value is negative
+opposite : (c : tie.Then1) → let z : ℤ = c .before .args .value in (n : ℕ) × (n < 2 ^ 31) × (z ≡ negsuc n) × (pos 0 -ℤ toZ w64 (ofZ w64 (toZ w32 (ofZ w32 z))) ≡ pos (suc n))
+opposite c =
+    let (n, l, e) = negative (c .before .fits .value) (c .if1 .taken) in
+    (n, l, e, ap (λ (y : ℤ). pos 0 -ℤ y) (wide-is (c .before .fits .value) ∙ e) ∙ zero--ℤ (negsuc n))
 
 cast-result : tie.Need-cast-result
-cast-result c = subst⁻¹ (SFits w64) (toZ-ofZ (c .before .fits .value)) (sfits-widen tt (c .before .fits .value))
+cast-result c = wide-fits (c .before .fits .value)
 
 sub-result : tie.Need-sub-result
-sub-result c = subst⁻¹ (SFits w64) (opposite _ (c .before .fits .value)) (opposite-fits _ (c .before .fits .value))
+sub-result c = let (n, l, e, o) = opposite c in natural-fits o (omega arith)
 
 cast-result-2 : tie.Need-cast-result-2
-cast-result-2 c =
-    let v : ℤ = c .before .args .value in
-    let f : SFits w32 v = c .before .fits .value in
-    subst⁻¹ (λ (y : ℤ). T (nonNeg y) × Fits w32 (natAbs y)) (opposite-is v f)
-    (below-zero v f (subst (λ (y : ℤ). ltZ y (pos 0) ≡ true) (toZ-ofZ f) (c .if1 .taken)))
+cast-result-2 c = let (n, l, e, o) = opposite c in unsigned-cast (natural-is o (omega arith)) (omega arith)
 
 cast-result-3 : tie.Need-cast-result-3
 cast-result-3 c =
-    let v : ℤ = c .before .args .value in
-    let f : SFits w32 v = c .before .fits .value in
-    subst⁻¹ (λ (y : ℤ). T (nonNeg y) × Fits w32 (natAbs y)) (toZ-ofZ f)
-    (from-zero v f (subst (λ (y : ℤ). ltZ y (pos 0) ≡ false) (toZ-ofZ f) (c .if1 .left)))
+    let (n, l, e) = natural (c .before .fits .value) (c .if1 .left) in
+    unsigned-cast (toZ-ofZ (c .before .fits .value) ∙ e) (omega arith)
 
 returns : tie.Need-returns
-returns c =
-    ap natAbs (opposite-is _ (c .before .fits .value)) ∙ natAbs-neg (c .before .args .value)
+returns c = let (n, l, e, o) = opposite c in ap natAbs (natural-is o (omega arith)) ∙ ap natAbs (sym e)
 
 returns-2 : tie.Need-returns-2
 returns-2 c = ap natAbs (toZ-ofZ (c .before .fits .value))

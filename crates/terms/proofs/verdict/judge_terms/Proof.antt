@@ -1,6 +1,6 @@
 -- `terms::verdict::judge_terms` meets its contract: it goes down the rows. Assumes nothing.
 use mathlib.Core.Path.{_≡_, sym, ap, _∙_}
-use mathlib.Core.Bool.{true, false, not}
+use mathlib.Core.Bool.{not}
 use mathlib.Core.List.{List, [], _∷_}
 use borrow.Author.Needs.{needs}
 use Rattle.model.specs.Verdict.{Row, firstRefusal}

@@ -1,12 +1,12 @@
--- `terms::beyond::beyond` meets its contract. Assumes nothing.
+-- `terms::beyond::is_beyond` meets its contract. Assumes nothing.
 use mathlib.Core.Path.{ap, _∙_}
 use borrow.Author.Needs.{needs}
 use Prim.Native.Nat.{ℕ}
 use lib.Dec.{ltb}
 use lib.IntN.{natAbs}
 use mir.Facts.{toZ-ofZ}
-use Rattle.terms.proofs.beyond.beyond.Statement.{statement}
-use Rattle.terms.proofs.beyond.beyond.Tie as tie
+use Rattle.terms.proofs.beyond.is_beyond.Statement.{statement}
+use Rattle.terms.proofs.beyond.is_beyond.Tie as tie
 
 size-requires : tie.Need-size-requires
 size-requires c κs = search needs
@@ -16,5 +16,5 @@ returns c =
     ap (λ (n : ℕ). ltb (c .before .args .weight) n)
     (c .size .ensures ∙ ap natAbs (toZ-ofZ (c .before .fits .value)))
 
-pub beyond-spec : {M : Type 1} → statement M
-beyond-spec = tie.close (tie.spec size-requires returns)
+pub is-beyond-spec : {M : Type 1} → statement M
+is-beyond-spec = tie.close (tie.spec size-requires returns)

@@ -1,0 +1,56 @@
+-- `calls::price::price` meets its contract. Assumes nothing.
+use mathlib.Core.Path.{_≡_, sym, _∙_}
+use borrow.Author.Needs.{needs}
+use Rattle.model.specs.declared.Verdict.{Verdict}
+use Rattle.model.specs.Calls.{priceVerdict}
+use Rattle.calls.proofs.Verdicts.{price-accepts, price-answers, price-refuses}
+use Rattle.calls.proofs.price.price.Statement.{statement}
+use Rattle.calls.proofs.price.price.Tie as tie
+
+judge-price-requires : tie.Need-judge-price-requires
+judge-price-requires c κs = search needs
+
+enum-known-verdict : tie.Need-enum-known-verdict
+enum-known-verdict c = search needs
+
+returns : tie.Need-returns
+unfolding priceVerdict
+returns c =
+    let s = c .before .before .before .before .before in
+    price-refuses (s .args .t) (s .args .samples .now) (s .args .image .now) (sym (c .before .before .before .judge-price .ensures) ∙ c .before .verdict .given .1)
+
+enum-told : tie.Need-enum-told
+enum-told c = search needs
+
+-- past the verdict
+accepted : (c : tie.After-enum-told) → let s = c .before .before .before .before in
+    priceVerdict (s .args .t) (s .args .samples .now) (s .args .image .now) ≡ Verdict.Accept
+unfolding priceVerdict
+accepted c = sym (c .before .before .judge-price .ensures) ∙ c .enum-told .given .1
+
+image-price-requires : tie.Need-image-price-requires
+image-price-requires c κs =
+    let s = c .before .before .before .before in
+    let a = price-accepts (s .args .t) (s .args .samples .now) (s .args .image .now) (accepted c) in
+    record {
+      allowed = record { size = a .terms .size; weight = a .terms .weight; box = a .terms .box };
+      samples-length = a .samples-length;
+      image-length = a .image-length;
+      inside = a .inside;
+    }
+
+returns-2 : tie.Need-returns-2
+returns-2 c =
+    let s = c .before .before .before .before .before in
+    price-answers (s .args .t) (s .args .samples .now) (s .args .image .now) (accepted (c .before)) (c .image-price .ensures)
+
+pub price-spec : {M : Type 1} → statement M
+price-spec =
+    tie.close
+    (tie.spec
+    judge-price-requires
+    enum-known-verdict
+    returns
+    enum-told
+    image-price-requires
+    returns-2)

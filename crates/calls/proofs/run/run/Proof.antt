@@ -1,0 +1,233 @@
+-- `calls::run::run` meets its contract. Assumes nothing.
+use mathlib.Core.Path.{_≡_, sym, ap, ap₂, _∙_, subst}
+use mathlib.Core.List.{List}
+use mathlib.Core.Bool.{Bool, cond}
+use Prim.Native.Nat.{ℕ, _*_}
+use native.Mathlib.Omega.{arith}
+use borrow.Author.Needs.{needs}
+use borrow.Author.Tests.{leb-true}
+use lib.IntN.{ℤ, pos}
+use lib.ListN.{length, replicate}
+use mir.Syntax.{w64}
+use mir.Val.{toZ, ofZ}
+use Rattle.integers.proofs.Machine.{read}
+use Rattle.model.specs.declared.Terms.{Terms}
+use Rattle.model.specs.declared.Verdict.{Verdict}
+use Rattle.model.specs.Lists.{at}
+use Rattle.model.specs.Problem.{Feasible}
+use Rattle.model.specs.Grid.{weightAllowed, grid}
+use Rattle.model.specs.Rounds.{eighth, Steady, steadyRounds}
+use Rattle.model.specs.Calls.{Outcome, figures, settled, spent, pairsOf, imageOf, figuresOf, quickFlow, ending, runVerdict, runAnswer, runFlow, runImage, runWork}
+use Rattle.model.proofs.Bounds.{size-limits}
+use Rattle.certificate.specs.Demand.{RunDemand}
+use Rattle.certificate.proofs.Grid.{run-demand, ending-flow}
+use Rattle.raster.specs.Limits.{Within}
+use Rattle.rounds.specs.Ready.{JobLimits}
+use Rattle.rounds.proofs.Kept.{iterate-size, iterate-within}
+use Rattle.terms.proofs.Accepted.{AllowedTerms}
+use Rattle.calls.proofs.Verdicts.{not-both, figured, RunAccepted, run-accepts, run-answers, run-flows, run-fills, run-clears, run-refuses, run-keeps}
+use Rattle.calls.proofs.run.run.Statement.{statement}
+use Rattle.calls.proofs.run.run.Tie as tie
+
+judge-run-requires : tie.Need-judge-run-requires
+judge-run-requires c κs = search needs
+
+enum-known-verdict : tie.Need-enum-known-verdict
+enum-known-verdict c = search needs
+
+returns : tie.Need-returns
+unfolding runVerdict
+returns c =
+    let s = c .before .before .before .before .before in
+    let h = sym (c .before .before .before .judge-run .ensures) ∙ c .before .verdict .given .1 in
+    let t = s .args .t in
+    let b = s .args .samples .now in
+    let f = s .args .flow .now in
+    let x = s .args .image .now in
+    let w = s .args .work .now in
+    let k = run-keeps t (s .args .r) b f x w h in
+    (run-refuses t (s .args .r) b f x w h, (k .0, (k .1, (k .2, λ g. not-both h g))))
+
+enum-told : tie.Need-enum-told
+enum-told c = search needs
+
+-- past the verdict
+accepted : (c : tie.After-enum-told) → let s = c .before .before .before .before in
+    runVerdict (s .args .t) (s .args .r) (s .args .samples .now) (s .args .flow .now) (s .args .image .now) (s .args .work .now) ≡ Verdict.Accept
+unfolding runVerdict
+accepted c = sym (c .before .before .judge-run .ensures) ∙ c .enum-told .given .1
+
+facts : (c : tie.After-enum-told) → let s = c .before .before .before .before in
+    RunAccepted (s .args .t) (s .args .r) (s .args .samples .now) (s .args .flow .now) (s .args .image .now) (s .args .work .now)
+facts c =
+    let s = c .before .before .before .before in
+    run-accepts (s .args .t) (s .args .r) (s .args .samples .now) (s .args .flow .now) (s .args .image .now) (s .args .work .now) (accepted c)
+
+limits : (t : Terms) → AllowedTerms t → JobLimits t
+unfolding weightAllowed
+limits t a =
+    let z = size-limits (t .width) (t .height) (a .size) in
+    record { width-least = z .width-least; height-least = z .height-least; pixels-most = z .pixels-most; weight-most = leb-true (t .weight) 65280 (a .weight) }
+
+quick-rounds-requires : tie.Need-quick-rounds-requires
+quick-rounds-requires c κs =
+    let a = facts (c .before .before .before) in
+    record {
+      limits = limits _ (a .terms);
+      lengths = record { samples-length = a .samples-length; flow-length = a .flow-length; image-length = a .image-length };
+      quick-most = a .quick-most;
+      work-length = a .work-length ∙ ap (λ (n : ℕ). 2 * n) (sym (a .flow-length));
+    }
+
+clear-requires : tie.Need-clear-requires
+clear-requires c κs = search needs
+
+-- the flow that the quick rounds leave
+iterate : (c : tie.After-quick-rounds) → let s = c .before .before .before .before .before .before .before .before in
+    c .quick-rounds .last .1 .1 .1 .0 ≡ quickFlow (s .args .t) (s .args .r) (s .args .samples .now)
+unfolding quickFlow
+iterate c = c .quick-rounds .ensures
+
+steady-rounds-requires : tie.Need-steady-rounds-requires
+unfolding quickFlow
+steady-rounds-requires c κs =
+    let q = c .before .before .before .before .before .before .before .before in
+    let e = q .before .before .before .before in
+    let s = e .before .before .before .before in
+    let a = facts e in
+    let t = s .args .t in
+    let b = s .args .samples .now in
+    record {
+      limits = limits t (a .terms);
+      lengths = record { samples-length = a .samples-length; flow-length = ap length (iterate q) ∙ iterate-size eighth (grid t b) (s .args .r .quick); image-length = c .before .before .before .before .before .before .image .given ∙ a .image-length };
+      flow-most = subst (Within (t .weight)) (sym (iterate q)) (iterate-within t b (s .args .r .quick));
+    }
+
+-- how the steady rounds end
+last : (c : tie.After-steady-rounds) → let s = c .before .before .before .before .before .before .before .before .before .before .before .before .before .before .before .before .before in
+    let e = ending (s .args .t) (s .args .r) (s .args .samples .now) in
+    (c .steady-rounds .last .1 .1 .1 .0 ≡ e .flow)
+    × (c .steady-rounds .last .1 .1 .1 .1 .0 ≡ imageOf (s .args .t) (s .args .samples .now) (e .flow))
+    × (c .steady-rounds .result .moved ≡ e .moved)
+    × (c .steady-rounds .result .settled ≡ e .settled)
+unfolding ending
+last c =
+    let q = c .before .before .before .before .before .before .before .before .before in
+    let s = q .before .before .before .before .before .before .before .before in
+    let p = grid (s .args .t) (s .args .samples .now) in
+    let ends = c .steady-rounds .ensures in
+    let f = ends .0 ∙ ap (λ (g : List ℤ). steadyRounds eighth p (s .args .r .allowance) g .flow) (iterate q) in (
+      f,
+      ends .1 .0 ∙ ap (imageOf (s .args .t) (s .args .samples .now)) f,
+      ends .1 .1 .0 ∙ ap (λ (g : List ℤ). steadyRounds eighth p (s .args .r .allowance) g .moved) (iterate q),
+      ends .1 .1 .1 ∙ ap (λ (g : List ℤ). steadyRounds eighth p (s .args .r .allowance) g .settled) (iterate q),
+    )
+
+of-flow-requires : tie.Need-of-flow-requires
+of-flow-requires c κs =
+    let l = c .before .before .before .before in
+    let e = l .before .before .before .before .before .before .before .before .before .before .before .before .before in
+    let s = e .before .before .before .before in
+    let a = facts e in
+    let t = s .args .t in
+    let b = s .args .samples .now in
+    let f = last l .0 in
+    let g = ending-flow t (s .args .r) b (a .terms .box) in
+    record {
+      allowed = record { size = a .terms .size; weight = a .terms .weight; box = a .terms .box };
+      samples-length = a .samples-length;
+      flow-length = ap length f ∙ g .0;
+      feasible = subst (λ (h : List ℤ). Feasible (grid t b) (at h)) (sym f) (g .1);
+      image = last l .1 ∙ ap (imageOf t b) (sym f);
+    }
+
+-- what a run leaves, and its figures with the outcome that its test gives
+ran : (c : tie.After-of-flow) → let l = c .before .before .before .before .before in
+    let e = l .before .before .before .before .before .before .before .before .before .before .before .before .before in
+    let s = e .before .before .before .before in
+    let t = s .args .t in
+    let r = s .args .r in
+    let b = s .args .samples .now in
+    let f = s .args .flow .now in
+    let x = s .args .image .now in
+    let w = s .args .work .now in
+    (o : Outcome) → cond (l .steady-rounds .result .settled) settled spent ≡ o →
+    (figures o (l .steady-rounds .result .moved) (pos (c .of-flow .result .price)) (toZ w64 (ofZ w64 (c .of-flow .result .floor))) (pos (c .of-flow .result .slack))
+    ≡ runAnswer t r b f x w)
+    × ((l .steady-rounds .last .1 .1 .1 .0 ≡ runFlow t r b f x w)
+    × ((l .steady-rounds .last .1 .1 .1 .1 .0 ≡ runImage t r b f x w)
+    × ((l .before .before .before .before .clear .last .0 ≡ runWork t r b f x w)
+    × (runVerdict t r b f x w ≡ Verdict.Accept → RunDemand t r b))))
+ran c o h =
+    let l = c .before .before .before .before .before in
+    let e = l .before .before .before .before .before .before .before .before .before .before .before .before .before in
+    let s = e .before .before .before .before in
+    let t = s .args .t in
+    let r = s .args .r in
+    let b = s .args .samples .now in
+    let f = s .args .flow .now in
+    let x = s .args .image .now in
+    let w = s .args .work .now in
+    let yes = accepted e in
+    let g = c .of-flow .ensures in
+    let n = last l in
+    let cleared = l .before .before .before .before in (
+      figured o (l .steady-rounds .result .moved) t b (l .steady-rounds .last .1 .1 .1 .0) (g .0) (read w64 (c .of-flow .ok .1 .1 .1 .0 .1) ∙ g .1 .0) (g .1 .1)
+          ∙ ap₂ (λ (m : ℕ) (z : List ℤ). figuresOf o m t b z) (n .2) (n .0)
+          ∙ run-answers t r b f x w yes (ap (λ (z : Bool). cond z settled spent) (sym (n .3)) ∙ h),
+      (
+        n .0 ∙ run-flows t r b f x w yes,
+        (
+          n .1 ∙ run-fills t r b f x w yes,
+          (
+            cleared .clear .ensures ∙ ap (λ (k : ℕ). replicate k (pos 0)) (cleared .before .before .work .given ∙ facts e .work-length) ∙ run-clears t r b f x w yes,
+            λ _. run-demand t r b (facts e .terms .box),
+          ),
+        ),
+      ),
+    )
+
+same-length : tie.Need-same-length
+same-length c = search needs
+
+same-length-2 : tie.Need-same-length-2
+same-length-2 c = search needs
+
+same-length-3 : tie.Need-same-length-3
+same-length-3 c = search needs
+
+returns-2 : tie.Need-returns-2
+returns-2 c = ran (c .before .before) settled (ap (λ (z : Bool). cond z settled spent) (c .before .if1 .taken))
+
+same-length-4 : tie.Need-same-length-4
+same-length-4 c = search needs
+
+same-length-5 : tie.Need-same-length-5
+same-length-5 c = search needs
+
+same-length-6 : tie.Need-same-length-6
+same-length-6 c = search needs
+
+returns-3 : tie.Need-returns-3
+returns-3 c = ran (c .before .before) spent (ap (λ (z : Bool). cond z settled spent) (c .before .if1 .left))
+
+pub run-spec : {M : Type 1} → statement M
+run-spec =
+    tie.close
+    (tie.spec
+    judge-run-requires
+    enum-known-verdict
+    returns
+    enum-told
+    quick-rounds-requires
+    clear-requires
+    steady-rounds-requires
+    of-flow-requires
+    same-length
+    same-length-2
+    same-length-3
+    returns-2
+    same-length-4
+    same-length-5
+    same-length-6
+    returns-3)

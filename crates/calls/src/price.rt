@@ -1,0 +1,24 @@
+// Price judges an image.
+
+use crate::answer::Answer;
+use crate::figures;
+use crate::judge;
+use model::Terms;
+use model::Verdict;
+ghost use mathlib.Core.Path.{_≡_};
+ghost use Rattle.model.specs.Calls.{priceAnswer};
+ghost use Rattle.calls.specs.Answers.{answerOf};
+
+pub fn price(t: Terms, samples: &[u8], image: &[i32]) -> Answer
+    ensures { λ r. ⌜ answerOf r ≡ priceAnswer t (now (samples .entry)) (now (image .entry)) ⌝ }
+{
+    let verdict = judge::judge_price(t, samples.len(), image);
+    if let Verdict::Refuse { number, place } = verdict {
+        return Answer::Refused { number, place };
+    }
+    Answer::Checked {
+        price: figures::image_price(t, samples, image),
+        floor: 0,
+        slack: 0,
+    }
+}

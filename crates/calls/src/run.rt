@@ -1,0 +1,61 @@
+// Run does a job's rounds and fills its flow and image.
+
+use crate::answer::Answer;
+use crate::figures;
+use crate::judge;
+use model::Rounds;
+use model::Terms;
+use model::Verdict;
+use rounds::buffers;
+use rounds::quick::quick_rounds;
+use rounds::steady::steady_rounds;
+ghost use mathlib.Core.Path.{_≡_};
+ghost use Rattle.model.specs.Calls.{runVerdict, runAnswer, runFlow, runImage, runWork};
+ghost use Rattle.certificate.specs.Demand.{RunDemand};
+ghost use Rattle.calls.specs.Answers.{answerOf};
+
+pub fn run(
+    t: Terms,
+    r: Rounds,
+    samples: &[u8],
+    flow: &mut [i32],
+    image: &mut [i32],
+    work: &mut [i32],
+) -> Answer
+    ensures { λ a. ⌜ answerOf a ≡ runAnswer t r (now (samples .entry)) (now (flow .entry)) (now (image .entry)) (now (work .entry)) ⌝ }
+    ensures { λ _. ⌜ now (flow .exit) ≡ runFlow t r (now (samples .entry)) (now (flow .entry)) (now (image .entry)) (now (work .entry)) ⌝ }
+    ensures { λ _. ⌜ now (image .exit) ≡ runImage t r (now (samples .entry)) (now (flow .entry)) (now (image .entry)) (now (work .entry)) ⌝ }
+    ensures { λ _. ⌜ now (work .exit) ≡ runWork t r (now (samples .entry)) (now (flow .entry)) (now (image .entry)) (now (work .entry)) ⌝ }
+    ensures { λ _. ⌜ (runVerdict t r (now (samples .entry)) (now (flow .entry)) (now (image .entry)) (now (work .entry)) ≡ Verdict.Accept → RunDemand t r (now (samples .entry))) ⌝ }
+{
+    let verdict = judge::judge_run(
+        t,
+        r.quick,
+        samples.len(),
+        flow.len(),
+        image.len(),
+        work.len(),
+    );
+    if let Verdict::Refuse { number, place } = verdict {
+        return Answer::Refused { number, place };
+    }
+    quick_rounds(t, r.quick, samples, flow, image, work);
+    buffers::clear(work);
+    let end = steady_rounds(t, r.allowance, samples, flow, image);
+    let f = figures::of_flow(t, samples, flow, image);
+    if end.settled {
+        Answer::Settled {
+            moved: end.moved,
+            price: f.price,
+            floor: f.floor,
+            slack: f.slack,
+        }
+    } else {
+        Answer::Spent {
+            moved: end.moved,
+            price: f.price,
+            floor: f.floor,
+            slack: f.slack,
+        }
+    }
+}
