@@ -1,7 +1,7 @@
 -- Sizes within limits never overflow 64 bits: on an allowed job every price of an image of the box, and every floor of a
 -- flow within the weight, is at most `largest` in size, and twice that is below 2⁶³. Assumes nothing.
 use mathlib.Core.Path.{_≡_, refl, sym, ap, _∙_, subst}
-use mathlib.Core.Bool.{Bool, true, false, _&&_}
+use mathlib.Core.Bool.{Bool, true, false, _&&_, true≢false}
 use mathlib.Core.List.{List}
 use Prim.Native.Nat.{ℕ, _+_, _-_, _*_, _^_, _≤_, _<_}
 use native.Mathlib.Nat.{mul-le-mul, le-trans}
@@ -23,16 +23,10 @@ use Rattle.model.proofs.Pairs.{pair-count, neighbours, first-inside, se
 
 -- ---- what the tests of the terms say
 
-both-left : (a b : Bool) → (a && b) ≡ true → a ≡ true
-both-left true b e = refl
-both-left false b e = e
-
-both-right : (a b : Bool) → (a && b) ≡ true → b ≡ true
-both-right true b e = e
-both-right false b e = absurd-path e
-  where
-    absurd-path : false ≡ true → b ≡ true
-    absurd-path q = cc
+-- both hold where their conjunction does
+pub both-true : (a b : Bool) → (a && b) ≡ true → (a ≡ true) × (b ≡ true)
+both-true true b h = (refl, h)
+both-true false b h = absurd (true≢false (sym h))
 
 pub record SizeLimits (w h : ℕ) : Type 0 where
   pub width-least : 1 ≤ w
@@ -44,16 +38,16 @@ pub record SizeLimits (w h : ℕ) : Type 0 where
 pub size-limits : (w h : ℕ) → sizeAllowed w h ≡ true → SizeLimits w h
 unfolding sizeAllowed
 size-limits w h e =
-    let a = leb 1 w && leb w 4096 in
-    let b = leb 1 h && leb h 4096 in
-    let c = leb (w * h) 1048576 in
-    let ab : (a && b) ≡ true = both-left (a && b) c e in
+    let width = leb 1 w && leb w 4096 in
+    let height = leb 1 h && leb h 4096 in
+    let (sides, area) = both-true (width && height) (leb (w * h) 1048576) e in
+    let (broad, tall) = both-true width height sides in
     record {
-      width-least = leb-true 1 w (both-left (leb 1 w) (leb w 4096) (both-left a b ab));
-      width-most = leb-true w 4096 (both-right (leb 1 w) (leb w 4096) (both-left a b ab));
-      height-least = leb-true 1 h (both-left (leb 1 h) (leb h 4096) (both-right a b ab));
-      height-most = leb-true h 4096 (both-right (leb 1 h) (leb h 4096) (both-right a b ab));
-      pixels-most = leb-true (w * h) 1048576 (both-right (a && b) c e);
+      width-least = leb-true 1 w (both-true (leb 1 w) (leb w 4096) broad .0);
+      width-most = leb-true w 4096 (both-true (leb 1 w) (leb w 4096) broad .1);
+      height-least = leb-true 1 h (both-true (leb 1 h) (leb h 4096) tall .0);
+      height-most = leb-true h 4096 (both-true (leb 1 h) (leb h 4096) tall .1);
+      pixels-most = leb-true (w * h) 1048576 area;
     }
 
 -- ---- the bound

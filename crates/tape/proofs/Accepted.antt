@@ -24,7 +24,7 @@ use Rattle.model.specs.Calls.{pixelsOf, pairsOf}
 use Rattle.model.specs.Tape.{known, decoded, encoded, Progress, nothing, allowedAfter, allowed, absorbed, entryRows, Reading, whole, readFrom, tapeOf}
 use Rattle.model.proofs.Lists.{last}
 use Rattle.model.proofs.Refusals.{accepted-row}
-use Rattle.terms.proofs.Size.{both-true}
+use Rattle.model.proofs.Bounds.{both-true}
 use Rattle.tape.specs.declared.step.Lent.{Lent}
 use Rattle.tape.specs.declared.step.Step.{Step}
 use Rattle.tape.proofs.Digits.{four-fits}

@@ -1,4 +1,5 @@
 -- The laws of the tape.
+--     Signed      what the code reads back of a signed number of 32 bits
 --     Digits      numbers in bytes, there and back
 --     Sequences   `table` and `chain` over the elements of a list
 --     Entries     records and their bytes, there and back
@@ -13,6 +14,7 @@
 --     Walk        reading goes on over a record whose bytes stand at its offset
 --     RoundTrip   writing and reading undo each other
 --     Passed      what the counts of a tape that has passed say
+pub mod Signed
 pub mod Digits
 pub mod Sequences
 pub mod Entries

@@ -7,7 +7,7 @@ use mir.Syntax.{w32, w64}
 use mir.Val.{toZ, ofZ}
 use mir.Facts.{toZ-ofZ}
 use Rattle.model.specs.Tape.{complement}
-use Rattle.terms.proofs.Signed.{wide-fits, wide-is, negative, natural, natural-fits, natural-is, unsigned-cast}
+use Rattle.tape.proofs.Signed.{wide-fits, wide-is, negative, natural, natural-fits, natural-is, unsigned-cast}
 use Rattle.tape.proofs.Digits.{sub-natural}
 use Rattle.tape.proofs.bytes.complement_of.Statement.{statement}
 use Rattle.tape.proofs.bytes.complement_of.Tie as tie

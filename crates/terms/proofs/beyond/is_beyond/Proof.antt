@@ -8,13 +8,13 @@ use mir.Facts.{toZ-ofZ}
 use Rattle.terms.proofs.beyond.is_beyond.Statement.{statement}
 use Rattle.terms.proofs.beyond.is_beyond.Tie as tie
 
-size-requires : tie.Need-size-requires
-size-requires c κs = search needs
+magnitude-requires : tie.Need-magnitude-requires
+magnitude-requires c κs = search needs
 
 returns : tie.Need-returns
 returns c =
     ap (λ (n : ℕ). ltb (c .before .args .weight) n)
-    (c .size .ensures ∙ ap natAbs (toZ-ofZ (c .before .fits .value)))
+    (c .magnitude .ensures ∙ ap natAbs (toZ-ofZ (c .before .fits .value)))
 
 pub is-beyond-spec : {M : Type 1} → statement M
-is-beyond-spec = tie.close (tie.spec size-requires returns)
+is-beyond-spec = tie.close (tie.spec magnitude-requires returns)
