@@ -1,7 +1,7 @@
 -- The figures, from the sums that the passes give; and that they fit 64 bits. Assumes nothing.
 use mathlib.Core.Path.{_≡_, sym, ap, ap₂, _∙_, subst}
 use mathlib.Core.List.{List}
-use Prim.Native.Nat.{ℕ, _+_, _*_, _^_, _≤_, _<_}
+use Prim.Native.Nat.{ℕ, _+_, _*_, _≤_}
 use native.Mathlib.Omega.{arith}
 use lib.ListN.{length, getD}
 use lib.IntN.{ℤ, pos, natAbs, _+ℤ_, _-ℤ_, _*ℤ_}
@@ -12,7 +12,7 @@ use Rattle.integers.proofs.Total.{total-*ℤ}
 use Rattle.integers.proofs.Absolute.{natAbs-difference, natAbs-product}
 use Rattle.model.specs.declared.Terms.{Terms}
 use Rattle.model.specs.Lists.{at}
-use Rattle.model.specs.Problem.{Problem, pairCount, fall, misfit, price, Feasible, image, floor, InBox}
+use Rattle.model.specs.Problem.{pairCount, fall, misfit, price, Feasible, image, floor, InBox}
 use Rattle.model.specs.Grid.{readingOf, grid}
 use Rattle.model.specs.Calls.{pixelsOf, pairsOf}
 use Rattle.raster.specs.Whole.{gridFall}

@@ -1,6 +1,5 @@
 -- Document 01's number and values for each case of the enum that check, price and run give.
-use Prim.Native.Nat.{ℕ}
-use lib.IntN.{ℤ, pos}
+use lib.IntN.{pos}
 use Rattle.calls.specs.declared.answer.Answer.{Answer}
 use Rattle.calls.specs.declared.answer.Answer.the-variants.{Refused, Checked, Settled, Spent}
 use Rattle.model.specs.Calls as Calls

@@ -3,15 +3,14 @@
 use mathlib.Core.Path.{_≡_, refl, sym, ap, ap₂, _∙_, subst, subst₂}
 use mathlib.Core.Bool.{Bool, true, false, cond}
 use Prim.Native.Nat.{ℕ, zero, suc, _+_, _*_, _<_, _≤_}
-use native.Mathlib.Omega.{arith}
 use lib.Dec.{eqb}
 use lib.IntN.{ℤ, pos, _+ℤ_, _-ℤ_, _*ℤ_, *ℤ-comm}
-use lib.Signed.{_≤ℤ_, ≤ℤ-refl}
+use lib.Signed.{_≤ℤ_}
 use Rattle.integers.specs.Whole.{square}
 use Rattle.integers.specs.Sum.{total}
-use Rattle.integers.proofs.Parts.{parts, whole, by-≡, by-≤, of-≤, of-≡}
-use Rattle.integers.proofs.Ring.{+ℤ-*ℤ, *ℤ-+ℤ}
-use Rattle.integers.proofs.Order.{≤ℤ-trans, *ℤ-mono, +ℤ-mono, 0≤pos, ≤→pos, ≡→≤ℤ, square-nonneg, *ℤ-nonneg}
+use Rattle.integers.proofs.Parts.{parts, whole, by-≡, by-≤, of-≤}
+use Rattle.integers.proofs.Ring.{+ℤ-*ℤ}
+use Rattle.integers.proofs.Order.{≤ℤ-trans, *ℤ-mono, 0≤pos, ≤→pos, ≡→≤ℤ, square-nonneg, *ℤ-nonneg}
 use Rattle.integers.proofs.Total.{
   total-cong,
   total-+ℤ,

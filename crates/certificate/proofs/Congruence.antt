@@ -1,6 +1,6 @@
 -- The definitions see an image only at the pixels and a flow only at the pairs, so what agrees there may stand for one
 -- another: a buffer's list for the function that it was filled from. Assumes nothing.
-use mathlib.Core.Path.{_≡_, refl, sym, ap, ap₂, _∙_, fun-ext}
+use mathlib.Core.Path.{_≡_, ap, ap₂, fun-ext}
 use mathlib.Core.Bool.{cond}
 use Prim.Native.Nat.{ℕ, _<_}
 use lib.Dec.{eqb}

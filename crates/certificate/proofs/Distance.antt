@@ -1,15 +1,13 @@
 -- Demand 3 for any pair system: the distance law, what slack 0 says, and the slack by pairs. Assumes nothing.
-use mathlib.Core.Path.{_≡_, refl, sym, ap, ap₂, _∙_, subst}
-use mathlib.Core.Logic.{_↔_}
-use Prim.Native.Nat.{ℕ, _<_, _≤_}
-use native.Mathlib.Omega.{arith}
-use lib.IntN.{ℤ, pos, natAbs, _+ℤ_, _-ℤ_, _*ℤ_}
+use mathlib.Core.Path.{_≡_, sym, ap, _∙_, subst}
+use Prim.Native.Nat.{ℕ}
+use lib.IntN.{ℤ, pos, _+ℤ_, _-ℤ_, _*ℤ_}
 use lib.Signed.{_≤ℤ_}
 use Rattle.integers.specs.Whole.{abs, square}
 use Rattle.integers.specs.Sum.{total}
 use Rattle.integers.proofs.Parts.{parts, whole, by-≡, by-≤, of-≤, of-≡}
 use Rattle.integers.proofs.Order.{≤ℤ-trans, ≤ℤ-antisym, square-nonneg, square-zero}
-use Rattle.integers.proofs.Total.{total--ℤ, total-*ℤ, total-cong, total-nonneg, total-zero-term}
+use Rattle.integers.proofs.Total.{total--ℤ, total-nonneg, total-zero-term}
 use Rattle.model.specs.Problem.{
   Problem,
   pairCount,
@@ -24,7 +22,7 @@ use Rattle.model.specs.Problem.{
   distance,
 }
 use Rattle.certificate.specs.Demand.{Certified}
-use Rattle.certificate.proofs.Lagrangian.{Sound, lagrangian, floor-is, below-price, image-in-box, minimum}
+use Rattle.certificate.proofs.Lagrangian.{Sound, floor-is, below-price, image-in-box, minimum}
 use Rattle.certificate.proofs.Congruence.{Agree, price-cong}
 
 -- The slack by pairs: 2 × the sum over pairs of weight × |fall| − flow × fall

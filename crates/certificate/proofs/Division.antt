@@ -2,12 +2,11 @@
 -- the certificate holds there too, against every image of the multiplied box. Assumes nothing.
 use mathlib.Core.Path.{_≡_, refl, sym, ap, ap₂, _∙_, subst, fun-ext}
 use mathlib.Core.Bool.{Bool, true, false, cond}
-use Prim.Native.Nat.{ℕ, _*_, _<_, _≤_}
+use Prim.Native.Nat.{ℕ, _*_, _≤_}
 use native.Mathlib.Nat.{mul-le-mul-left}
 use native.Mathlib.Omega.{arith}
 use lib.Dec.{eqb}
-use lib.IntN.{ℤ, pos, natAbs, _+ℤ_, _-ℤ_, _*ℤ_, *ℤ-zero}
-use lib.Signed.{_≤ℤ_}
+use lib.IntN.{ℤ, pos, _+ℤ_, _-ℤ_, _*ℤ_, *ℤ-zero}
 use Rattle.integers.specs.Whole.{abs, square, clamp}
 use Rattle.integers.specs.Sum.{total}
 use Rattle.integers.proofs.Parts.{parts, whole, by-≡}
@@ -32,7 +31,7 @@ use Rattle.model.specs.Problem.{
   divided,
   times,
 }
-use Rattle.certificate.specs.Demand.{Certified, Scaled, Certificate}
+use Rattle.certificate.specs.Demand.{Scaled, Certificate}
 use Rattle.certificate.proofs.Lagrangian.{Sound}
 use Rattle.certificate.proofs.Distance.{certified}
 

@@ -1,15 +1,14 @@
 -- Demand 3 at document 01's grid. Assumes nothing.
-use mathlib.Core.Path.{_≡_, refl, sym, ap, _∙_, subst}
+use mathlib.Core.Path.{_≡_, sym, ap, _∙_, subst}
 use mathlib.Core.Bool.{true}
 use mathlib.Core.List.{List}
-use Prim.Native.Nat.{ℕ, zero, suc, _+_, _*_, _≤_, _<_, zero-le}
+use Prim.Native.Nat.{ℕ, zero, suc, _*_, _≤_, _<_, zero-le}
 use native.Mathlib.Omega.{arith}
 use borrow.Author.Tests.{leb-true}
 use lib.IntN.{ℤ, pos, natAbs, _+ℤ_, _*ℤ_}
 use lib.ListN.{length, length-replicate, getD-replicate}
 use lib.Signed.{_≤ℤ_}
 use Rattle.integers.specs.Sum.{total}
-use Rattle.integers.proofs.Parts.{parts, whole, by-≡}
 use Rattle.integers.proofs.Order.{≤→pos}
 use Rattle.model.specs.Lists.{at}
 use Rattle.model.specs.Problem.{Problem, pairCount, Feasible, slack}

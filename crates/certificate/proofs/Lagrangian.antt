@@ -1,17 +1,16 @@
 -- The Lagrangian of a flow: the data term plus 2 × the sum of flow × fall. The flow's image is its minimum over the box,
 -- with the squared distance to spare; the floor is that minimum; no price is below it. Assumes nothing.
-use mathlib.Core.Path.{_≡_, refl, sym, ap, ap₂, _∙_, subst}
+use mathlib.Core.Path.{_≡_, refl, sym, ap, ap₂, _∙_}
 use mathlib.Core.Bool.{Bool, true, false, cond}
-use Prim.Native.Nat.{ℕ, _<_, _≤_}
-use native.Mathlib.Omega.{arith}
+use Prim.Native.Nat.{ℕ, _<_}
 use lib.Dec.{eqb}
-use lib.IntN.{ℤ, pos, natAbs, negℤ, _+ℤ_, _-ℤ_, _*ℤ_}
+use lib.IntN.{ℤ, pos, _+ℤ_, _-ℤ_, _*ℤ_}
 use lib.Signed.{_≤ℤ_, ≤ℤ-refl}
-use Rattle.integers.specs.Whole.{abs, square, clamp}
+use Rattle.integers.specs.Whole.{square}
 use Rattle.integers.specs.Sum.{total}
-use Rattle.integers.proofs.Parts.{parts, whole, by-≡, by-≤, of-≤, of-≡}
+use Rattle.integers.proofs.Parts.{parts, whole, by-≡, by-≤, of-≤}
 use Rattle.integers.proofs.Ring.{*ℤ--ℤ, -ℤ-*ℤ}
-use Rattle.integers.proofs.Order.{≤ℤ-trans, +ℤ-mono, *ℤ-mono, 0≤pos}
+use Rattle.integers.proofs.Order.{+ℤ-mono, *ℤ-mono, 0≤pos}
 use Rattle.integers.proofs.Absolute.{pair-≤}
 use Rattle.integers.proofs.Clamp.{clamp-≥, clamp-≤, clamp-variational}
 use Rattle.integers.proofs.Total.{total-cong, total-+ℤ, total--ℤ, total-*ℤ, total-*ℤʳ, total-exchange, total-mono, total-pick}
@@ -27,7 +26,6 @@ use Rattle.model.specs.Problem.{
   pull,
   image,
   floor,
-  slack,
   InBox,
   distance,
 }

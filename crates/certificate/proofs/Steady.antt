@@ -1,11 +1,10 @@
 -- Steady rounds: how they end, how often they can move, and when they settle. For any pair system and any rounding that
 -- obeys the rounding law. Assumes nothing.
-use mathlib.Core.Path.{_≡_, refl, sym, ap, ap₂, _∙_, subst, subst₂}
+use mathlib.Core.Path.{_≡_, refl, sym, ap, _∙_, subst}
 use mathlib.Core.Bool.{Bool, true, false, not, true≢false}
 use mathlib.Core.List.{List}
-use mathlib.Core.Logic.{_≢_, ⊎-elim}
+use mathlib.Core.Logic.{_≢_}
 use Prim.Native.Nat.{ℕ, zero, suc, _+_, _*_, _≤_, _<_}
-use native.Mathlib.Nat.{le-antisymm}
 use native.Mathlib.Omega.{arith}
 use borrow.Author.Tests.{ltb-true, ltb-false, not-true, not-false}
 use lib.Dec.{ltb}
@@ -14,12 +13,12 @@ use lib.ListN.{length}
 use lib.Signed.{_≤ℤ_, _<ℤ_}
 use Rattle.integers.specs.Sum.{total}
 use Rattle.integers.specs.Whole.{sameZ}
-use Rattle.integers.proofs.Parts.{parts, whole, by-≡, by-≤, of-≤, of-<}
-use Rattle.integers.proofs.Order.{≤ℤ-trans, ≡→≤ℤ, sameZ-true, sameZ-false}
-use Rattle.model.specs.Lists.{at, table, firstWhere}
+use Rattle.integers.proofs.Parts.{parts, whole, by-≤, of-≤, of-<}
+use Rattle.integers.proofs.Order.{sameZ-true, sameZ-false}
+use Rattle.model.specs.Lists.{at}
 use Rattle.model.specs.Problem.{Problem, pairCount, Feasible, image, price, floor, slack}
 use Rattle.model.specs.Rounds.{stepped, step, wouldMove, firstMoving, Steady, oneMore, steadyRounds}
-use Rattle.model.proofs.Lists.{length-table, getD-table, First, firstWhere-first}
+use Rattle.model.proofs.Lists.{length-table, getD-table, firstWhere-first}
 use Rattle.model.proofs.Degree.{degree}
 use Rattle.certificate.proofs.Lagrangian.{Sound, image-in-box}
 use Rattle.certificate.proofs.Congruence.{floor-cong}

@@ -1,16 +1,15 @@
 -- One step: it keeps the flow within the weights and, where it moves a pair, raises the floor; and where it moves none,
 -- the slack is small. For any pair system and any rounding that obeys the rounding law. Assumes nothing.
-use mathlib.Core.Path.{_≡_, refl, sym, ap, ap₂, _∙_, subst, subst₂}
-use mathlib.Core.Logic.{_≢_, _⊎_, inl, inr, ⊎-elim}
+use mathlib.Core.Path.{_≡_, sym, ap, ap₂, _∙_, subst, subst₂}
+use mathlib.Core.Logic.{_≢_, ⊎-elim}
 use Prim.Native.Nat.{ℕ, _*_, _<_, _≤_}
 use native.Mathlib.Nat.{mul-le-mul-left}
-use native.Mathlib.Omega.{arith}
 use lib.IntN.{ℤ, pos, natAbs, negℤ, _+ℤ_, _-ℤ_, _*ℤ_, ℤ-discrete}
 use lib.Signed.{_≤ℤ_, _<ℤ_, ≤ℤ-refl}
 use Rattle.integers.specs.Whole.{abs, square, clamp}
 use Rattle.integers.specs.Sum.{total}
 use Rattle.integers.proofs.Parts.{parts, whole, by-≡, by-≤, of-≤, of-≡, of-<}
-use Rattle.integers.proofs.Order.{≤ℤ-trans, ≤ℤ-total, ≤ℤ-antisym, <ℤ→≤ℤ, +ℤ-mono, *ℤ-mono, 0≤pos, ≡→≤ℤ}
+use Rattle.integers.proofs.Order.{≤ℤ-trans, ≤ℤ-total, ≤ℤ-antisym, +ℤ-mono, 0≤pos, ≡→≤ℤ}
 use Rattle.integers.proofs.Absolute.{natAbs→lower, natAbs→upper, natAbs-neg, pair-≤, pair-top, pair-bottom}
 use Rattle.integers.proofs.Clamp.{Place, below, above, inside, clamp-place, natAbs-clamp, clamp-step}
 use Rattle.integers.proofs.Total.{total--ℤ, total-*ℤ, total-mono, term-≤-total}

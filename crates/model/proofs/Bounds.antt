@@ -1,9 +1,9 @@
 -- Sizes within limits never overflow 64 bits: on an allowed job every price of an image of the box, and every floor of a
 -- flow within the weight, is at most `largest` in size, and twice that is below 2⁶³. Assumes nothing.
-use mathlib.Core.Path.{_≡_, refl, sym, ap, _∙_, subst}
+use mathlib.Core.Path.{_≡_, refl, sym, subst}
 use mathlib.Core.Bool.{Bool, true, false, _&&_, true≢false}
 use mathlib.Core.List.{List}
-use Prim.Native.Nat.{ℕ, _+_, _-_, _*_, _^_, _≤_, _<_}
+use Prim.Native.Nat.{ℕ, _*_, _^_, _≤_, _<_}
 use native.Mathlib.Nat.{mul-le-mul, le-trans}
 use native.Mathlib.Omega.{arith}
 use borrow.Author.Tests.{leb-true}
@@ -17,7 +17,7 @@ use Rattle.integers.proofs.Order.{≤ℤ-trans, ≤→pos, 0≤pos}
 use Rattle.integers.proofs.Absolute.{natAbs-product, natAbs-sum, natAbs-difference, natAbs-square, natAbs-within}
 use Rattle.integers.proofs.Clamp.{clamp-≥, clamp-≤}
 use Rattle.integers.proofs.Total.{natAbs-total}
-use Rattle.model.specs.Problem.{Pair, pairCount, firstOf, secondOf, fall, misfit, price, Feasible, pull, image, floor, slack, InBox}
+use Rattle.model.specs.Problem.{pairCount, firstOf, secondOf, fall, misfit, price, Feasible, pull, image, floor, slack, InBox}
 use Rattle.model.specs.Grid.{Terms, sizeAllowed, weightAllowed, boxAllowed, readingOf, lowEnd, highEnd, gridPairs, grid}
 use Rattle.model.proofs.Pairs.{pair-count, neighbours, first-inside, second-inside}
 

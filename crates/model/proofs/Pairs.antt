@@ -1,7 +1,7 @@
 -- The pairs of the grid: how many there are, which two pixels pair j has, and that they are neighbours inside the
 -- raster. Assumes nothing.
-use mathlib.Core.Path.{_≡_, refl, sym, ap, ap₂, _∙_, subst}
-use mathlib.Core.List.{List, _++_}
+use mathlib.Core.Path.{_≡_, sym, ap, ap₂, _∙_, subst}
+use mathlib.Core.List.{_++_}
 use mathlib.Core.Logic.{_⊎_, inl, inr, ⊎-elim}
 use Prim.Native.Nat.{ℕ, zero, suc, _+_, _-_, _*_, _/_, _%_, _≤_, _<_}
 use native.Mathlib.Nat.{div-add-mod', mod-lt, div-lt-iff-lt-mul, eq-zero-or-pos, mul-le-mul-right}
@@ -9,7 +9,6 @@ use native.Mathlib.Decide.{decLt}
 use native.Mathlib.Omega.{arith}
 use lib.ListN.{length, getD, length-append, List·getD-append}
 use lib.Seq.{getD-append-add}
-use Rattle.model.specs.Lists.{table, chain}
 use Rattle.model.specs.Problem.{Pair}
 use Rattle.model.specs.Grid.{pixel, verticalPairs, horizontalPairs, gridPairs}
 use Rattle.model.proofs.Lists.{length-table, getD-table, length-chain, getD-chain}

@@ -4,7 +4,7 @@
 use crate::pairs;
 use crate::pairs::Moving;
 use integers::signed;
-ghost use Prim.Native.Nat.{ℕ, _+_, _-_, _*_};
+ghost use Prim.Native.Nat.{_+_, _-_, _*_};
 ghost use mathlib.Core.Path.{_≡_};
 ghost use lib.IntN.{pos, _*ℤ_};
 ghost use lib.ListN.{length};

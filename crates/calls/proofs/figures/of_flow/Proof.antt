@@ -1,26 +1,24 @@
 -- `calls::figures::of_flow` meets its contract. Assumes nothing.
-use mathlib.Core.Path.{_≡_, sym, ap, ap₂, _∙_, subst}
+use mathlib.Core.Path.{_≡_, ap, ap₂, _∙_}
 use Prim.Native.Nat.{_+_, _*_, _^_, _≤_, _<_}
 use native.Mathlib.Omega.{arith}
 use borrow.Author.Needs.{needs}
 use lib.Dec.{lit<}
-use lib.IntN.{ℤ, pos, natAbs, _-ℤ_, _*ℤ_}
-use lib.Signed.{_≤ℤ_}
+use lib.IntN.{ℤ, pos, _-ℤ_, _*ℤ_}
 use mir.Syntax.{w64}
 use mir.Val.{toZ, ofZ}
 use Rattle.integers.specs.Whole.{abs}
 use Rattle.integers.specs.Sum.{total}
 use Rattle.integers.proofs.Machine.{read}
 use Rattle.model.specs.Lists.{at}
-use Rattle.model.specs.Problem.{Problem, pairCount, fall, misfit, price, image, floor, slack}
+use Rattle.model.specs.Problem.{pairCount, fall, misfit, price, image, floor, slack}
 use Rattle.model.specs.Grid.{grid}
 use Rattle.model.proofs.Bounds as Bounds
 use Rattle.model.proofs.Bounds.{largest, largest-fits, image-inside, floor-bound}
 use Rattle.certificate.proofs.Distance.{floor-below}
 use Rattle.certificate.proofs.Grid.{grid-sound}
-use Rattle.raster.specs.Whole.{gridFall}
 use Rattle.raster.proofs.Model.{misfit-is, variation-is, work-is}
-use Rattle.calls.proofs.Jobs.{with-bytes, raster-limits, misfit-limits, work-limits, image-size, image-inside-box}
+use Rattle.calls.proofs.Jobs.{with-bytes, misfit-limits, work-limits, image-size, image-inside-box}
 use Rattle.calls.proofs.Objectives.{sized, price-is, price-fits, floor-is, floor-fits}
 use Rattle.calls.proofs.figures.of_flow.Statement.{statement}
 use Rattle.calls.proofs.figures.of_flow.Tie as tie

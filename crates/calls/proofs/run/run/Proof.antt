@@ -3,7 +3,6 @@ use mathlib.Core.Path.{_≡_, sym, ap, ap₂, _∙_, subst}
 use mathlib.Core.List.{List}
 use mathlib.Core.Bool.{Bool, cond}
 use Prim.Native.Nat.{ℕ, _*_}
-use native.Mathlib.Omega.{arith}
 use borrow.Author.Needs.{needs}
 use borrow.Author.Tests.{leb-true}
 use lib.IntN.{ℤ, pos}
@@ -16,8 +15,8 @@ use Rattle.model.specs.declared.Verdict.{Verdict}
 use Rattle.model.specs.Lists.{at}
 use Rattle.model.specs.Problem.{Feasible}
 use Rattle.model.specs.Grid.{weightAllowed, grid}
-use Rattle.model.specs.Rounds.{eighth, Steady, steadyRounds}
-use Rattle.model.specs.Calls.{Outcome, figures, settled, spent, pairsOf, imageOf, figuresOf, quickFlow, ending, runVerdict, runAnswer, runFlow, runImage, runWork}
+use Rattle.model.specs.Rounds.{eighth, steadyRounds}
+use Rattle.model.specs.Calls.{Outcome, figures, settled, spent, imageOf, figuresOf, quickFlow, ending, runVerdict, runAnswer, runFlow, runImage, runWork}
 use Rattle.model.proofs.Bounds.{size-limits}
 use Rattle.certificate.specs.Demand.{RunDemand}
 use Rattle.certificate.proofs.Grid.{run-demand, ending-flow}
