@@ -1,9 +1,9 @@
 -- `relief_c::relief_check` meets its contract. Assumes nothing.
-use mathlib.Core.Path.{ap, _∙_}
+use mathlib.Core.Path.{_∙_}
 use borrow.Author.Needs.{needs}
 use mir.Syntax.{w64}
 use Rattle.integers.proofs.Machine.{read}
-use Rattle.model.specs.Calls.{Answer}
+use Rattle.relief_c.proofs.Says.{same}
 use Rattle.relief_c.proofs.relief_check.Statement.{statement}
 use Rattle.relief_c.proofs.relief_check.Tie as tie
 
@@ -19,8 +19,8 @@ same-length c = search needs
 returns : tie.Need-returns
 returns c =
     let k = c .before .before .before .check .ensures in
-    let n = c .before .numbers-of .ensures in
-    (n .0 ∙ ap (λ (a : Answer). a .number) (k .0), (n .1 .0 ∙ ap (λ (a : Answer). a .place) (k .0), (n .1 .1 .1 .1 .0 ∙ ap (λ (a : Answer). a .price) (k .0), (read w64 (c .before .numbers-of .ok .1 .1 .1 .1 .1 .1 .1 .0 .1) ∙ n .1 .1 .1 .1 .1 .0 ∙ ap (λ (a : Answer). a .floor) (k .0), (n .1 .1 .1 .1 .1 .1 ∙ ap (λ (a : Answer). a .slack) (k .0), k .1)))))
+    let n = same (k .0) (c .before .numbers-of .ensures) in
+    (n .0, (n .1 .0, (n .1 .1 .1 .1 .0, (read w64 (c .before .numbers-of .ok .1 .1 .1 .1 .1 .1 .1 .0 .1) ∙ n .1 .1 .1 .1 .1 .0, (n .1 .1 .1 .1 .1 .1, k .1)))))
 
 pub relief-check-spec : {M : Type 1} → statement M
 relief-check-spec = tie.close (tie.spec check-requires numbers-of-requires same-length returns)

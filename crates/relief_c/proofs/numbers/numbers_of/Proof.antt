@@ -1,19 +1,12 @@
 -- `relief_c::numbers::numbers_of` meets its contract. Assumes nothing.
-use mathlib.Core.Path.{_≡_, refl, sym, subst}
-use Prim.Native.Nat.{ℕ}
+use mathlib.Core.Path.{refl, sym, ap}
 use borrow.Author.Needs.{needs}
-use lib.IntN.{ℤ, pos}
 use mir.Syntax.{w64}
 use Rattle.integers.proofs.Machine.{read}
-use Rattle.calls.specs.declared.answer.Answer.{Answer}
 use Rattle.calls.specs.Answers.{answerOf}
-use Rattle.relief_c.specs.Plain.{outcomeNumber}
+use Rattle.relief_c.proofs.Says.{same}
 use Rattle.relief_c.proofs.numbers.numbers_of.Statement.{statement}
 use Rattle.relief_c.proofs.numbers.numbers_of.Tie as tie
-
-abbrev Says : (number place outcome moved price : ℕ) (floor : ℤ) (slack : ℕ) → Answer → Type 0
-Says number place outcome moved price floor slack a =
-    (number ≡ answerOf a .number) × ((place ≡ answerOf a .place) × ((outcome ≡ outcomeNumber (answerOf a .outcome)) × ((moved ≡ answerOf a .moved) × ((pos price ≡ answerOf a .price) × ((floor ≡ answerOf a .floor) × (pos slack ≡ answerOf a .slack))))))
 
 enum-known-a : tie.Need-enum-known-a
 enum-known-a c = search needs
@@ -28,16 +21,16 @@ enum-known-a-4 : tie.Need-enum-known-a-4
 enum-known-a-4 c = search needs
 
 returns : tie.Need-returns
-returns c = subst (Says _ _ _ _ _ _ _) (sym (c .before .a .given .1)) (refl, (refl, (refl, (refl, (refl, (refl, refl))))))
+returns c = same (ap answerOf (sym (c .before .a .given .1))) (refl, (refl, (refl, (refl, (refl, (refl, refl))))))
 
 returns-2 : tie.Need-returns-2
-returns-2 c = subst (Says _ _ _ _ _ _ _) (sym (c .before .a2 .given .1)) (refl, (refl, (refl, (refl, (refl, (read w64 (c .known-told2 .given .1 .0 .1), refl))))))
+returns-2 c = same (ap answerOf (sym (c .before .a2 .given .1))) (refl, (refl, (refl, (refl, (refl, (read w64 (c .known-told2 .given .1 .0 .1), refl))))))
 
 returns-3 : tie.Need-returns-3
-returns-3 c = subst (Says _ _ _ _ _ _ _) (sym (c .before .a3 .given .1)) (refl, (refl, (refl, (refl, (refl, (read w64 (c .known-told3 .given .1 .1 .0 .1), refl))))))
+returns-3 c = same (ap answerOf (sym (c .before .a3 .given .1))) (refl, (refl, (refl, (refl, (refl, (read w64 (c .known-told3 .given .1 .1 .0 .1), refl))))))
 
 returns-4 : tie.Need-returns-4
-returns-4 c = subst (Says _ _ _ _ _ _ _) (sym (c .before .a4 .given .1)) (refl, (refl, (refl, (refl, (refl, (read w64 (c .known-told4 .given .1 .1 .0 .1), refl))))))
+returns-4 c = same (ap answerOf (sym (c .before .a4 .given .1))) (refl, (refl, (refl, (refl, (refl, (read w64 (c .known-told4 .given .1 .1 .0 .1), refl))))))
 
 pub numbers-of-spec : {M : Type 1} → statement M
 numbers-of-spec =
