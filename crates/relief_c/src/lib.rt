@@ -1,18 +1,26 @@
 // The library for other languages: the calls price, check, run, read and write as include/relief.h
 // declares them. Each hands its numbers to the call and the answer out as plain numbers, and
 // promises the same equations with document 01's definitions.
+mod job;
 mod numbers;
+mod written;
 
 use calls::check::check;
 use calls::price::price as price_image;
 use calls::run::run;
+use job::job_of;
 use model::Rounds;
 use model::Terms;
 use numbers::numbers_of;
+use tape::read;
+use tape::write;
+use written::written_of;
 ghost use mathlib.Core.Path.{_≡_};
+ghost use mathlib.Core.Bool.{cond};
 ghost use lib.IntN.{pos};
 ghost use Rattle.model.specs.declared.Verdict.{Verdict};
 ghost use Rattle.model.specs.Calls.{priceAnswer, checkVerdict, checkAnswer, checkImage, runVerdict, runAnswer, runFlow, runImage, runWork};
+ghost use Rattle.model.specs.Tape.{readAnswer, readSamples, readFlow, writeAnswer, writeOutput};
 ghost use Rattle.certificate.specs.Demand.{CheckDemand, RunDemand};
 ghost use Rattle.relief_c.specs.Plain.{termsOf, roundsOf, outcomeNumber};
 
@@ -136,4 +144,83 @@ pub extern "C" fn relief_run(
     *floor = least;
     *slack = n.slack;
     n.number
+}
+
+// Read takes a job from a tape.
+#[no_mangle]
+pub extern "C" fn relief_read(
+    tape: &[u8],
+    samples: &mut [u8],
+    flow: &mut [i32],
+    place: &mut u64,
+    width: &mut u32,
+    height: &mut u32,
+    weight: &mut u32,
+    low: &mut u8,
+    high: &mut u8,
+    quick: &mut u32,
+    allowance: &mut u16,
+    flowed: &mut u32,
+) -> u32
+    ensures { λ r. ⌜ r ≡ readAnswer (now (tape .entry)) (now (samples .entry)) (now (flow .entry)) .number ⌝ }
+    ensures { λ _. ⌜ now (place .exit) ≡ readAnswer (now (tape .entry)) (now (samples .entry)) (now (flow .entry)) .place ⌝ }
+    ensures { λ _. ⌜ now (width .exit) ≡ readAnswer (now (tape .entry)) (now (samples .entry)) (now (flow .entry)) .terms .width ⌝ }
+    ensures { λ _. ⌜ now (height .exit) ≡ readAnswer (now (tape .entry)) (now (samples .entry)) (now (flow .entry)) .terms .height ⌝ }
+    ensures { λ _. ⌜ now (weight .exit) ≡ readAnswer (now (tape .entry)) (now (samples .entry)) (now (flow .entry)) .terms .weight ⌝ }
+    ensures { λ _. ⌜ now (low .exit) ≡ readAnswer (now (tape .entry)) (now (samples .entry)) (now (flow .entry)) .terms .low ⌝ }
+    ensures { λ _. ⌜ now (high .exit) ≡ readAnswer (now (tape .entry)) (now (samples .entry)) (now (flow .entry)) .terms .high ⌝ }
+    ensures { λ _. ⌜ now (quick .exit) ≡ readAnswer (now (tape .entry)) (now (samples .entry)) (now (flow .entry)) .rounds .quick ⌝ }
+    ensures { λ _. ⌜ now (allowance .exit) ≡ readAnswer (now (tape .entry)) (now (samples .entry)) (now (flow .entry)) .rounds .allowance ⌝ }
+    ensures { λ _. ⌜ now (flowed .exit) ≡ cond (readAnswer (now (tape .entry)) (now (samples .entry)) (now (flow .entry)) .flowed) 1 0 ⌝ }
+    ensures { λ _. ⌜ now (samples .exit) ≡ readSamples (now (tape .entry)) (now (samples .entry)) (now (flow .entry)) ⌝ }
+    ensures { λ _. ⌜ now (flow .exit) ≡ readFlow (now (tape .entry)) (now (samples .entry)) (now (flow .entry)) ⌝ }
+{
+    let j = job_of(read(tape, samples, flow));
+    let t = j.terms;
+    let r = j.rounds;
+    *place = j.place;
+    *width = t.width;
+    *height = t.height;
+    *weight = t.weight;
+    *low = t.low;
+    *high = t.high;
+    *quick = r.quick;
+    *allowance = r.allowance;
+    *flowed = j.flowed as u32;
+    j.number
+}
+
+// Write makes the tape of a job.
+#[no_mangle]
+pub extern "C" fn relief_write(
+    width: u32,
+    height: u32,
+    weight: u32,
+    low: u8,
+    high: u8,
+    quick: u32,
+    allowance: u16,
+    samples: &[u8],
+    flow: &[i32],
+    output: &mut [u8],
+    place: &mut u64,
+    count: &mut u64,
+) -> u32
+    ensures { λ r. ⌜ r ≡ writeAnswer (termsOf width height weight low high) (roundsOf quick allowance) (now (samples .entry)) (now (flow .entry)) (now (output .entry)) .number ⌝ }
+    ensures { λ _. ⌜ now (place .exit) ≡ writeAnswer (termsOf width height weight low high) (roundsOf quick allowance) (now (samples .entry)) (now (flow .entry)) (now (output .entry)) .place ⌝ }
+    ensures { λ _. ⌜ now (count .exit) ≡ writeAnswer (termsOf width height weight low high) (roundsOf quick allowance) (now (samples .entry)) (now (flow .entry)) (now (output .entry)) .count ⌝ }
+    ensures { λ _. ⌜ now (output .exit) ≡ writeOutput (termsOf width height weight low high) (roundsOf quick allowance) (now (samples .entry)) (now (flow .entry)) (now (output .entry)) ⌝ }
+{
+    let t = Terms {
+        width,
+        height,
+        weight,
+        low,
+        high,
+    };
+    let r = Rounds { quick, allowance };
+    let w = written_of(write(t, r, samples, flow, output));
+    *place = w.place;
+    *count = w.count;
+    w.number
 }
