@@ -1,11 +1,11 @@
--- `relief_c::relief_run` meets its contract. Assumes nothing.
+-- `relief_c::run::relief_run` meets its contract. Assumes nothing.
 use mathlib.Core.Path.{_∙_}
 use borrow.Author.Needs.{needs}
 use mir.Syntax.{w64}
 use Rattle.integers.proofs.Machine.{read}
 use Rattle.relief_c.proofs.Says.{same}
-use Rattle.relief_c.proofs.relief_run.Statement.{statement}
-use Rattle.relief_c.proofs.relief_run.Tie as tie
+use Rattle.relief_c.proofs.run.relief_run.Statement.{statement}
+use Rattle.relief_c.proofs.run.relief_run.Tie as tie
 
 run-requires : tie.Need-run-requires
 run-requires c κs = search needs

@@ -1,11 +1,11 @@
--- `relief_c::relief_check` meets its contract. Assumes nothing.
+-- `relief_c::check::relief_check` meets its contract. Assumes nothing.
 use mathlib.Core.Path.{_∙_}
 use borrow.Author.Needs.{needs}
 use mir.Syntax.{w64}
 use Rattle.integers.proofs.Machine.{read}
 use Rattle.relief_c.proofs.Says.{same}
-use Rattle.relief_c.proofs.relief_check.Statement.{statement}
-use Rattle.relief_c.proofs.relief_check.Tie as tie
+use Rattle.relief_c.proofs.check.relief_check.Statement.{statement}
+use Rattle.relief_c.proofs.check.relief_check.Tie as tie
 
 check-requires : tie.Need-check-requires
 check-requires c κs = search needs

@@ -1,8 +1,8 @@
--- `relief_c::relief_price` meets its contract. Assumes nothing.
+-- `relief_c::price::relief_price` meets its contract. Assumes nothing.
 use borrow.Author.Needs.{needs}
 use Rattle.relief_c.proofs.Says.{same}
-use Rattle.relief_c.proofs.relief_price.Statement.{statement}
-use Rattle.relief_c.proofs.relief_price.Tie as tie
+use Rattle.relief_c.proofs.price.relief_price.Statement.{statement}
+use Rattle.relief_c.proofs.price.relief_price.Tie as tie
 
 price-requires : tie.Need-price-requires
 price-requires c κs = search needs

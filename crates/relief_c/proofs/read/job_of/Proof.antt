@@ -1,10 +1,10 @@
--- `relief_c::job::job_of` meets its contract. Assumes nothing.
+-- `relief_c::read::job_of` meets its contract. Assumes nothing.
 use mathlib.Core.Path.{_≡_, sym, ap}
 use borrow.Author.Needs.{needs}
 use Rattle.tape.specs.Answers.{readAnswerOf}
 use Rattle.relief_c.proofs.Says.{parts}
-use Rattle.relief_c.proofs.job.job_of.Statement.{statement}
-use Rattle.relief_c.proofs.job.job_of.Tie as tie
+use Rattle.relief_c.proofs.read.job_of.Statement.{statement}
+use Rattle.relief_c.proofs.read.job_of.Tie as tie
 
 enum-known-a : tie.Need-enum-known-a
 enum-known-a c = search needs

@@ -1,9 +1,9 @@
--- `relief_c::relief_write` meets its contract. Assumes nothing.
+-- `relief_c::write::relief_write` meets its contract. Assumes nothing.
 use mathlib.Core.Path.{ap, _∙_}
 use borrow.Author.Needs.{needs}
 use Rattle.model.specs.Tape.{WriteAnswer}
-use Rattle.relief_c.proofs.relief_write.Statement.{statement}
-use Rattle.relief_c.proofs.relief_write.Tie as tie
+use Rattle.relief_c.proofs.write.relief_write.Statement.{statement}
+use Rattle.relief_c.proofs.write.relief_write.Tie as tie
 
 write-requires : tie.Need-write-requires
 write-requires c κs = search needs

@@ -1,4 +1,4 @@
--- `relief_c::relief_read` meets its contract. Assumes nothing.
+-- `relief_c::read::relief_read` meets its contract. Assumes nothing.
 use mathlib.Core.Path.{_≡_, refl, ap, _∙_}
 use mathlib.Core.Bool.{Bool, true, false, cond}
 use borrow.Author.Needs.{needs}
@@ -6,8 +6,8 @@ use mir.Val.{boolByte}
 use Rattle.model.specs.declared.Terms.{Terms}
 use Rattle.model.specs.declared.Rounds.{Rounds}
 use Rattle.relief_c.proofs.Says.{parts}
-use Rattle.relief_c.proofs.relief_read.Statement.{statement}
-use Rattle.relief_c.proofs.relief_read.Tie as tie
+use Rattle.relief_c.proofs.read.relief_read.Statement.{statement}
+use Rattle.relief_c.proofs.read.relief_read.Tie as tie
 
 as-number : (x : Bool) → boolByte x ≡ cond x 1 0
 as-number true = refl
