@@ -1,0 +1,46 @@
+-- `relief_c::numbers::numbers_of` meets its contract. Assumes nothing.
+use mathlib.Core.Path.{refl, sym, ap}
+use borrow.Author.Needs.{needs}
+use mir.Syntax.{w64}
+use Rattle.integers.proofs.Machine.{read}
+use Rattle.calls.specs.Answers.{answerOf}
+use Rattle.relief_c.proofs.Says.{same}
+use Rattle.relief_c.proofs.numbers.numbers_of.Statement.{statement}
+use Rattle.relief_c.proofs.numbers.numbers_of.Tie as tie
+
+enum-known-a : tie.Need-enum-known-a
+enum-known-a c = search needs
+
+enum-known-a-2 : tie.Need-enum-known-a-2
+enum-known-a-2 c = search needs
+
+enum-known-a-3 : tie.Need-enum-known-a-3
+enum-known-a-3 c = search needs
+
+enum-known-a-4 : tie.Need-enum-known-a-4
+enum-known-a-4 c = search needs
+
+returns : tie.Need-returns
+returns c = same (ap answerOf (sym (c .before .a .given .1))) (refl, (refl, (refl, (refl, (refl, (refl, refl))))))
+
+returns-2 : tie.Need-returns-2
+returns-2 c = same (ap answerOf (sym (c .before .a2 .given .1))) (refl, (refl, (refl, (refl, (refl, (read w64 (c .known-told2 .given .1 .0 .1), refl))))))
+
+returns-3 : tie.Need-returns-3
+returns-3 c = same (ap answerOf (sym (c .before .a3 .given .1))) (refl, (refl, (refl, (refl, (refl, (read w64 (c .known-told3 .given .1 .1 .0 .1), refl))))))
+
+returns-4 : tie.Need-returns-4
+returns-4 c = same (ap answerOf (sym (c .before .a4 .given .1))) (refl, (refl, (refl, (refl, (refl, (read w64 (c .known-told4 .given .1 .1 .0 .1), refl))))))
+
+pub numbers-of-spec : {M : Type 1} → statement M
+numbers-of-spec =
+    tie.close
+    (tie.spec
+    enum-known-a
+    enum-known-a-2
+    enum-known-a-3
+    enum-known-a-4
+    returns
+    returns-2
+    returns-3
+    returns-4)

@@ -1,0 +1,22 @@
+-- `relief_c::read::job_of` meets its contract. Assumes nothing.
+use mathlib.Core.Path.{_≡_, sym, ap}
+use borrow.Author.Needs.{needs}
+use Rattle.tape.specs.Answers.{readAnswerOf}
+use Rattle.relief_c.proofs.Says.{parts}
+use Rattle.relief_c.proofs.read.job_of.Statement.{statement}
+use Rattle.relief_c.proofs.read.job_of.Tie as tie
+
+enum-known-a : tie.Need-enum-known-a
+enum-known-a c = search needs
+
+enum-known-a-2 : tie.Need-enum-known-a-2
+enum-known-a-2 c = search needs
+
+returns : tie.Need-returns
+returns c = parts (ap readAnswerOf (sym (c .before .a .given .1)))
+
+returns-2 : tie.Need-returns-2
+returns-2 c = parts (ap readAnswerOf (sym (c .before .a2 .given .1)))
+
+pub job-of-spec : {M : Type 1} → statement M
+job-of-spec = tie.close (tie.spec enum-known-a enum-known-a-2 returns returns-2)

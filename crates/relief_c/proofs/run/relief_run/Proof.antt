@@ -1,0 +1,36 @@
+-- `relief_c::run::relief_run` meets its contract. Assumes nothing.
+use mathlib.Core.Path.{_∙_}
+use borrow.Author.Needs.{needs}
+use mir.Syntax.{w64}
+use Rattle.integers.proofs.Machine.{read}
+use Rattle.relief_c.proofs.Says.{same}
+use Rattle.relief_c.proofs.run.relief_run.Statement.{statement}
+use Rattle.relief_c.proofs.run.relief_run.Tie as tie
+
+run-requires : tie.Need-run-requires
+run-requires c κs = search needs
+
+numbers-of-requires : tie.Need-numbers-of-requires
+numbers-of-requires c κs = search needs
+
+same-length : tie.Need-same-length
+same-length c = search needs
+
+same-length-2 : tie.Need-same-length-2
+same-length-2 c = search needs
+
+same-length-3 : tie.Need-same-length-3
+same-length-3 c = search needs
+
+returns : tie.Need-returns
+returns c =
+    let k = c .before .before .before .before .before .run .ensures in
+    let n = same (k .0) (c .before .numbers-of .ensures) in (
+      n .0,
+      (n .1 .0, (n .1 .1 .0, (n .1 .1 .1 .0, (n .1 .1 .1 .1 .0, (read w64 (c .before .numbers-of .ok .1 .1 .1 .1 .1 .1 .1 .0 .1) ∙ n .1 .1 .1 .1 .1 .0, (n .1 .1 .1 .1 .1 .1, k .1)))))),
+    )
+
+pub relief-run-spec : {M : Type 1} → statement M
+relief-run-spec =
+    tie.close
+    (tie.spec run-requires numbers-of-requires same-length same-length-2 same-length-3 returns)

@@ -1,0 +1,24 @@
+-- `relief_c::write::relief_write` meets its contract. Assumes nothing.
+use mathlib.Core.Path.{ap, _∙_}
+use borrow.Author.Needs.{needs}
+use Rattle.model.specs.Tape.{WriteAnswer}
+use Rattle.relief_c.proofs.write.relief_write.Statement.{statement}
+use Rattle.relief_c.proofs.write.relief_write.Tie as tie
+
+write-requires : tie.Need-write-requires
+write-requires c κs = search needs
+
+written-of-requires : tie.Need-written-of-requires
+written-of-requires c κs = search needs
+
+same-length : tie.Need-same-length
+same-length c = search needs
+
+returns : tie.Need-returns
+returns c =
+    let k = c .before .before .before .write .ensures in
+    let n = c .written-of .ensures in
+    (n .0 ∙ ap (λ (a : WriteAnswer). a .number) (k .0), (n .1 .0 ∙ ap (λ (a : WriteAnswer). a .place) (k .0), (n .1 .1 ∙ ap (λ (a : WriteAnswer). a .count) (k .0), k .1)))
+
+pub relief-write-spec : {M : Type 1} → statement M
+relief-write-spec = tie.close (tie.spec write-requires written-of-requires same-length returns)

@@ -1,0 +1,9 @@
+// The library for other languages: the calls price, check, run, read and write as include/relief.h
+// declares them. Each hands its numbers to the call and the answer out as plain numbers, and
+// promises the same equations with document 01's definitions.
+pub mod check;
+mod numbers;
+pub mod price;
+pub mod read;
+pub mod run;
+pub mod write;

@@ -1,0 +1,63 @@
+// Run does a job's rounds and fills its flow and image.
+
+use crate::numbers::numbers_of;
+use calls::run::run;
+use model::Rounds;
+use model::Terms;
+ghost use mathlib.Core.Path.{_≡_};
+ghost use lib.IntN.{pos};
+ghost use Rattle.model.specs.declared.Verdict.{Verdict};
+ghost use Rattle.model.specs.Calls.{runVerdict, runAnswer, runFlow, runImage, runWork};
+ghost use Rattle.certificate.specs.Demand.{RunDemand};
+ghost use Rattle.relief_c.specs.Plain.{termsOf, roundsOf, outcomeNumber};
+
+#[no_mangle]
+pub extern "C" fn relief_run(
+    width: u32,
+    height: u32,
+    weight: u32,
+    low: u8,
+    high: u8,
+    quick: u32,
+    allowance: u16,
+    samples: &[u8],
+    flow: &mut [i32],
+    image: &mut [i32],
+    work: &mut [i32],
+    place: &mut u64,
+    outcome: &mut u32,
+    moved: &mut u32,
+    price: &mut u64,
+    floor: &mut i64,
+    slack: &mut u64,
+) -> u32
+    ensures { λ r. ⌜ r ≡ runAnswer (termsOf width height weight low high) (roundsOf quick allowance) (now (samples .entry)) (now (flow .entry)) (now (image .entry)) (now (work .entry)) .number ⌝ }
+    ensures { λ _. ⌜ now (place .exit) ≡ runAnswer (termsOf width height weight low high) (roundsOf quick allowance) (now (samples .entry)) (now (flow .entry)) (now (image .entry)) (now (work .entry)) .place ⌝ }
+    ensures { λ _. ⌜ now (outcome .exit) ≡ outcomeNumber (runAnswer (termsOf width height weight low high) (roundsOf quick allowance) (now (samples .entry)) (now (flow .entry)) (now (image .entry)) (now (work .entry)) .outcome) ⌝ }
+    ensures { λ _. ⌜ now (moved .exit) ≡ runAnswer (termsOf width height weight low high) (roundsOf quick allowance) (now (samples .entry)) (now (flow .entry)) (now (image .entry)) (now (work .entry)) .moved ⌝ }
+    ensures { λ _. ⌜ pos (now (price .exit)) ≡ runAnswer (termsOf width height weight low high) (roundsOf quick allowance) (now (samples .entry)) (now (flow .entry)) (now (image .entry)) (now (work .entry)) .price ⌝ }
+    ensures { λ _. ⌜ now (floor .exit) ≡ runAnswer (termsOf width height weight low high) (roundsOf quick allowance) (now (samples .entry)) (now (flow .entry)) (now (image .entry)) (now (work .entry)) .floor ⌝ }
+    ensures { λ _. ⌜ pos (now (slack .exit)) ≡ runAnswer (termsOf width height weight low high) (roundsOf quick allowance) (now (samples .entry)) (now (flow .entry)) (now (image .entry)) (now (work .entry)) .slack ⌝ }
+    ensures { λ _. ⌜ now (flow .exit) ≡ runFlow (termsOf width height weight low high) (roundsOf quick allowance) (now (samples .entry)) (now (flow .entry)) (now (image .entry)) (now (work .entry)) ⌝ }
+    ensures { λ _. ⌜ now (image .exit) ≡ runImage (termsOf width height weight low high) (roundsOf quick allowance) (now (samples .entry)) (now (flow .entry)) (now (image .entry)) (now (work .entry)) ⌝ }
+    ensures { λ _. ⌜ now (work .exit) ≡ runWork (termsOf width height weight low high) (roundsOf quick allowance) (now (samples .entry)) (now (flow .entry)) (now (image .entry)) (now (work .entry)) ⌝ }
+    ensures { λ _. ⌜ (runVerdict (termsOf width height weight low high) (roundsOf quick allowance) (now (samples .entry)) (now (flow .entry)) (now (image .entry)) (now (work .entry)) ≡ Verdict.Accept → RunDemand (termsOf width height weight low high) (roundsOf quick allowance) (now (samples .entry))) ⌝ }
+{
+    let t = Terms {
+        width,
+        height,
+        weight,
+        low,
+        high,
+    };
+    let r = Rounds { quick, allowance };
+    let n = numbers_of(run(t, r, samples, flow, image, work));
+    *place = n.place;
+    *outcome = n.outcome;
+    *moved = n.moved;
+    *price = n.price;
+    let least = n.floor;
+    *floor = least;
+    *slack = n.slack;
+    n.number
+}
