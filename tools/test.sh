@@ -1,5 +1,6 @@
 #!/usr/bin/env bash
-# All tests: layout, the Rust implementation's tests, then every proof from nothing with the must-fail edits.
+# All tests: layout, the Rust implementation's tests, the static library against it on about one input in twenty,
+# then every proof from nothing with the must-fail edits.
 # The last line is `N passed, 0 failed`.
 set -euo pipefail
 cd "$(dirname "$0")/.."
@@ -9,6 +10,9 @@ rt fmt --check
 
 echo "== the second implementation (Rust, offline)"
 (cd rust && cargo test --offline --quiet)
+
+echo "== the static library beside the second implementation"
+bash tools/static.sh quick
 
 echo "== every proof, must-fail edit and program"
 rt ci
