@@ -1,5 +1,5 @@
 -- `relief_c::read::job_of` meets its contract. Assumes nothing.
-use mathlib.Core.Path.{_≡_, sym, ap}
+use mathlib.Core.Path.{sym, ap}
 use borrow.Author.Needs.{needs}
 use Rattle.tape.specs.Answers.{readAnswerOf}
 use Rattle.relief_c.proofs.Says.{parts}
