@@ -78,12 +78,6 @@ fn run(lent: &mut Lent, rounds: &relief::Rounds) {
         work,
         ..
     } = lent;
-    let _ = black_box(relief::run(
-        library_terms,
-        rounds,
-        samples,
-        flow,
-        image,
-        work,
-    ));
+    let figures = relief::run(library_terms, rounds, samples, flow, image, work);
+    assert!(black_box(figures).is_ok(), "the run is refused");
 }
