@@ -2,7 +2,7 @@
 // and promises its whole answer and every buffer by an equation with document 01's definitions.
 pub mod answer;
 pub mod check;
-pub mod figures;
-pub mod judge;
+mod figures;
+mod judge;
 pub mod price;
 pub mod run;
