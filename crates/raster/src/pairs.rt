@@ -18,12 +18,6 @@ pub enum Moving {
     Nothing,
 }
 
-// What price and floor take from the falls: the sum of their sizes, and the sum of flow times fall.
-pub struct FallSums {
-    pub variation: u64,
-    pub work: i64,
-}
-
 // A step: each pair's number becomes its stepped value.
 pub fn step_pairs(flow: &mut [i32], image: &[i32], stride: usize, weight: i32)
     requires { ⌜ StepLimits (now flow) (now image) stride weight ⌝ }
@@ -79,15 +73,4 @@ pub fn total_work(flow: &[i32], image: &[i32], stride: usize) -> i64
         j += 1;
     }
     sum
-}
-
-pub fn fall_sums(flow: &[i32], image: &[i32], stride: usize) -> FallSums
-    requires { ⌜ FallLimits (now flow) (now image) stride ⌝ }
-    ensures variation { λ r. ⌜ pos (r .variation) ≡ total (length (now (flow .entry))) (λ j. abs (fallAt (now (image .entry)) stride j)) ⌝ }
-    ensures work { λ r. ⌜ r .work ≡ total (length (now (flow .entry))) (λ j. at (now (flow .entry)) j *ℤ fallAt (now (image .entry)) stride j) ⌝ }
-{
-    FallSums {
-        variation: total_variation(image, stride, flow.len()),
-        work: total_work(flow, image, stride),
-    }
 }
