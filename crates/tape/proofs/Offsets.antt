@@ -14,8 +14,9 @@ use Rattle.model.specs.declared.Entry.the-variants.{End, Size, WeightBox, Round
 use Rattle.model.specs.Lists.{at, chain, overwritten}
 use Rattle.model.specs.Tape.{encoded, tapeOf}
 use Rattle.model.proofs.Lists.{length-chain}
-use Rattle.tape.specs.Places.{Put}
-use Rattle.tape.proofs.Sequences.{chain-drop, chain-past, placed-front, put-then}
+use Rattle.output.specs.Put.{Put}
+use Rattle.output.proofs.Laid.{placed-front, put-then}
+use Rattle.tape.proofs.Sequences.{chain-drop, chain-past}
 
 module _ (t : Terms) (r : Rounds) (s : List ℕ) (f : List ℤ) where
   abbrev header : List ℕ

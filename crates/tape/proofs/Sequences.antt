@@ -1,15 +1,14 @@
 -- Laws of `table` and `chain` over the elements of a list. Assumes nothing.
-use mathlib.Core.Path.{_≡_, refl, sym, ap, ap₂, _∙_, subst}
-use mathlib.Core.List.{List, [], _∷_, _++_, append-nil, append-assoc}
+use mathlib.Core.Path.{_≡_, refl, sym, ap, ap₂, _∙_}
+use mathlib.Core.List.{List, [], _∷_, _++_, append-assoc}
 use mathlib.Core.Logic.{⊎-elim}
 use Prim.Native.Nat.{ℕ, zero, suc, _+_, _*_, _≤_, _<_}
-use native.Mathlib.Nat.{le-refl, add-zero, zero-add}
+use native.Mathlib.Nat.{le-refl}
 use native.Mathlib.Numerals.{add-one}
 use native.Mathlib.Omega.{arith}
-use lib.ListN.{length, getD, take, drop, set, length-append, length-drop, take-append-drop, List·getD-append}
-use lib.Seq.{length-take-le, take-at, drop-drop, set-split, take-suc, drop-cons, drop-at, drop-append-add, append-snoc, set-at, getD-drop, getD-at}
+use lib.ListN.{length, getD, take, drop, set, length-append, length-drop, List·getD-append}
+use lib.Seq.{take-suc, drop-cons, drop-at, drop-append-add, append-snoc, set-at, getD-drop, getD-at}
 use Rattle.model.specs.Lists.{table, chain, overwritten}
-use Rattle.tape.specs.Places.{placed, Put}
 use Rattle.model.proofs.Lists.{last, length-table, length-chain}
 
 module _ {A : Type 0} where
@@ -88,81 +87,3 @@ module _ {A : Type 0} (k : ℕ) (g : ℕ → List A) (even : (i : ℕ) → lengt
   pub chain-past : (n m : ℕ) (behind : List A) → drop (n * k + m) (chain n g ++ behind) ≡ drop m behind
   chain-past n m behind =
       ap (λ (l : ℕ). drop (l + m) (chain n g ++ behind)) (sym (length-chain k g even n)) ∙ drop-append-add (chain n g) behind m
-
--- ---- values laid into a buffer at an offset
-
-module _ {A : Type 0} (buffer : List A) where
-  front-length : (o : ℕ) (new : List A) → o ≤ length buffer → length (take o buffer ++ new) ≡ o + length new
-  front-length o new h = length-append (take o buffer) new ∙ ap (λ (n : ℕ). n + length new) (length-take-le o buffer h)
-
-  pub placed-none : (o : ℕ) → buffer ≡ placed o [] buffer
-  placed-none o =
-      sym (take-append-drop o buffer)
-      ∙ ap₂ (λ (l : List A) (n : ℕ). l ++ drop n buffer) (sym (append-nil (take o buffer))) (sym (add-zero o))
-
-  pub placed-one : (o : ℕ) (x : A) → o < length buffer → set buffer o x ≡ placed o (x ∷ []) buffer
-  placed-one o x h =
-      set-split buffer o x h
-      ∙ sym (append-snoc (take o buffer) x (drop (suc o) buffer))
-      ∙ ap (λ (n : ℕ). take o buffer ++ (x ∷ []) ++ drop n buffer) (sym (add-one o))
-
-  pub placed-length : (o : ℕ) (new : List A) → o + length new ≤ length buffer → length (placed o new buffer) ≡ length buffer
-  placed-length o new h =
-      length-append (take o buffer ++ new) (drop (o + length new) buffer)
-      ∙ omega (arith, front-length o new (omega arith), length-drop (o + length new) buffer)
-
-  pub placed-more : (o : ℕ) (new more : List A) → o + length new + length more ≤ length buffer →
-      placed (o + length new) more (placed o new buffer) ≡ placed o (new ++ more) buffer
-  placed-more o new more h =
-      let front : length (take o buffer ++ new) ≡ o + length new = front-length o new (omega arith) in
-      ap₂ (λ (f b : List A). f ++ more ++ b)
-      (take-at (take o buffer ++ new) (drop (o + length new) buffer) (o + length new) front)
-      (ap (λ (n : ℕ). drop (n + length more) (placed o new buffer)) (sym front)
-      ∙ drop-append-add (take o buffer ++ new) (drop (o + length new) buffer) (length more)
-      ∙ drop-drop (length more) (o + length new) buffer)
-      ∙ ap₂ (λ (f : List A) (n : ℕ). f ++ drop n buffer) (append-assoc (take o buffer) new more) (together o)
-    where
-      together : (o : ℕ) → o + length new + length more ≡ o + length (new ++ more)
-      together o = omega (arith, length-append new more)
-
-  pub placed-front : (new : List A) → placed 0 new buffer ≡ overwritten new buffer
-  placed-front new = ap (λ (n : ℕ). new ++ drop n buffer) (zero-add (length new))
-
--- what is laid behind what was laid before
-module _ {o : ℕ} {new buffer : List ℕ} {next : ℕ} {left : List ℕ} (p : Put o new buffer next left) where
-  pub put-length : o + length new ≤ length buffer → length left ≡ length buffer
-  put-length h = ap length (p .laid) ∙ placed-length buffer o new h
-
-  pub put-then : {more : List ℕ} {last : ℕ} {after : List ℕ} → Put next more left last after →
-      o + length new + length more ≤ length buffer → Put o (new ++ more) buffer last after
-  put-then {more} {last} {after} q h =
-      record {
-        behind = omega (arith, q .behind, p .behind, length-append new more);
-        laid =
-            q .laid
-            ∙ ap₂ (λ (n : ℕ) (l : List ℕ). placed n more l) (p .behind) (p .laid)
-            ∙ placed-more buffer o new more h;
-      }
-
-pub put-none : (o : ℕ) (buffer : List ℕ) → Put o [] buffer o buffer
-put-none o buffer = record { behind = sym (add-zero o); laid = placed-none buffer o }
-
--- lists of one length k, laid one behind the other
-module _ (k : ℕ) (g : ℕ → List ℕ) (even : (i : ℕ) → length (g i) ≡ k) {o : ℕ} {buffer : List ℕ} where
-  pub chain-start : Put o (chain 0 g) buffer o buffer
-  unfolding chain
-  chain-start = put-none o buffer
-
-  -- how much has been laid, and that the buffer keeps its length
-  pub chain-laid : (i : ℕ) {next : ℕ} {left : List ℕ} → Put o (chain i g) buffer next left → o + i * k ≤ length buffer →
-      (next ≡ o + i * k) × (length left ≡ length buffer)
-  chain-laid i p h =
-      let n : length (chain i g) ≡ i * k = length-chain k g even i in
-      (omega (arith, p .behind), put-length p (omega arith))
-
-  pub chain-next : (i : ℕ) {next : ℕ} {left : List ℕ} → Put o (chain i g) buffer next left →
-      {last : ℕ} {after : List ℕ} → Put next (g i) left last after → o + i * k + k ≤ length buffer → Put o (chain (i + 1) g) buffer last after
-  unfolding chain
-  chain-next i p {last} {after} q h =
-      subst (λ (n : ℕ). Put o (chain n g) buffer last after) (sym (add-one i))
-      (put-then p q (omega (arith, length-chain k g even i, even i)))

@@ -1,21 +1,11 @@
--- Where the numbers of a whole tape stand, and bytes laid into a buffer at an offset.
-use mathlib.Core.Path.{_≡_}
-use mathlib.Core.List.{List, _++_}
+-- Where the numbers of a whole tape stand.
+use mathlib.Core.List.{List}
 use Prim.Native.Nat.{ℕ, _+_}
 use lib.IntN.{ℤ}
-use lib.ListN.{length, getD, take, drop}
+use lib.ListN.{getD}
 use Rattle.model.specs.Tape.{fromFour}
 
 -- the number of the flow record at offset o
 abbrev pub numberAt : List ℕ → ℕ → ℤ
 numberAt tape o =
     fromFour (getD tape (o + 1) 0) (getD tape (o + 1 + 1) 0) (getD tape (o + 1 + 2) 0) (getD tape (o + 1 + 3) 0)
-
--- a buffer with new values from offset o on, and its others left
-abbrev pub placed : {A : Type 0} → ℕ → List A → List A → List A
-placed o new buffer = take o buffer ++ new ++ drop (o + length new) buffer
-
--- what laying values at offset o gives and leaves: the offset behind them, and the buffer
-pub record Put (o : ℕ) (new buffer : List ℕ) (next : ℕ) (left : List ℕ) : Type 0 where
-  pub behind : next ≡ o + length new
-  pub laid : left ≡ placed o new buffer

@@ -11,7 +11,7 @@ ghost use lib.ListN.{length, getD};
 ghost use Rattle.model.specs.declared.Entry.{Entry};
 ghost use Rattle.model.specs.Lists.{at, chain, overwritten};
 ghost use Rattle.model.specs.Tape.{encoded, tapeOf};
-ghost use Rattle.tape.specs.Places.{Put};
+ghost use Rattle.output.specs.Put.{Put};
 
 // A record for each sample.
 fn lay_samples(samples: &[u8], output: &mut [u8], o: usize) -> usize

@@ -7,7 +7,7 @@
 //     scan     the whole tape, with nothing written
 //     fill     the numbers of a whole tape, into the buffers
 //     reading  read
-//     put      bytes laid into a buffer
+//     put      records laid into a buffer
 //     lay      the records of a whole job
 //     writing  write
 mod bytes;

@@ -1,21 +1,14 @@
-// Bytes laid into a buffer. Each function gives the offset behind what it laid.
+// Records laid into a buffer. Each function gives the offset behind what it laid.
 
 use crate::bytes::complement_of;
 use model::Entry;
+use output::put_byte;
 ghost use mathlib.Core.List.{[], _∷_, _++_};
 ghost use Prim.Native.Nat.{_+_, _≤_};
 ghost use lib.ListN.{length};
 ghost use Rattle.model.specs.declared.Entry.{Entry};
 ghost use Rattle.model.specs.Tape.{twoBytes, fourBytes, encoded};
-ghost use Rattle.tape.specs.Places.{Put};
-
-fn put_byte(output: &mut [u8], o: usize, byte: u8) -> usize
-    requires { ⌜ o + 1 ≤ length (now output) ⌝ }
-    ensures { λ r. ⌜ Put o (byte ∷ []) (now (output .entry)) r (now (output .exit)) ⌝ }
-{
-    output[o] = byte;
-    o + 1
-}
+ghost use Rattle.output.specs.Put.{Put};
 
 // A number in two bytes, the lowest first.
 fn put_two(output: &mut [u8], o: usize, n: u32) -> usize

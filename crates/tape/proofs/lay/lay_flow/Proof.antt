@@ -12,8 +12,9 @@ use mir.Facts.{toZ-ofZ}
 use Rattle.model.specs.declared.Entry.{Entry}
 use Rattle.model.specs.Lists.{at, chain}
 use Rattle.model.specs.Tape.{encoded}
-use Rattle.tape.specs.Places.{Put}
-use Rattle.tape.proofs.Sequences.{chain-start, chain-laid, chain-next}
+use Rattle.model.proofs.Lists.{length-chain}
+use Rattle.output.specs.Put.{Put}
+use Rattle.output.proofs.Laid.{put-length, chain-start, chain-next}
 use Rattle.tape.proofs.lay.lay_flow.Statement.{statement}
 use Rattle.tape.proofs.lay.lay_flow.Tie as tie
 
@@ -28,14 +29,16 @@ abbrev μ-loop : tie.MeasureT-loop
 μ-loop flow output₀ o next₀ j₀ output next j = length flow - j
 
 loop-holds : tie.Need-loop-holds Inv-loop μ-loop
-loop-holds c = (zero-le, chain-start 5 _ (λ _. refl))
+loop-holds c = (zero-le, chain-start _)
 
 -- how much has been laid, and that the buffer keeps its length
 laid : (c : tie.At-loop Inv-loop μ-loop) → let a = c .before .before .args in
     (c .loop .next ≡ a .o + c .loop .j * 5) × (length (c .loop .output) ≡ length (a .output .now))
 laid c =
     let a = c .before .before .args in
-    chain-laid 5 (records (a .flow .now)) (λ _. refl) (c .loop .j) (c .loop .inv .1) (omega (arith, c .loop .inv .0, c .before .before .pre))
+    let p = c .loop .inv .1 in
+    let n : length (chain (c .loop .j) (records (a .flow .now))) ≡ c .loop .j * 5 = length-chain 5 _ (λ _. refl) (c .loop .j) in
+    (omega (arith, p .behind), put-length p (omega (arith, c .loop .inv .0, c .before .before .pre)))
 
 mul-t6 : tie.Need-mul-t6 Inv-loop μ-loop
 mul-t6 c = search needs
@@ -67,8 +70,8 @@ loop-again c =
     let s = c .before .before .before .before .before .before in
     let a = s .before .before .args in (
       omega arith,
-      chain-next 5 (records (a .flow .now)) (λ _. refl) (s .loop .j) (s .loop .inv .1) (laid-one c)
-          (omega (arith, s .before .before .pre, c .before .before .before .before .before .loop-test .taken)),
+      chain-next (records (a .flow .now)) (s .loop .j) (s .loop .inv .1) (laid-one c)
+          (omega (arith, laid s, s .before .before .pre, c .before .before .before .before .before .loop-test .taken)),
     )
 
 same-length : tie.Need-same-length Inv-loop μ-loop

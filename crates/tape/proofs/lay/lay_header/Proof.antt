@@ -1,6 +1,6 @@
 -- `tape::lay::lay_header` meets its contract. Assumes nothing.
 use native.Mathlib.Omega.{arith}
-use Rattle.tape.proofs.Sequences.{put-then}
+use Rattle.output.proofs.Laid.{put-then}
 use borrow.Author.Needs.{needs}
 use Rattle.tape.proofs.lay.lay_header.Statement.{statement}
 use Rattle.tape.proofs.lay.lay_header.Tie as tie

@@ -7,8 +7,9 @@ use lib.ListN.{length, getD}
 use Rattle.model.specs.declared.Entry.{Entry}
 use Rattle.model.specs.Lists.{chain}
 use Rattle.model.specs.Tape.{encoded}
-use Rattle.tape.specs.Places.{Put}
-use Rattle.tape.proofs.Sequences.{chain-start, chain-laid, chain-next}
+use Rattle.model.proofs.Lists.{length-chain}
+use Rattle.output.specs.Put.{Put}
+use Rattle.output.proofs.Laid.{put-length, chain-start, chain-next}
 use Rattle.tape.proofs.lay.lay_samples.Statement.{statement}
 use Rattle.tape.proofs.lay.lay_samples.Tie as tie
 
@@ -23,14 +24,16 @@ abbrev μ-loop : tie.MeasureT-loop
 μ-loop samples output₀ o next₀ i₀ output next i = length samples - i
 
 loop-holds : tie.Need-loop-holds Inv-loop μ-loop
-loop-holds c = (zero-le, chain-start 2 _ (λ _. refl))
+loop-holds c = (zero-le, chain-start _)
 
 -- how much has been laid, and that the buffer keeps its length
 laid : (c : tie.At-loop Inv-loop μ-loop) → let a = c .before .before .before .args in
     (c .loop .next ≡ a .o + c .loop .i * 2) × (length (c .loop .output) ≡ length (a .output .now))
 laid c =
     let a = c .before .before .before .args in
-    chain-laid 2 (records (a .samples .now)) (λ _. refl) (c .loop .i) (c .loop .inv .1) (omega (arith, c .loop .inv .0, c .before .before .before .pre))
+    let p = c .loop .inv .1 in
+    let n : length (chain (c .loop .i) (records (a .samples .now))) ≡ c .loop .i * 2 = length-chain 2 _ (λ _. refl) (c .loop .i) in
+    (omega (arith, p .behind), put-length p (omega (arith, c .loop .inv .0, c .before .before .before .pre)))
 
 shared-slice-read-t11 : tie.Need-shared-slice-read-t11 Inv-loop μ-loop
 shared-slice-read-t11 c = omega arith
@@ -49,8 +52,8 @@ loop-again c =
     let s = c .before .before .before .before .before .before in
     let a = s .before .before .before .args in (
       omega arith,
-      chain-next 2 (records (a .samples .now)) (λ _. refl) (s .loop .i) (s .loop .inv .1) (c .before .before .put-record .ensures)
-          (omega (arith, s .before .before .before .pre, c .before .before .before .before .before .loop-test .taken)),
+      chain-next (records (a .samples .now)) (s .loop .i) (s .loop .inv .1) (c .before .before .put-record .ensures)
+          (omega (arith, laid s, s .before .before .before .pre, c .before .before .before .before .before .loop-test .taken)),
     )
 
 same-length : tie.Need-same-length Inv-loop μ-loop

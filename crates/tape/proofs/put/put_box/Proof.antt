@@ -1,6 +1,6 @@
 -- `tape::put::put_box` meets its contract. Assumes nothing.
 use native.Mathlib.Omega.{arith}
-use Rattle.tape.proofs.Sequences.{put-then}
+use Rattle.output.proofs.Laid.{put-then}
 use borrow.Author.Needs.{needs}
 use Rattle.tape.proofs.put.put_box.Statement.{statement}
 use Rattle.tape.proofs.put.put_box.Tie as tie

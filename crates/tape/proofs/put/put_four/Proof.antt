@@ -5,9 +5,9 @@ use Prim.Native.Nat.{ℕ}
 use native.Mathlib.Omega.{arith}
 use mir.Facts.{toZ-ofZ}
 use Rattle.model.specs.Tape.{byteOf, complement}
-use Rattle.tape.specs.Places.{Put}
+use Rattle.output.specs.Put.{Put}
 use Rattle.tape.proofs.Digits.{four-halves}
-use Rattle.tape.proofs.Sequences.{put-then}
+use Rattle.output.proofs.Laid.{put-then}
 use borrow.Author.Needs.{needs}
 use Rattle.tape.proofs.put.put_four.Statement.{statement}
 use Rattle.tape.proofs.put.put_four.Tie as tie

@@ -5,8 +5,8 @@ use native.Mathlib.Omega.{arith}
 use lib.IntN.{ℤ}
 use mir.Facts.{toZ-ofZ}
 use Rattle.model.specs.Tape.{fourBytes}
-use Rattle.tape.specs.Places.{Put}
-use Rattle.tape.proofs.Sequences.{put-then}
+use Rattle.output.specs.Put.{Put}
+use Rattle.output.proofs.Laid.{put-then}
 use borrow.Author.Needs.{needs}
 use Rattle.tape.proofs.put.put_number.Statement.{statement}
 use Rattle.tape.proofs.put.put_number.Tie as tie

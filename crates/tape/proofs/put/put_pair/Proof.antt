@@ -1,6 +1,6 @@
 -- `tape::put::put_pair` meets its contract. Assumes nothing.
 use native.Mathlib.Omega.{arith}
-use Rattle.tape.proofs.Sequences.{put-then}
+use Rattle.output.proofs.Laid.{put-then}
 use borrow.Author.Needs.{needs}
 use Rattle.tape.proofs.put.put_pair.Statement.{statement}
 use Rattle.tape.proofs.put.put_pair.Tie as tie

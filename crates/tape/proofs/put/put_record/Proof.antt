@@ -9,7 +9,7 @@ use mir.Val.{SFits}
 use mir.Facts.{toZ-ofZ}
 use Rattle.model.specs.declared.Entry.{Entry}
 use Rattle.model.specs.Tape.{encoded}
-use Rattle.tape.specs.Places.{Put}
+use Rattle.output.specs.Put.{Put}
 use borrow.Author.Needs.{needs}
 use Rattle.tape.proofs.put.put_record.Statement.{statement}
 use Rattle.tape.proofs.put.put_record.Tie as tie

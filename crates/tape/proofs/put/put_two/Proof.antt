@@ -3,8 +3,8 @@ use mathlib.Core.Path.{_≡_, subst}
 use mathlib.Core.List.{[], _∷_}
 use Prim.Native.Nat.{ℕ, _/_, _%_}
 use native.Mathlib.Omega.{arith}
-use Rattle.tape.proofs.Sequences.{put-then}
-use Rattle.tape.specs.Places.{Put}
+use Rattle.output.proofs.Laid.{put-then}
+use Rattle.output.specs.Put.{Put}
 use borrow.Author.Needs.{needs}
 use Rattle.tape.proofs.put.put_two.Statement.{statement}
 use Rattle.tape.proofs.put.put_two.Tie as tie

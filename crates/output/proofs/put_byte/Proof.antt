@@ -1,10 +1,10 @@
--- `tape::put::put_byte` meets its contract. Assumes nothing.
+-- `output::put_byte` meets its contract. Assumes nothing.
 use mathlib.Core.Path.{refl}
 use native.Mathlib.Omega.{arith}
-use Rattle.tape.proofs.Sequences.{placed-one}
+use Rattle.output.proofs.Laid.{placed-one}
 use borrow.Author.Needs.{needs}
-use Rattle.tape.proofs.put.put_byte.Statement.{statement}
-use Rattle.tape.proofs.put.put_byte.Tie as tie
+use Rattle.output.proofs.put_byte.Statement.{statement}
+use Rattle.output.proofs.put_byte.Tie as tie
 
 slice-write-output : tie.Need-slice-write-output
 slice-write-output c = search needs

@@ -1,0 +1,2 @@
+-- The laws of bytes laid into a buffer.
+pub mod Laid
