@@ -124,3 +124,10 @@ pub fn unsigned_wide(a: i64) -> u64
 {
     a as u64
 }
+
+// |a|, also of the least number, which no i64 holds.
+pub fn magnitude_wide(a: i64) -> u64
+    ensures { λ r. ⌜ r ≡ natAbs a ⌝ }
+{
+    if a < 0 { (-1 - a) as u64 + 1 } else { a as u64 }
+}

@@ -68,23 +68,27 @@ answerText a t values = elim (a .outcome) [
   | spent ↦ figuresText a ++ imageText t values
 ]
 
--- With flow records it checks, else it runs
-unfoldable pub jobText : Progress → List ℕ
-jobText p =
+-- With flow records it checks, else it runs, with tables of zeros: the job's answer, and the image that it leaves
+abbrev pub zeros : ℕ → List ℤ
+zeros n = replicate n (pos 0)
+
+unfoldable pub jobAnswer : Progress → Answer
+jobAnswer p =
     let t : Terms = p .terms in
-    let values : List ℤ = replicate (pixelsOf t) (pos 0) in
-    let flow : List ℤ = replicate (pairsOf t) (pos 0) in
-    let work : List ℤ = replicate (2 * pairsOf t) (pos 0) in
-    elim (eqb (length (p .flow)) 0) [
-      | false ↦ answerText (checkAnswer t (p .samples) (p .flow) values) t (checkImage t (p .samples) (p .flow) values)
-      | true ↦
-          answerText (runAnswer t (p .rounds) (p .samples) flow values work) t
-          (runImage t (p .rounds) (p .samples) flow values work)
-    ]
+    cond (eqb (length (p .flow)) 0)
+    (runAnswer t (p .rounds) (p .samples) (zeros (pairsOf t)) (zeros (pixelsOf t)) (zeros (2 * pairsOf t)))
+    (checkAnswer t (p .samples) (p .flow) (zeros (pixelsOf t)))
+
+unfoldable pub jobImage : Progress → List ℤ
+jobImage p =
+    let t : Terms = p .terms in
+    cond (eqb (length (p .flow)) 0)
+    (runImage t (p .rounds) (p .samples) (zeros (pairsOf t)) (zeros (pixelsOf t)) (zeros (2 * pairsOf t)))
+    (checkImage t (p .samples) (p .flow) (zeros (pixelsOf t)))
 
 abbrev pub readText : Reading → List ℕ
 readText (turned number place) = refusalText (refusal number place)
-readText (whole p) = jobText p
+readText (whole p) = answerText (jobAnswer p) (p .terms) (jobImage p)
 
 -- It reads one tape; 17 over 65,536 bytes. Its tables hold 4,096 samples and 8,064 flow values
 unfoldable pub programText : List ℕ → List ℕ

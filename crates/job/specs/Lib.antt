@@ -1,0 +1,2 @@
+-- What the contract cites beside the model's definitions.
+pub mod Tables

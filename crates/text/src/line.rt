@@ -1,0 +1,69 @@
+// A refusal's line, and the line of numbers.
+
+use crate::number::put_decimal;
+use crate::number::put_signed;
+use output::put_byte;
+use output::put_bytes;
+ghost use mathlib.Core.List.{_++_};
+ghost use Prim.Native.Nat.{_+_, _≤_};
+ghost use lib.IntN.{pos};
+ghost use lib.ListN.{length};
+ghost use Rattle.model.specs.Calls.{refusal};
+ghost use Rattle.model.specs.Text.{ascii, decimal, signedDecimal};
+ghost use Rattle.model.specs.Program.{refusalText};
+ghost use Rattle.output.specs.Put.{Put};
+
+pub fn put_refusal(output: &mut [u8], o: usize, number: u32, place: usize) -> usize
+    requires { ⌜ o + 53 ≤ length (now output) ⌝ }
+    ensures { λ r. ⌜ Put o (refusalText (refusal number place)) (now (output .entry)) r (now (output .exit)) ⌝ }
+    ensures { λ r. ⌜ r ≤ o + 53 ⌝ }
+{
+    let first = put_bytes(output, o, b"refused ");
+    let second = put_decimal(output, first, number as u64);
+    let third = put_bytes(output, second, b" at ");
+    let fourth = put_decimal(output, third, place as u64);
+    put_byte(output, fourth, b'\n')
+}
+
+// The numbers of an accepted answer, behind the word of its outcome.
+fn put_numbers(
+    output: &mut [u8],
+    o: usize,
+    moved: u32,
+    price: u64,
+    floor: i64,
+    slack: u64,
+) -> usize
+    requires { ⌜ o + 86 ≤ length (now output) ⌝ }
+    ensures { λ r. ⌜ Put o (ascii " " ++ decimal moved ++ ascii " " ++ decimal price ++ ascii " " ++ signedDecimal floor ++ ascii " " ++ decimal slack ++ ascii "\n") (now (output .entry)) r (now (output .exit)) ⌝ }
+    ensures { λ r. ⌜ r ≤ o + 86 ⌝ }
+{
+    let a = put_byte(output, o, b' ');
+    let b = put_decimal(output, a, moved as u64);
+    let c = put_byte(output, b, b' ');
+    let d = put_decimal(output, c, price);
+    let e = put_byte(output, d, b' ');
+    let f = put_signed(output, e, floor);
+    let g = put_byte(output, f, b' ');
+    let h = put_decimal(output, g, slack);
+    put_byte(output, h, b'\n')
+}
+
+// The header line, then the line of numbers with the word of the outcome in front.
+pub fn put_figures(
+    output: &mut [u8],
+    o: usize,
+    word: &[u8],
+    moved: u32,
+    price: u64,
+    floor: i64,
+    slack: u64,
+) -> usize
+    requires { ⌜ (length (now word) ≤ 7) × (o + 125 ≤ length (now output)) ⌝ }
+    ensures { λ r. ⌜ Put o (ascii "outcome moved price floor slack\n" ++ now (word .entry) ++ ascii " " ++ decimal moved ++ ascii " " ++ decimal price ++ ascii " " ++ signedDecimal floor ++ ascii " " ++ decimal slack ++ ascii "\n") (now (output .entry)) r (now (output .exit)) ⌝ }
+    ensures { λ r. ⌜ r ≤ o + 125 ⌝ }
+{
+    let first = put_bytes(output, o, b"outcome moved price floor slack\n");
+    let second = put_bytes(output, first, word);
+    put_numbers(output, second, moved, price, floor, slack)
+}
