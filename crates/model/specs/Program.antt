@@ -33,32 +33,38 @@ word checked = "checked"
 word settled = "settled"
 word spent = "spent"
 
+-- a number's text with a space in front
+abbrev pub field : List ℕ → List ℕ
+field digits = ascii " " ++ digits
+
 -- A refusal prints only its number and place
 unfoldable pub refusalText : Answer → List ℕ
 refusalText a = ascii "refused " ++ decimal (a .number) ++ ascii " at " ++ decimal (a .place) ++ ascii "\n"
 
 -- The header line and the line of numbers
+abbrev pub numbersText : ℕ → ℤ → ℤ → ℤ → List ℕ
+numbersText moved price floor slack =
+    field (decimal moved)
+    ++ field (signedDecimal price)
+    ++ field (signedDecimal floor)
+    ++ field (signedDecimal slack)
+    ++ ascii "\n"
+
 unfoldable pub figuresText : Answer → List ℕ
 figuresText a =
     ascii "outcome moved price floor slack\n"
     ++ ascii (word (a .outcome))
-    ++ ascii " "
-    ++ decimal (a .moved)
-    ++ ascii " "
-    ++ signedDecimal (a .price)
-    ++ ascii " "
-    ++ signedDecimal (a .floor)
-    ++ ascii " "
-    ++ signedDecimal (a .slack)
-    ++ ascii "\n"
+    ++ numbersText (a .moved) (a .price) (a .floor) (a .slack)
 
 -- One line of image values for each row
+abbrev pub rowText : ℕ → (ℕ → ℤ) → List ℕ
+rowText width value =
+    chain width (λ column. cond (eqb column 0) (signedDecimal (value column)) (field (signedDecimal (value column))))
+    ++ ascii "\n"
+
 unfoldable pub imageText : Terms → List ℤ → List ℕ
 imageText t values =
-    chain (t .height) (λ row.
-    chain (t .width) (λ column.
-    cond (eqb column 0) [] (ascii " ") ++ signedDecimal (at values (pixel (t .width) row column)))
-    ++ ascii "\n")
+    chain (t .height) (λ row. rowText (t .width) (λ column. at values (pixel (t .width) row column)))
 
 unfoldable pub answerText : Answer → Terms → List ℤ → List ℕ
 answerText a t values = elim (a .outcome) [

@@ -47,6 +47,10 @@ module _ {A : Type 0} (buffer : List A) where
   pub placed-front : (new : List A) → placed 0 new buffer ≡ overwritten new buffer
   placed-front new = ap (λ (n : ℕ). new ++ drop n buffer) (zero-add (length new))
 
+-- the bytes under another name
+pub put-as : {o next : ℕ} {new other buffer left : List ℕ} → new ≡ other → Put o new buffer next left → Put o other buffer next left
+put-as {o} {next} {new} {other} {buffer} {left} e p = subst (λ (l : List ℕ). Put o l buffer next left) e p
+
 -- what is laid behind what was laid before
 module _ {o : ℕ} {new buffer : List ℕ} {next : ℕ} {left : List ℕ} (p : Put o new buffer next left) where
   pub put-length : o + length new ≤ length buffer → length left ≡ length buffer
@@ -63,6 +67,11 @@ module _ {o : ℕ} {new buffer : List ℕ} {next : ℕ} {left : List ℕ} (p : P
             ∙ placed-more buffer o new more h;
       }
 
+  -- where the last offset is known to lie within the buffer
+  pub put-within : {more : List ℕ} {last : ℕ} {after : List ℕ} → Put next more left last after → last ≤ length buffer →
+      Put o (new ++ more) buffer last after
+  put-within q h = put-then q (omega (arith, p .behind, q .behind))
+
 pub put-none : (o : ℕ) (buffer : List ℕ) → Put o [] buffer o buffer
 put-none o buffer = record { behind = sym (add-zero o); laid = placed-none buffer o }
 
@@ -76,4 +85,4 @@ module _ {o : ℕ} {buffer : List ℕ} (g : ℕ → List ℕ) where
       {last : ℕ} {after : List ℕ} → Put next (g i) left last after → last ≤ length buffer → Put o (chain (i + 1) g) buffer last after
   unfolding chain
   chain-next i p {last} {after} q h =
-      subst (λ (n : ℕ). Put o (chain n g) buffer last after) (sym (add-one i)) (put-then p q (omega (arith, p .behind, q .behind)))
+      subst (λ (n : ℕ). Put o (chain n g) buffer last after) (sym (add-one i)) (put-within p q h)

@@ -1,9 +1,9 @@
 // The whole text of an answer.
 
-use calls::answer::Answer;
 use crate::image::put_image;
 use crate::line::put_figures;
 use crate::line::put_refusal;
+use calls::answer::Answer;
 use model::Terms;
 ghost use Prim.Native.Nat.{_+_, _*_, _≤_};
 ghost use lib.ListN.{length};

@@ -1,7 +1,8 @@
-// A refusal's line, and the line of numbers.
+// A refusal's line, and the header line with the line of numbers.
 
 use crate::number::put_decimal;
-use crate::number::put_signed;
+use crate::number::put_field;
+use crate::number::put_signed_field;
 use output::put_byte;
 use output::put_bytes;
 ghost use mathlib.Core.List.{_++_};
@@ -9,14 +10,13 @@ ghost use Prim.Native.Nat.{_+_, _≤_};
 ghost use lib.IntN.{pos};
 ghost use lib.ListN.{length};
 ghost use Rattle.model.specs.Calls.{refusal};
-ghost use Rattle.model.specs.Text.{ascii, decimal, signedDecimal};
-ghost use Rattle.model.specs.Program.{refusalText};
+ghost use Rattle.model.specs.Text.{ascii};
+ghost use Rattle.model.specs.Program.{refusalText, numbersText};
 ghost use Rattle.output.specs.Put.{Put};
 
 pub fn put_refusal(output: &mut [u8], o: usize, number: u32, place: usize) -> usize
     requires { ⌜ o + 53 ≤ length (now output) ⌝ }
     ensures { λ r. ⌜ Put o (refusalText (refusal number place)) (now (output .entry)) r (now (output .exit)) ⌝ }
-    ensures { λ r. ⌜ r ≤ o + 53 ⌝ }
 {
     let first = put_bytes(output, o, b"refused ");
     let second = put_decimal(output, first, number as u64);
@@ -25,28 +25,17 @@ pub fn put_refusal(output: &mut [u8], o: usize, number: u32, place: usize) -> us
     put_byte(output, fourth, b'\n')
 }
 
-// The numbers of an accepted answer, behind the word of its outcome.
-fn put_numbers(
-    output: &mut [u8],
-    o: usize,
-    moved: u32,
-    price: u64,
-    floor: i64,
-    slack: u64,
-) -> usize
+// The numbers of an accepted answer, to the end of their line.
+fn put_numbers(output: &mut [u8], o: usize, moved: u32, price: u64, floor: i64, slack: u64) -> usize
     requires { ⌜ o + 86 ≤ length (now output) ⌝ }
-    ensures { λ r. ⌜ Put o (ascii " " ++ decimal moved ++ ascii " " ++ decimal price ++ ascii " " ++ signedDecimal floor ++ ascii " " ++ decimal slack ++ ascii "\n") (now (output .entry)) r (now (output .exit)) ⌝ }
+    ensures { λ r. ⌜ Put o (numbersText moved (pos price) floor (pos slack)) (now (output .entry)) r (now (output .exit)) ⌝ }
     ensures { λ r. ⌜ r ≤ o + 86 ⌝ }
 {
-    let a = put_byte(output, o, b' ');
-    let b = put_decimal(output, a, moved as u64);
-    let c = put_byte(output, b, b' ');
-    let d = put_decimal(output, c, price);
-    let e = put_byte(output, d, b' ');
-    let f = put_signed(output, e, floor);
-    let g = put_byte(output, f, b' ');
-    let h = put_decimal(output, g, slack);
-    put_byte(output, h, b'\n')
+    let first = put_field(output, o, moved as u64);
+    let second = put_field(output, first, price);
+    let third = put_signed_field(output, second, floor);
+    let fourth = put_field(output, third, slack);
+    put_byte(output, fourth, b'\n')
 }
 
 // The header line, then the line of numbers with the word of the outcome in front.
@@ -60,7 +49,7 @@ pub fn put_figures(
     slack: u64,
 ) -> usize
     requires { ⌜ (length (now word) ≤ 7) × (o + 125 ≤ length (now output)) ⌝ }
-    ensures { λ r. ⌜ Put o (ascii "outcome moved price floor slack\n" ++ now (word .entry) ++ ascii " " ++ decimal moved ++ ascii " " ++ decimal price ++ ascii " " ++ signedDecimal floor ++ ascii " " ++ decimal slack ++ ascii "\n") (now (output .entry)) r (now (output .exit)) ⌝ }
+    ensures { λ r. ⌜ Put o (ascii "outcome moved price floor slack\n" ++ now (word .entry) ++ numbersText moved (pos price) floor (pos slack)) (now (output .entry)) r (now (output .exit)) ⌝ }
     ensures { λ r. ⌜ r ≤ o + 125 ⌝ }
 {
     let first = put_bytes(output, o, b"outcome moved price floor slack\n");

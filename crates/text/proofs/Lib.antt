@@ -1,0 +1,3 @@
+-- The laws of the text.
+--     Digits   the digits that `io` gives are the number's
+pub mod Digits

@@ -1,0 +1,76 @@
+-- `text::number::put_signed` meets its contract. Assumes nothing.
+use native.Mathlib.Omega.{arith}
+use mathlib.Core.Path.{_≡_, ap, _∙_}
+use mathlib.Core.List.{_∷_}
+use Prim.Native.Nat.{ℕ}
+use lib.Dec.{lit<}
+use lib.IntN.{pos, natAbs}
+use mir.Syntax.{w64}
+use mir.Val.{SFits}
+use mir.ValLaws.{toZ-ofZ}
+use Rattle.integers.proofs.Machine.{<-read, ≥-read, fits}
+use Rattle.model.specs.Text.{decimal}
+use Rattle.output.proofs.Laid.{put-as, put-within}
+use Rattle.text.proofs.Digits.{below-zero, from-zero}
+use borrow.Author.Needs.{needs}
+use Rattle.text.proofs.number.put_signed.Statement.{statement}
+use Rattle.text.proofs.number.put_signed.Tie as tie
+
+magnitude-wide-requires : tie.Need-magnitude-wide-requires
+magnitude-wide-requires c κs = search needs
+
+put-byte-requires : tie.Need-put-byte-requires
+put-byte-requires c κs = search needs
+
+put-decimal-requires : tie.Need-put-decimal-requires
+put-decimal-requires c κs = search needs
+
+put-decimal-requires-2 : tie.Need-put-decimal-requires-2
+put-decimal-requires-2 c κs = search needs
+
+same-length : tie.Need-same-length
+same-length c = search needs
+
+zero-fits : SFits w64 (pos 0)
+zero-fits = fits w64 (lit< tt)
+
+-- the absolute value
+size : (c : tie.After-magnitude-wide) → c .magnitude-wide .result ≡ natAbs (c .before .before .args .z)
+size c = c .magnitude-wide .ensures ∙ ap natAbs (toZ-ofZ w64 _ (c .before .before .fits .z))
+
+returns : tie.Need-returns
+returns c =
+    let s = c .before .before .before .before .before .before in
+    let a = s .before .before .before .before .before .args in (
+      put-as
+          (ap (λ (n : ℕ). 45 ∷ decimal n) (size (s .before .before .before))
+          ∙ below-zero (a .z) (<-read w64 (s .before .before .before .before .before .fits .z) zero-fits (s .before .before .if1 .taken)))
+          (put-within (s .put-byte .ensures) (c .before .before .put-decimal .ensures .0) (omega arith)),
+      omega arith,
+    )
+
+same-length-2 : tie.Need-same-length-2
+same-length-2 c = search needs
+
+returns-2 : tie.Need-returns-2
+returns-2 c =
+    let s = c .before .before .before .before in
+    let a = s .before .before .before .args in (
+      put-as
+          (ap decimal (size (s .before)) ∙ from-zero (a .z) (≥-read w64 (s .before .before .before .fits .z) zero-fits (s .if1 .left)))
+          (c .before .before .put-decimal2 .ensures .0),
+      omega arith,
+    )
+
+pub put-signed-spec : {M : Type 1} → statement M
+put-signed-spec =
+    tie.close
+    (tie.spec
+    magnitude-wide-requires
+    put-byte-requires
+    put-decimal-requires
+    put-decimal-requires-2
+    same-length
+    returns
+    same-length-2
+    returns-2)
