@@ -44,6 +44,7 @@ fn put_row(output: &mut [u8], o: usize, image: &[i32], start: usize, width: usiz
 pub fn put_image(output: &mut [u8], o: usize, image: &[i32], width: usize, height: usize) -> usize
     requires { ⌜ (height * width ≤ length (now image)) × (o + height * (22 * width + 1) ≤ length (now output)) ⌝ }
     ensures { λ r. ⌜ Put o (chain height (λ row. rowText width (λ column. at (now (image .entry)) (row * width + column)))) (now (output .entry)) r (now (output .exit)) ⌝ }
+    ensures { λ r. ⌜ r ≤ o + height * (22 * width + 1) ⌝ }
 {
     let mut next = o;
     let mut row = 0;

@@ -1,7 +1,7 @@
 -- `text::image::put_image` meets its contract. Assumes nothing.
 use native.Mathlib.Omega.{arith}
 use borrow.Author.Needs.{needs}
-use mathlib.Core.Path.{_≡_, ap}
+use mathlib.Core.Path.{_≡_, ap, subst}
 use mathlib.Core.List.{List}
 use Prim.Native.Nat.{ℕ, suc, _+_, _*_, _-_, _≤_, zero-le}
 use native.Mathlib.Nat.{mul-le-mul-right}
@@ -79,8 +79,10 @@ returns : tie.Need-returns Inv-loop μ-loop
 returns c =
     let s = c .before in
     let a = s .before .before .args in
-    let all : s .loop .row ≡ a .height = omega (arith, s .loop .inv .0, c .loop-test .left) in
-    put-as (ap (λ (n : ℕ). chain n (rows (a .image .now) (a .width))) all) (s .loop .inv .1)
+    let all : s .loop .row ≡ a .height = omega (arith, s .loop .inv .0, c .loop-test .left) in (
+      put-as (ap (λ (n : ℕ). chain n (rows (a .image .now) (a .width))) all) (s .loop .inv .1),
+      subst (λ (n : ℕ). s .loop .next ≤ a .o + n * (22 * a .width + 1)) all (s .loop .inv .2),
+    )
 
 pub put-image-spec : {M : Type 1} → statement M
 put-image-spec =
