@@ -1,13 +1,12 @@
 -- A job whose numbers stand in the fronts of tables: what it asks of their lengths, its answer, and what it leaves in them.
 use mathlib.Core.Path.{_≡_}
 use mathlib.Core.Bool.{Bool, true, cond}
-use mathlib.Core.List.{List}
+use mathlib.Core.List.{List, _++_}
 use Prim.Native.Nat.{ℕ, _*_, _≤_}
 use lib.IntN.{ℤ}
-use lib.ListN.{take}
+use lib.ListN.{take, drop}
 use Rattle.model.specs.declared.Terms.{Terms}
 use Rattle.model.specs.declared.Rounds.{Rounds}
-use Rattle.model.specs.Lists.{overwritten}
 use Rattle.model.specs.Grid.{sizeAllowed}
 use Rattle.model.specs.Calls.{Answer, pixelsOf, pairsOf, checkAnswer, checkImage, runAnswer, runFlow, runImage, runWork}
 
@@ -20,28 +19,33 @@ pub record Tables (t : Terms) (samples flow image work : ℕ) : Type 0 where
   pub workHolds : 2 * pairsOf t ≤ work
 
 module _ (t : Terms) (r : Rounds) (flowed : Bool) (samples : List ℕ) (flow image work : List ℤ) where
-  -- what the calls give and leave, lent the fronts
+  -- what the calls are lent: the tables' fronts
+  abbrev samplesLent : List ℕ
+  samplesLent = take (pixelsOf t) samples
+
+  abbrev flowLent : List ℤ
+  flowLent = take (pairsOf t) flow
+
+  abbrev imageLent : List ℤ
+  imageLent = take (pixelsOf t) image
+
+  abbrev workLent : List ℤ
+  workLent = take (2 * pairsOf t) work
+
+  -- their answer, and what they leave in each front; the rest is left
   abbrev pub answerIn : Answer
   answerIn =
-      cond flowed
-      (checkAnswer t (take (pixelsOf t) samples) (take (pairsOf t) flow) (take (pixelsOf t) image))
-      (runAnswer t r (take (pixelsOf t) samples) (take (pairsOf t) flow) (take (pixelsOf t) image) (take (2 * pairsOf t) work))
+      cond flowed (checkAnswer t samplesLent flowLent imageLent) (runAnswer t r samplesLent flowLent imageLent workLent)
 
   abbrev pub imageFront : List ℤ
   imageFront =
-      cond flowed
-      (checkImage t (take (pixelsOf t) samples) (take (pairsOf t) flow) (take (pixelsOf t) image))
-      (runImage t r (take (pixelsOf t) samples) (take (pairsOf t) flow) (take (pixelsOf t) image) (take (2 * pairsOf t) work))
-
-  abbrev pub imageIn : List ℤ
-  imageIn = overwritten imageFront image
+      cond flowed (checkImage t samplesLent flowLent imageLent) (runImage t r samplesLent flowLent imageLent workLent)
 
   abbrev pub flowIn : List ℤ
-  flowIn =
-      cond flowed flow
-      (overwritten (runFlow t r (take (pixelsOf t) samples) (take (pairsOf t) flow) (take (pixelsOf t) image) (take (2 * pairsOf t) work)) flow)
+  flowIn = cond flowed flow (runFlow t r samplesLent flowLent imageLent workLent ++ drop (pairsOf t) flow)
+
+  abbrev pub imageIn : List ℤ
+  imageIn = imageFront ++ drop (pixelsOf t) image
 
   abbrev pub workIn : List ℤ
-  workIn =
-      cond flowed work
-      (overwritten (runWork t r (take (pixelsOf t) samples) (take (pairsOf t) flow) (take (pixelsOf t) image) (take (2 * pairsOf t) work)) work)
+  workIn = cond flowed work (runWork t r samplesLent flowLent imageLent workLent ++ drop (2 * pairsOf t) work)
