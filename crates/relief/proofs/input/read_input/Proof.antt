@@ -1,0 +1,75 @@
+-- `relief::input::read_input` meets its contract. Assumes nothing.
+use native.Mathlib.Omega.{arith}
+use mathlib.Core.Path.{_≡_, refl}
+use Prim.Native.Nat.{_-_, _≤_, zero-le}
+use lib.ListN.{length}
+use borrow.Author.Needs.{needs}
+use Rattle.relief.proofs.input.read_input.Statement.{statement}
+use Rattle.relief.proofs.input.read_input.Tie as tie
+
+abbrev Inv-loop : tie.InvT-loop
+Inv-loop buffer₀ count₀ failed₀ buffer count failed = (count ≤ length buffer) × (length buffer ≡ length buffer₀)
+
+abbrev μ-loop : tie.MeasureT-loop
+μ-loop buffer₀ count₀ failed₀ buffer count failed = length buffer₀ - count
+
+loop-holds : tie.Need-loop-holds Inv-loop μ-loop
+loop-holds c = (zero-le, refl)
+
+sub-part : tie.Need-sub-part Inv-loop μ-loop
+sub-part c = omega arith
+
+part-part-start : tie.Need-part-part-start Inv-loop μ-loop
+part-part-start c = omega arith
+
+part-part-end : tie.Need-part-part-end Inv-loop μ-loop
+part-part-end c = omega arith
+
+read-requires : tie.Need-read-requires Inv-loop μ-loop
+read-requires c κs = search needs
+
+count-requires : tie.Need-count-requires Inv-loop μ-loop
+count-requires c κs = search needs
+
+add-count : tie.Need-add-count Inv-loop μ-loop
+add-count c = omega arith
+
+loop-less : tie.Need-loop-less Inv-loop μ-loop
+loop-less c = omega arith
+
+loop-again : tie.Need-loop-again Inv-loop μ-loop
+loop-again c =
+    let s = c .before .before .before .before .before .before .before .before .before .before .before in
+    (omega (arith, c .before .before .part4 .given .1, c .before .before .before .count .ensures .0 .0, s .loop .inv), omega (arith, c .before .before .part4 .given .1, s .loop .inv))
+
+same-length : tie.Need-same-length Inv-loop μ-loop
+same-length c = c .before .loop .inv .1
+
+returns : tie.Need-returns Inv-loop μ-loop
+returns c = c .before .loop .inv .0
+
+same-length-2 : tie.Need-same-length-2 Inv-loop μ-loop
+same-length-2 c = omega (arith, c .before .before .part4 .given .1, c .before .before .before .before .before .before .before .before .before .before .before .loop .inv)
+
+returns-2 : tie.Need-returns-2 Inv-loop μ-loop
+returns-2 c = omega (arith, c .before .before .part4 .given .1, c .before .before .before .before .before .before .before .before .before .before .before .loop .inv)
+
+pub read-input-spec : {M : Type 1} → statement M
+read-input-spec =
+    tie.close
+    (tie.spec
+    Inv-loop
+    μ-loop
+    loop-holds
+    sub-part
+    part-part-start
+    part-part-end
+    read-requires
+    count-requires
+    add-count
+    loop-less
+    loop-again
+    same-length
+    returns
+    same-length-2
+    returns-2)

@@ -1,0 +1,29 @@
+// Standard input, as far as a buffer holds it.
+
+ghost use Prim.Native.Nat.{_≤_};
+ghost use lib.ListN.{length};
+
+// How many bytes were read, and whether a read failed.
+pub struct Input {
+    pub count: usize,
+    pub failed: bool,
+}
+
+// Reads until the buffer is full, the input ends or a read fails.
+pub fn read_input(buffer: &mut [u8]) -> Input
+    ensures { λ r. ⌜ r .count ≤ length (now (buffer .exit)) ⌝ }
+{
+    let mut count = 0;
+    let mut failed = false;
+    while count < buffer.len() {
+        let part = &mut buffer[count..];
+        let got = libc::read(0, part);
+        let more = io::count(got, part);
+        if more == 0 {
+            failed = got < 0;
+            break;
+        }
+        count += more;
+    }
+    Input { count, failed }
+}
