@@ -1,2 +1,5 @@
--- What the contract cites beside the model's definitions.
+-- What the contracts cite beside the model's definitions.
+--     Tables    a job whose numbers stand in the fronts of tables
+--     Cleaned   a tape cleaned in tables
 pub mod Tables
+pub mod Cleaned

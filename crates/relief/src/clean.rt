@@ -1,10 +1,5 @@
 // What the program prints for the bytes that it has read.
 
-use job::treat;
-use tape::ReadResult;
-use tape::read;
-use terms::pixels;
-use text::answer::put_answer;
 use text::line::put_refusal;
 ghost use mathlib.Core.Path.{_≡_};
 ghost use lib.ListN.{length};
@@ -14,7 +9,7 @@ ghost use Rattle.model.specs.Program.{programText};
 
 // The text stands at the front of the output; how many bytes it has. The tables hold 4,096 samples
 // and 8,064 flow values; the output has room for the text of the largest job that they hold.
-pub fn clean(input: &[u8], output: &mut [u8; 90368]) -> usize
+pub fn clean(input: &[u8], output: &mut [u8; 98304]) -> usize
     ensures { λ r. ⌜ r ≡ length (programText (now (input .entry))) ⌝ }
     ensures { λ _. ⌜ now (output .exit) ≡ overwritten (programText (now (input .entry))) (now (output .entry)) ⌝ }
     ensures { λ r. ⌜ Counts r (now (output .exit)) ⌝ }
@@ -26,25 +21,12 @@ pub fn clean(input: &[u8], output: &mut [u8; 90368]) -> usize
     let mut flow = [0i32; 8064];
     let mut image = [0i32; 4096];
     let mut work = [0i32; 16128];
-    let got = read(input, &mut samples, &mut flow);
-    match got {
-        ReadResult::Refused { number, place } => put_refusal(output, 0, number, place),
-        ReadResult::Job {
-            terms,
-            rounds,
-            flowed,
-        } => {
-            let answer = treat(
-                terms,
-                rounds,
-                flowed,
-                &samples,
-                &mut flow,
-                &mut image,
-                &mut work,
-            );
-            let n = pixels(terms.width, terms.height);
-            put_answer(output, 0, answer, terms, &image[..n])
-        }
-    }
+    job::clean::clean(
+        input,
+        &mut samples,
+        &mut flow,
+        &mut image,
+        &mut work,
+        output,
+    )
 }

@@ -12,7 +12,7 @@ fn main() {
         io::write_all(2, b"relief: standard input cannot be read\n");
         return;
     }
-    let mut text = [0u8; 90368];
+    let mut text = [0u8; 98304];
     let count = clean(&tape[..got.count], &mut text);
     if !io::write_all(1, &text[..count]) {
         io::write_all(2, b"relief: standard output cannot be written\n");

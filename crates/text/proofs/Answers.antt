@@ -6,7 +6,7 @@ use lib.IntN.{ℤ}
 use lib.ListN.{length}
 use Rattle.model.specs.declared.Terms.{Terms}
 use Rattle.model.specs.Text.{ascii}
-use Rattle.model.specs.Calls.{Outcome, refused, checked, settled, spent, figures}
+use Rattle.model.specs.Calls.{Outcome, checked, settled, spent, figures}
 use Rattle.model.specs.Program.{word, numbersText, figuresText, imageText, answerText}
 use Rattle.output.specs.Put.{Put}
 use Rattle.output.proofs.Laid.{put-as, put-within}

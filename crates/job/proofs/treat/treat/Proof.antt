@@ -1,4 +1,4 @@
--- `job::treat` meets its contract. Assumes nothing.
+-- `job::treat::treat` meets its contract. Assumes nothing.
 use native.Mathlib.Omega.{arith}
 use mathlib.Core.Path.{_≡_, sym}
 use mathlib.Core.Bool.{Bool, true, false}
@@ -12,8 +12,8 @@ use Rattle.model.specs.declared.Rounds.{Rounds}
 use Rattle.model.specs.Calls.{Answer, pixelsOf, pairsOf, checkAnswer, checkImage, runAnswer, runFlow, runImage, runWork}
 use Rattle.job.specs.Tables.{answerIn, flowIn, imageIn, workIn}
 use borrow.Author.Needs.{needs}
-use Rattle.job.proofs.treat.Statement.{statement}
-use Rattle.job.proofs.treat.Tie as tie
+use Rattle.job.proofs.treat.treat.Statement.{statement}
+use Rattle.job.proofs.treat.treat.Tie as tie
 
 -- what check and run leave, by the counts and the branch
 module _ (t : Terms) (r : Rounds) (s : List ℕ) (f i w : List ℤ) {n m : ℕ} (pixels : n ≡ pixelsOf t) (pairs : m ≡ pairsOf t) {flowed : Bool} where

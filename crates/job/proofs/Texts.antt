@@ -1,0 +1,264 @@
+-- A tape that has been read into tables, and the text of its job. Assumes nothing.
+use mathlib.Core.Path.{_≡_, refl, sym, ap, ap₂, _∙_, subst}
+use mathlib.Core.Bool.{Bool, true, false, not, cond, true≢false}
+use mathlib.Core.List.{List}
+use mathlib.Core.Logic.{_⊎_, ⊎-elim}
+use Prim.Native.Nat.{ℕ, _+_, _*_, _≤_, _<_}
+use native.Mathlib.Nat.{mul-le-mul-right}
+use native.Mathlib.Omega.{arith}
+use lib.Dec.{eqb}
+use lib.IntN.{ℤ}
+use lib.ListN.{length, getD, take, drop, length-append, length-drop, length-replicate}
+use lib.Seq.{length-take-le, take-at}
+use borrow.Author.Tests.{eqb-true, eqb-false}
+use Rattle.model.specs.declared.Terms.{Terms}
+use Rattle.model.specs.declared.Rounds.{Rounds}
+use Rattle.model.specs.declared.Verdict.{Verdict}
+use Rattle.model.specs.Lists.{overwritten}
+use Rattle.model.specs.Grid.{sizeAllowed}
+use Rattle.model.specs.Verdict.{left}
+use Rattle.model.specs.Calls.{Answer, refusal, pixelsOf, pairsOf, imageOf, checkVerdict, checkAnswer, checkImage, runVerdict, runAnswer, runImage}
+use Rattle.model.specs.Tape.{Progress, Reading, turned, whole, reading, ReadAnswer, readOf, readAnswer, readSamples, readFlow}
+use Rattle.tape.specs.declared.reading.ReadResult.{ReadResult}
+use Rattle.tape.specs.Answers.{readAnswerOf}
+use Rattle.model.specs.Program.{zeros, refusalText, jobAnswer, jobImage, answerText, readText}
+use Rattle.model.proofs.Lists.{length-table}
+use Rattle.terms.proofs.Size.{allowed-size}
+use Rattle.tape.proofs.Accepted.{accepted-job}
+use Rattle.tape.proofs.Judged.{accepted-reading, passed-reading, answer-by, samples-by, flow-by}
+use Rattle.job.specs.Tables.{Tables, answerIn, imageFront, flowIn, imageIn, workIn}
+use Rattle.job.specs.Cleaned.{Room, flowLeft, imageLeft, workLeft}
+use Rattle.job.proofs.Formers.{checkText, same-check, runText, same-run}
+
+-- the image that a call leaves is as long as the one it was lent, if that has a value for each pixel
+left-length : (n : ℕ) (v : Verdict) (new former : List ℤ) → length new ≡ n → length former ≡ n → length (left v new former) ≡ n
+left-length n Verdict.Accept new former e g = e
+left-length n (Verdict.Refuse number place) new former e g = g
+
+module _ (t : Terms) (samples : List ℕ) where
+  image-length : (flow : List ℤ) → length (imageOf t samples flow) ≡ pixelsOf t
+  unfolding imageOf
+  image-length flow = length-table (pixelsOf t) _
+
+  check-length : (flow image : List ℤ) → length image ≡ pixelsOf t → length (checkImage t samples flow image) ≡ pixelsOf t
+  unfolding checkImage
+  check-length flow image e = left-length (pixelsOf t) (checkVerdict t samples flow image) _ image (image-length _) e
+
+  run-length : (r : Rounds) (flow image work : List ℤ) → length image ≡ pixelsOf t → length (runImage t r samples flow image work) ≡ pixelsOf t
+  unfolding runImage
+  run-length r flow image work e = left-length (pixelsOf t) (runVerdict t r samples flow image work) _ image (image-length _) e
+
+zeros-length : (n : ℕ) → length (zeros n) ≡ n
+zeros-length n = length-replicate n _
+
+-- what holds of a whole job and of the tables that it was read into
+pub record Fits (samples flow : ℕ) (p : Progress) : Type 0 where
+  pub size : sizeAllowed (p .terms .width) (p .terms .height) ≡ true
+  pub samplesHold : pixelsOf (p .terms) ≤ samples
+  pub flowHolds : pairsOf (p .terms) ≤ flow
+  pub sampled : length (p .samples) ≡ pixelsOf (p .terms)
+  pub flows : (length (p .flow) ≡ 0) ⊎ (length (p .flow) ≡ pairsOf (p .terms))
+
+pub whole-fits : (input samples : List ℕ) (flow : List ℤ) → ((i : ℕ) → getD input i 0 < 256) → (p : Progress) →
+    reading input (length samples) (length flow) ≡ whole p → Fits (length samples) (length flow) p
+whole-fits input samples flow byte p e =
+    let j = accepted-job input (record { samples = length samples; flow = length flow }) byte p (passed-reading input samples flow p e .0) in
+    let size = j .sound .size (omega (arith, j .complete)) in
+    record { size = size .0; samplesHold = size .1; flowHolds = size .2; sampled = j .samples; flows = j .flow }
+
+-- the text of a job whose numbers stand in the fronts of the tables
+module _ (p : Progress) (samples : List ℕ) (flow image work : List ℤ) (f : Fits (length samples) (length flow) p)
+    (imageHolds : pixelsOf (p .terms) ≤ length image) (workHolds : 2 * pairsOf (p .terms) ≤ length work) where
+  abbrev flowed : Bool
+  flowed = not (eqb (length (p .flow)) 0)
+
+  abbrev S : List ℕ
+  S = overwritten (p .samples) samples
+
+  abbrev F : List ℤ
+  F = overwritten (p .flow) flow
+
+  codes : take (pixelsOf (p .terms)) S ≡ p .samples
+  codes = take-at (p .samples) (drop (length (p .samples)) samples) (pixelsOf (p .terms)) (f .sampled)
+
+  front-length : length (take (pixelsOf (p .terms)) image) ≡ pixelsOf (p .terms)
+  front-length = length-take-le _ image imageHolds
+
+  -- the text by the front of the image
+  by-front : (b : Bool) → length (imageFront (p .terms) (p .rounds) b S F image work) ≡ pixelsOf (p .terms)
+  by-front true = check-length (p .terms) _ _ _ front-length
+  by-front false = run-length (p .terms) _ (p .rounds) _ _ _ front-length
+
+  abbrev text : Bool → List ℕ
+  text b = answerText (answerIn (p .terms) (p .rounds) b S F image work) (p .terms) (imageFront (p .terms) (p .rounds) b S F image work)
+
+  checked : length (p .flow) ≡ pairsOf (p .terms) → text true ≡ checkText (p .terms) (p .samples) (p .flow) (zeros (pixelsOf (p .terms)))
+  checked e =
+      let t : Terms = p .terms in
+      ap₂ (λ (s : List ℕ) (g : List ℤ). checkText t s g (take (pixelsOf t) image)) codes (take-at (p .flow) (drop (length (p .flow)) flow) (pairsOf t) e)
+      ∙ same-check t (p .samples) (p .flow) (take (pixelsOf t) image) (zeros (pixelsOf t)) (front-length ∙ sym (zeros-length (pixelsOf t)))
+
+  ran : length (p .flow) ≡ 0 → text false ≡ runText (p .terms) (p .rounds) (p .samples) (zeros (pairsOf (p .terms))) (zeros (pixelsOf (p .terms))) (zeros (2 * pairsOf (p .terms)))
+  ran e =
+      let t : Terms = p .terms in
+      let long : pairsOf t ≤ length F = omega (arith, f .flowHolds, length-append (p .flow) (drop (length (p .flow)) flow), length-drop (length (p .flow)) flow) in
+      ap (λ (s : List ℕ). runText t (p .rounds) s (take (pairsOf t) F) (take (pixelsOf t) image) (take (2 * pairsOf t) work)) codes
+      ∙ same-run t (p .rounds) (p .samples) _ _ _ (zeros (pairsOf t)) (zeros (pixelsOf t)) (zeros (2 * pairsOf t))
+      (length-take-le _ F long ∙ sym (zeros-length (pairsOf t))) (front-length ∙ sym (zeros-length (pixelsOf t)))
+      (length-take-le _ work workHolds ∙ sym (zeros-length (2 * pairsOf t)))
+
+  pub job-text : answerText (answerIn (p .terms) (p .rounds) flowed S F image work) (p .terms)
+      (take (pixelsOf (p .terms)) (imageIn (p .terms) (p .rounds) flowed S F image work)) ≡ readText (whole p)
+  unfolding jobAnswer jobImage
+  job-text =
+      ap (answerText (answerIn (p .terms) (p .rounds) flowed S F image work) (p .terms))
+      (take-at (imageFront (p .terms) (p .rounds) flowed S F image work) (drop (pixelsOf (p .terms)) image) (pixelsOf (p .terms)) (by-front flowed))
+      ∙ go (eqb (length (p .flow)) 0) refl
+    where
+      listed : eqb (length (p .flow)) 0 ≡ false → length (p .flow) ≡ pairsOf (p .terms)
+      listed h = ⊎-elim (λ (z : length (p .flow) ≡ 0). absurd (eqb-false _ _ h z)) (λ (e : length (p .flow) ≡ pairsOf (p .terms)). e) (f .flows)
+
+      go : (b : Bool) → eqb (length (p .flow)) 0 ≡ b →
+          text (not b)
+          ≡ answerText
+          (cond b (runAnswer (p .terms) (p .rounds) (p .samples) (zeros (pairsOf (p .terms))) (zeros (pixelsOf (p .terms))) (zeros (2 * pairsOf (p .terms)))) (checkAnswer (p .terms) (p .samples) (p .flow) (zeros (pixelsOf (p .terms)))))
+          (p .terms)
+          (cond b (runImage (p .terms) (p .rounds) (p .samples) (zeros (pairsOf (p .terms))) (zeros (pixelsOf (p .terms))) (zeros (2 * pairsOf (p .terms)))) (checkImage (p .terms) (p .samples) (p .flow) (zeros (pixelsOf (p .terms)))))
+      go true h = ran (eqb-true _ _ h)
+      go false h = checked (listed h)
+
+-- ---- what read's answer says of the tape
+
+none-small : sizeAllowed 0 0 ≡ false
+unfolding sizeAllowed
+none-small = refl
+
+module _ (input samples : List ℕ) (flow : List ℤ) (byte : (i : ℕ) → getD input i 0 < 256) where
+  abbrev tape : Reading
+  tape = reading input (length samples) (length flow)
+
+  -- a job: the tape is whole
+  pub record Taken (t : Terms) (r : Rounds) (flowed : Bool) : Type 0 where
+    pub p : Progress
+    pub is : tape ≡ whole p
+    pub fits : Fits (length samples) (length flow) p
+    pub terms : t ≡ p .terms
+    pub rounds : r ≡ p .rounds
+    pub flows : flowed ≡ not (eqb (length (p .flow)) 0)
+
+  pub taken : (t : Terms) (r : Rounds) (flowed : Bool) → readAnswerOf (ReadResult.Job t r flowed) ≡ readAnswer input samples flow → Taken t r flowed
+  taken t r flowed e = go (accepted-reading input samples flow (ap (λ (a : ReadAnswer). a .number) (sym e)))
+    where
+      go : (p : Progress) × (tape ≡ whole p) → Taken t r flowed
+      go (p, h) =
+          let a : readAnswerOf (ReadResult.Job t r flowed) ≡ readOf (whole p) = e ∙ answer-by input samples flow h in
+          record {
+            p = p;
+            is = h;
+            fits = whole-fits input samples flow byte p h;
+            terms = ap (λ (x : ReadAnswer). x .terms) a;
+            rounds = ap (λ (x : ReadAnswer). x .rounds) a;
+            flows = ap (λ (x : ReadAnswer). x .flowed) a;
+          }
+
+  -- a refusal: the tape is turned back with it
+  pub turned-back : (number place : ℕ) → readAnswerOf (ReadResult.Refused number place) ≡ readAnswer input samples flow → tape ≡ turned number place
+  turned-back number place e = go tape refl
+    where
+      go : (r : Reading) → tape ≡ r → tape ≡ turned number place
+      go (turned n q) h =
+          let a : readAnswerOf (ReadResult.Refused number place) ≡ readOf (turned n q) = e ∙ answer-by input samples flow h in
+          h ∙ ap₂ turned (sym (ap (λ (x : ReadAnswer). x .number) a)) (sym (ap (λ (x : ReadAnswer). x .place) a))
+      go (whole p) h =
+          let a : readAnswerOf (ReadResult.Refused number place) ≡ readOf (whole p) = e ∙ answer-by input samples flow h in
+          absurd
+          (true≢false (sym (subst (λ (t : Terms). sizeAllowed (t .width) (t .height) ≡ true) (sym (ap (λ (x : ReadAnswer). x .terms) a)) (whole-fits input samples flow byte p h .size)) ∙ none-small))
+
+  module _ (number place : ℕ) (e : readAnswerOf (ReadResult.Refused number place) ≡ readAnswer input samples flow) where
+    refused : eqb (readAnswer input samples flow .number) 0 ≡ false
+    refused = go (eqb (readAnswer input samples flow .number) 0) refl
+      where
+        clash : (p : Progress) × (tape ≡ whole p) → ⊥
+        clash (p, h) =
+            let y : _≡_ {A = Reading} (turned number place) (whole p) = sym (turned-back number place e) ∙ h in
+            let z : _≡_ {A = ℕ} 0 1 = cc in
+            absurd (omega arith)
+
+        go : (b : Bool) → eqb (readAnswer input samples flow .number) 0 ≡ b → b ≡ false
+        go true h = absurd (clash (accepted-reading input samples flow (eqb-true _ _ h)))
+        go false h = refl
+
+    -- the text, and the tables as they were
+    pub refused-text : refusalText (refusal number place) ≡ readText tape
+    refused-text = ap readText (sym (turned-back number place e))
+
+    pub refused-keeps : (left former : List ℤ) → former ≡ cond (eqb (readAnswer input samples flow .number) 0) left former
+    refused-keeps left former = ap (λ (b : Bool). cond b left former) (sym refused)
+
+    pub refused-flow : (left : List ℤ) {values : List ℤ} → values ≡ readFlow input samples flow →
+        values ≡ cond (eqb (readAnswer input samples flow .number) 0) left flow
+    refused-flow left g =
+        g ∙ flow-by input samples flow (turned-back number place e) ∙ refused-keeps left flow
+
+-- ---- a job in the tables
+
+module _ {input samples : List ℕ} {flow : List ℤ} {byte : (i : ℕ) → getD input i 0 < 256} {t : Terms} {r : Rounds} {flowed : Bool}
+    (k : Taken input samples flow byte t r flowed) where
+  pub allowed : sizeAllowed (t .width) (t .height) ≡ true
+  allowed = subst (λ (u : Terms). sizeAllowed (u .width) (u .height) ≡ true) (sym (k .terms)) (k .fits .size)
+
+  held : (pixelsOf t ≤ length samples) × (pairsOf t ≤ length flow)
+  held = subst (λ (u : Terms). (pixelsOf u ≤ length samples) × (pairsOf u ≤ length flow)) (sym (k .terms)) (k .fits .samplesHold, k .fits .flowHolds)
+
+  module _ {image work output : ℕ} (room : Room (length samples) (length flow) image work output) where
+    pub tables : {s f : ℕ} → s ≡ length samples → f ≡ length flow → Tables t s f image work
+    tables e g =
+        record {
+          size = allowed;
+          samplesHold = omega (arith, held);
+          flowHolds = omega (arith, held);
+          imageHolds = omega (arith, held, room .imageHolds);
+          workHolds = omega (arith, held, room .workHolds);
+        }
+
+    -- the room that the text asks
+    pub enough : 125 + t .height * (22 * t .width + 1) ≤ output
+    enough =
+        let size = allowed-size allowed in
+        let low : 1 * t .height ≤ t .width * t .height = mul-le-mul-right (t .height) (size .broad) in
+        omega (arith, held, room .outputHolds)
+
+  -- the text, and what is left in the tables
+  module _ (image work : List ℤ) {output : ℕ} (room : Room (length samples) (length flow) (length image) (length work) output)
+      {S : List ℕ} {F : List ℤ} (s : S ≡ readSamples input samples flow) (f : F ≡ readFlow input samples flow) where
+    pub read-text : {a : Answer} {values : List ℤ} → a ≡ answerIn t r flowed S F image work → values ≡ imageIn t r flowed S F image work →
+        answerText a t (take (pixelsOf t) values) ≡ readText (reading input (length samples) (length flow))
+    read-text e g =
+        ap₂ (λ (b : Answer) (l : List ℤ). answerText b t (take (pixelsOf t) l)) e g
+        ∙ ap (λ (u : Terms). printed u r flowed S F) (k .terms)
+        ∙ ap (λ (u : Rounds). printed (k .p .terms) u flowed S F) (k .rounds)
+        ∙ ap (λ (b : Bool). printed (k .p .terms) (k .p .rounds) b S F) (k .flows)
+        ∙ ap₂ (printed (k .p .terms) (k .p .rounds) (not (eqb (length (k .p .flow)) 0))) (s ∙ samples-by input samples flow (k .is)) (f ∙ flow-by input samples flow (k .is))
+        ∙ job-text (k .p) samples flow image work (k .fits) (omega (arith, k .fits .samplesHold, room .imageHolds)) (omega (arith, k .fits .flowHolds, room .workHolds))
+        ∙ ap readText (sym (k .is))
+      where
+        printed : Terms → Rounds → Bool → List ℕ → List ℤ → List ℕ
+        printed u q b l m = answerText (answerIn u q b l m image work) u (take (pixelsOf u) (imageIn u q b l m image work))
+
+    module _ (e : readAnswerOf (ReadResult.Job t r flowed) ≡ readAnswer input samples flow) {values : List ℤ} where
+      left-by : (leaves : Terms → Rounds → Bool → List ℕ → List ℤ → List ℤ) (former : List ℤ) → values ≡ leaves t r flowed S F →
+          let a : ReadAnswer = readAnswer input samples flow in
+          values ≡ cond (eqb (a .number) 0) (leaves (a .terms) (a .rounds) (a .flowed) (readSamples input samples flow) (readFlow input samples flow)) former
+      left-by leaves former g =
+          subst
+          (λ (a : ReadAnswer). values ≡ cond (eqb (a .number) 0) (leaves (a .terms) (a .rounds) (a .flowed) (readSamples input samples flow) (readFlow input samples flow)) former)
+          e (g ∙ ap₂ (leaves t r flowed) s f)
+
+      pub flow-left : values ≡ flowIn t r flowed S F image work → values ≡ flowLeft input samples flow image work
+      flow-left = left-by (λ u q b l m. flowIn u q b l m image work) flow
+
+      pub image-left : values ≡ imageIn t r flowed S F image work → values ≡ imageLeft input samples flow image work
+      image-left = left-by (λ u q b l m. imageIn u q b l m image work) image
+
+      pub work-left : values ≡ workIn t r flowed S F image work → values ≡ workLeft input samples flow image work
+      work-left = left-by (λ u q b l m. workIn u q b l m image work) work
