@@ -1,5 +1,5 @@
 -- Bytes laid into a buffer at an offset, and what is laid behind what was laid before. Assumes nothing.
-use mathlib.Core.Path.{_≡_, sym, ap, ap₂, _∙_, subst}
+use mathlib.Core.Path.{_≡_, refl, sym, ap, ap₂, _∙_, subst}
 use mathlib.Core.List.{List, [], _∷_, _++_, append-nil, append-assoc}
 use Prim.Native.Nat.{ℕ, suc, _+_, _≤_, _<_}
 use native.Mathlib.Nat.{add-zero, zero-add}
@@ -74,6 +74,24 @@ module _ {o : ℕ} {new buffer : List ℕ} {next : ℕ} {left : List ℕ} (p : P
 
 pub put-none : (o : ℕ) (buffer : List ℕ) → Put o [] buffer o buffer
 put-none o buffer = record { behind = sym (add-zero o); laid = placed-none buffer o }
+
+-- bytes laid at a buffer's front: how many there are, the buffer, and that they are its first
+pub record Front (new buffer : List ℕ) (count : ℕ) (left : List ℕ) : Type 0 where
+  pub counted : count ≡ length new
+  pub filled : left ≡ overwritten new buffer
+  pub within : count ≤ length left
+  pub first : count ≡ length (take count left)
+
+pub put-front : {new buffer : List ℕ} {count : ℕ} {left : List ℕ} → Put 0 new buffer count left → Front new buffer count left
+put-front {new} {buffer} {count} {left} p =
+    let n : count ≡ length new = omega (arith, p .behind) in
+    let e : left ≡ overwritten new buffer = p .laid ∙ placed-front buffer new in
+    record {
+      counted = n;
+      filled = e;
+      within = omega (arith, ap length e, length-append new (drop (length new) buffer));
+      first = n ∙ sym (ap₂ (λ (k : ℕ) (l : List ℕ). length (take k l)) n e ∙ ap length (take-at new (drop (length new) buffer) (length new) refl));
+    }
 
 -- lists laid one behind the other
 module _ {o : ℕ} {buffer : List ℕ} (g : ℕ → List ℕ) where
