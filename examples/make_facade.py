@@ -1,5 +1,7 @@
 #!/usr/bin/env python3
-"""Makes a scan of a small façade, as PGM on standard output (examples/facade.pgm).
+"""Makes a scan of a small façade, as PGM on standard output.
+
+    python3 examples/make_facade.py > examples/facade.pgm
 
 Levels are heights of the surface: courses of stones with joints between them, a window with its
 reveal, lintel and sill, stones that are worn, and the noise of a scanner.

@@ -1,13 +1,9 @@
-//! A family: one call on many inputs, by the library and by the reference.
+//! One call on a family of inputs, by the library and by the reference.
 
-use std::collections::BTreeMap;
-use std::fmt::{self, Debug, Display};
+use std::fmt::Debug;
 use std::panic::{catch_unwind, AssertUnwindSafe};
 
-use relief_reference::Refusal;
-
-/// What a call answers.
-pub type Answer<T> = Result<T, Refusal>;
+use relief_inputs::{compare_family, Answer, Difference};
 
 /// Everything that a call is lent.
 pub trait Input: Clone + Debug {
@@ -52,10 +48,7 @@ impl<I: Input, T: Debug + PartialEq> Call<I, T> {
             Ok(_) => ours.difference(left),
         };
         match differs {
-            Some(differs) => Err(Difference(format!(
-                "{} DIFFERS: {differs}\n{input:?}",
-                self.name
-            ))),
+            Some(differs) => Err(self.difference(&differs, input)),
             None => Ok(expected),
         }
     }
@@ -68,56 +61,37 @@ impl<I: Input, T: Debug + PartialEq> Call<I, T> {
         numbers: &[u32],
         inputs: impl Iterator<Item = I>,
     ) -> Result<(), Difference> {
-        let mut tally = Tally::default();
-        for input in inputs {
-            tally.add(self.compare(&input)?.map(|accepted| (self.word)(&accepted)));
-        }
-        println!("{}, {title}: {tally}", self.name);
-        match numbers
-            .iter()
-            .find(|number| !tally.refused.contains_key(number))
-        {
-            Some(number) => Err(Difference(format!("no input was refused {number}"))),
-            None => Ok(()),
-        }
+        let title = format!("{}, {title}", self.name);
+        compare_family(
+            &title,
+            inputs,
+            |input| Ok(self.worded(self.compare(input)?)),
+        )?
+        .met(&[], numbers)
     }
-}
 
-/// How many inputs were accepted and how many refused, by number.
-#[derive(Default)]
-struct Tally {
-    accepted: BTreeMap<String, usize>,
-    refused: BTreeMap<u32, usize>,
-}
-
-impl Tally {
-    fn add(&mut self, answer: Answer<String>) {
-        *match answer {
-            Ok(word) => self.accepted.entry(word).or_default(),
-            Err(refusal) => self.refused.entry(refusal.number).or_default(),
-        } += 1;
+    /// Compares the call on inputs that come with document 01's answer: taken or refused.
+    pub fn compare_values(
+        &self,
+        values: impl Iterator<Item = (I, Answer<()>)>,
+    ) -> Result<(), Difference> {
+        let title = format!("{}, document 01's limits", self.name);
+        compare_family(&title, values, |(input, expected)| {
+            let answer = self.compare(input)?;
+            if answer.as_ref().map(drop) != expected.as_ref().copied() {
+                let differs = format!("both answer {answer:?}, document 01 {expected:?}");
+                return Err(self.difference(&differs, input));
+            }
+            Ok(self.worded(answer))
+        })
+        .map(drop)
     }
-}
 
-impl Display for Tally {
-    fn fmt(&self, out: &mut fmt::Formatter<'_>) -> fmt::Result {
-        let total: usize = self.accepted.values().chain(self.refused.values()).sum();
-        write!(out, "{total} compared")?;
-        for (word, count) in &self.accepted {
-            write!(out, "; {word}: {count}")?;
-        }
-        for (number, count) in &self.refused {
-            write!(out, "; refused {number}: {count}")?;
-        }
-        Ok(())
+    fn worded(&self, answer: Answer<T>) -> Answer<String> {
+        answer.map(|accepted| (self.word)(&accepted))
     }
-}
 
-/// What differs, with the whole input.
-pub struct Difference(String);
-
-impl Display for Difference {
-    fn fmt(&self, out: &mut fmt::Formatter<'_>) -> fmt::Result {
-        out.write_str(&self.0)
+    fn difference(&self, differs: &str, input: &I) -> Difference {
+        Difference(format!("{} DIFFERS: {differs}\n{input:?}", self.name))
     }
 }

@@ -1,8 +1,8 @@
 //! What calls on a job are lent: jobs that are accepted, and faults to spoil them with.
 
-use relief_inputs::Random;
+use relief_inputs::{tape_length, two_by_one, Answer, Case, Random};
 use relief_reference::terms::{QUICK_LIMIT, WEIGHT_LIMIT};
-use relief_reference::{Grid, Rounds, Terms};
+use relief_reference::{Refusal, Rounds, Terms};
 
 use crate::family::{first_difference, Input};
 
@@ -32,26 +32,35 @@ impl Input for JobInput {
 }
 
 impl JobInput {
-    /// A job that price and check accept, without rounds, work and output.
+    /// A job that price and check accept, without work and output.
     pub fn accepted(random: &mut Random, (width, height): (u32, u32)) -> JobInput {
-        let (low, high) = random.levels();
-        let terms = Terms {
-            width,
-            height,
-            weight: random.weight(WEIGHT_LIMIT),
-            low,
-            high,
-        };
-        let grid = Grid::new(width, height).expect("a size within the limits");
-        let (lower, upper) = terms.bounds().into_inner();
+        let case = Case::sized(random, width, height);
+        let (lower, upper) = case.terms.bounds().into_inner();
+        JobInput {
+            terms: case.terms,
+            rounds: case.rounds,
+            flow: case.flow(random),
+            image: random.image(case.samples.len(), lower, upper),
+            samples: case.samples,
+            work: Vec::new(),
+            output: Vec::new(),
+        }
+    }
+
+    /// A job without rounds, with buffers of the lengths that these terms ask for, also beyond
+    /// their limits: a flow of 0 and an image at the low end of a box from 0.
+    fn blank(terms: Terms) -> JobInput {
+        let (width, height) = (terms.width as usize, terms.height as usize);
+        let pixels = width * height;
+        let pairs = 2 * pixels - width - height;
         JobInput {
             terms,
             rounds: Rounds::default(),
-            samples: random.samples(grid.pixel_count()),
-            flow: random.flow(grid.pair_count(), terms.weight),
-            image: random.image(grid.pixel_count(), lower, upper),
-            work: Vec::new(),
-            output: Vec::new(),
+            samples: (0..pixels).map(|pixel| pixel as u8).collect(),
+            flow: vec![0; pairs],
+            image: vec![0; pixels],
+            work: vec![-1; 2 * pairs],
+            output: vec![255; tape_length(pixels, pairs)],
         }
     }
 
@@ -62,6 +71,28 @@ impl JobInput {
         }
         self
     }
+}
+
+/// Jobs at document 01's limits of weight and size and just beyond them, with its answer. All
+/// buffers have the exact lengths.
+pub fn limits() -> impl Iterator<Item = (JobInput, Answer<()>)> {
+    let terms = two_by_one().terms;
+    let weight = |weight| Terms { weight, ..terms };
+    let size = |width, height| Terms {
+        width,
+        height,
+        ..terms
+    };
+    let refused = |number| Err(Refusal { number, place: 0 });
+    [
+        (weight(65_280), Ok(())),
+        (weight(65_281), refused(2)),
+        (size(4_096, 256), Ok(())),
+        (size(4_096, 257), refused(1)),
+        (size(4_097, 1), refused(1)),
+    ]
+    .into_iter()
+    .map(|(terms, answer)| (JobInput::blank(terms), answer))
 }
 
 /// Something that makes a call turn back, if it takes what is spoiled.
@@ -105,16 +136,15 @@ fn size(input: &mut JobInput, random: &mut Random) {
 }
 
 fn weight(input: &mut JobInput, random: &mut Random) {
-    input.terms.weight = above(random, WEIGHT_LIMIT);
+    input.terms.weight = random.above(WEIGHT_LIMIT, u32::MAX);
 }
 
 fn ends_of_the_box(input: &mut JobInput, random: &mut Random) {
-    input.terms.low = random.between(1, 255) as u8;
-    input.terms.high = random.below(input.terms.low.into()) as u8;
+    (input.terms.low, input.terms.high) = random.crossed_levels();
 }
 
 fn quick_rounds(input: &mut JobInput, random: &mut Random) {
-    input.rounds.quick = above(random, QUICK_LIMIT);
+    input.rounds.quick = random.above(QUICK_LIMIT, u32::MAX);
 }
 
 fn flow_values(input: &mut JobInput, random: &mut Random) {
@@ -126,12 +156,6 @@ fn image_values(input: &mut JobInput, random: &mut Random) {
     let (lower, upper) = input.terms.bounds().into_inner();
     let (below, above) = (i64::from(lower) - 1, i64::from(upper) + 1);
     spoil_values(&mut input.image, random, below, above);
-}
-
-/// A number above the limit: the next, the last or any.
-fn above(random: &mut Random, limit: u32) -> u32 {
-    let any = random.between(i64::from(limit) + 1, u32::MAX.into()) as u32;
-    random.pick(&[limit + 1, u32::MAX, any])
 }
 
 /// Gives a buffer another length: one more, one less, none or any up to twice as many.

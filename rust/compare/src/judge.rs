@@ -1,12 +1,12 @@
 //! Price and check.
 
-use relief_inputs::{chessboard, chessboard_flow, Random};
+use relief_inputs::{chessboard, chessboard_flow, Difference, Random};
 use relief_reference::terms::WEIGHT_LIMIT;
 use relief_reference::Figures;
 
 use crate::convert::{figures, refusal, terms};
-use crate::family::{Call, Difference};
-use crate::job::{JobInput, LARGEST};
+use crate::family::Call;
+use crate::job::{limits, JobInput, LARGEST};
 
 const PRICE: Call<JobInput, Figures> = Call {
     name: "price",
@@ -46,6 +46,8 @@ const CHECK: Call<JobInput, Figures> = Call {
 
 /// Compares both calls on the same inputs.
 pub fn compare(step: usize) -> Result<(), Difference> {
+    PRICE.compare_values(limits())?;
+    CHECK.compare_values(limits())?;
     let title = "1 to 300 pixels";
     PRICE.compare_family(title, &[1, 2, 3, 4, 6, 9], small(step))?;
     CHECK.compare_family(title, &[1, 2, 3, 4, 5, 6, 8], small(step))?;

@@ -18,7 +18,7 @@ mod tape;
 use std::env;
 use std::process::ExitCode;
 
-use family::Difference;
+use relief_inputs::{status, Difference};
 
 /// Of a family's inputs a quick comparison takes the first and every 19th after it: an odd
 /// step, so that the changed bytes of tapes take all 256 values.
@@ -33,13 +33,7 @@ fn main() -> ExitCode {
             return ExitCode::from(2);
         }
     };
-    match compare_all(step) {
-        Ok(()) => ExitCode::SUCCESS,
-        Err(difference) => {
-            println!("{difference}");
-            ExitCode::FAILURE
-        }
-    }
+    status(compare_all(step))
 }
 
 /// Compares every `step`th input of each family whose calls the library has.

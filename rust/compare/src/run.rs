@@ -1,11 +1,11 @@
 //! Run.
 
-use relief_inputs::Random;
+use relief_inputs::{Difference, Random};
 use relief_reference::{Figures, Rounds};
 
 use crate::convert::{figures, refusal, rounds, terms};
-use crate::family::{Call, Difference};
-use crate::job::{JobInput, LARGEST};
+use crate::family::Call;
+use crate::job::{limits, JobInput, LARGEST};
 
 const RUN: Call<JobInput, Figures> = Call {
     name: "run",
@@ -36,6 +36,7 @@ const RUN: Call<JobInput, Figures> = Call {
 
 /// Compares runs of few rounds, of the most rounds, and of the most pixels.
 pub fn compare(step: usize) -> Result<(), Difference> {
+    RUN.compare_values(limits())?;
     let numbers = [1, 2, 3, 4, 5, 6, 7, 10];
     RUN.compare_family("1 to 120 pixels", &numbers, small(step))?;
     RUN.compare_family("the most rounds", &[], long(step))?;

@@ -1,11 +1,11 @@
 //! Read and write.
 
-use relief_inputs::Random;
-use relief_reference::{Job, Rounds, Terms};
+use relief_inputs::{small_tapes, tape_length, Answer, Difference, Random, Tape};
+use relief_reference::{Job, Refusal, Terms};
 
 use crate::convert::{job, refusal, rounds, terms};
-use crate::family::{first_difference, Answer, Call, Difference, Input};
-use crate::job::{JobInput, LARGEST};
+use crate::family::{first_difference, Call, Input};
+use crate::job::{limits, JobInput, LARGEST};
 
 /// Everything that read is lent.
 #[derive(Clone, Debug)]
@@ -98,6 +98,9 @@ fn pair_count(terms: &Terms) -> usize {
 
 /// Compares reads of cut, changed, damaged and random tapes, then writes.
 pub fn compare(step: usize) -> Result<(), Difference> {
+    READ.compare_values(empty_tape())?;
+    WRITE.compare_values(limits())?;
+    WRITE_AND_READ.compare_values(limits())?;
     READ.compare_family("every prefix", &[13], prefixes(step))?;
     READ.compare_family("every changed byte", &[], changes(step))?;
     let numbers = [1, 2, 3, 8, 10, 12, 13, 14, 15, 16];
@@ -108,13 +111,25 @@ pub fn compare(step: usize) -> Result<(), Difference> {
     WRITE_AND_READ.compare_family("1,048,576 pixels", &[], large_jobs(step))
 }
 
+/// The empty tape, with document 01's answer.
+fn empty_tape() -> impl Iterator<Item = (TapeInput, Answer<()>)> {
+    let input = TapeInput {
+        tape: Vec::new(),
+        samples: vec![255; 2],
+        flow: vec![-1],
+    };
+    let refusal = Refusal {
+        number: 13,
+        place: 0,
+    };
+    [(input, Err(refusal))].into_iter()
+}
+
 /// Every prefix of small tapes, the whole ones among them.
 fn prefixes(step: usize) -> impl Iterator<Item = TapeInput> {
     let all = small_tapes(40).flat_map(|(mut random, tape)| {
-        (0..=tape.bytes.len()).map(move |length| {
-            let prefix = tape.bytes[..length].to_vec();
-            tape.lent(&mut random, prefix)
-        })
+        let prefixes = tape.clone().prefixes();
+        prefixes.map(move |bytes| lent(&mut random, &tape, bytes))
     });
     all.step_by(step)
 }
@@ -122,22 +137,20 @@ fn prefixes(step: usize) -> impl Iterator<Item = TapeInput> {
 /// Small tapes with each byte changed to each other.
 fn changes(step: usize) -> impl Iterator<Item = TapeInput> {
     let all = small_tapes(16).flat_map(|(mut random, tape)| {
-        (0..256 * tape.bytes.len()).map(move |change| {
-            let mut changed = tape.bytes.clone();
-            changed[change / 256] = (change % 256) as u8;
-            tape.lent(&mut random, changed)
-        })
+        let changes = tape.clone().changes();
+        changes.map(move |bytes| lent(&mut random, &tape, bytes))
     });
     all.step_by(step)
 }
 
-/// Tapes of at most 6 pixels, each with a generator for what is lent with it.
-fn small_tapes(count: u64) -> impl Iterator<Item = (Random, Tape)> {
-    (1..=count).map(|seed| {
-        let mut random = Random::new(seed << 32 | 0x7A9E);
-        let tape = Tape::random(&mut random, 6);
-        (random, tape)
-    })
+/// `bytes` with buffers of any contents that hold the job of `tape`, or somewhat more.
+fn lent(random: &mut Random, tape: &Tape, bytes: Vec<u8>) -> TapeInput {
+    let (more_samples, more_flow) = (random.below(3), random.below(3));
+    TapeInput {
+        tape: bytes,
+        samples: random.bytes(tape.pixels + more_samples),
+        flow: random.numbers(tape.pairs + more_flow),
+    }
 }
 
 fn damages(step: usize) -> impl Iterator<Item = TapeInput> {
@@ -146,14 +159,8 @@ fn damages(step: usize) -> impl Iterator<Item = TapeInput> {
         let tape = Tape::random(&mut random, 40);
         let samples_length = about(&mut random, tape.pixels);
         let flow_length = about(&mut random, tape.pairs);
-        let bytes = if random.below(10) == 0 {
-            let length = random.below(60);
-            (0..length).map(|_| kind_or_byte(&mut random)).collect()
-        } else {
-            tape.damaged(&mut random)
-        };
         TapeInput {
-            tape: bytes,
+            tape: tape.damaged(&mut random),
             samples: random.bytes(samples_length),
             flow: random.numbers(flow_length),
         }
@@ -178,14 +185,11 @@ fn large_jobs(step: usize) -> impl Iterator<Item = JobInput> {
 /// A job that write accepts, with or without a flow, and any bytes in its output.
 fn writable(random: &mut Random, size: (u32, u32)) -> JobInput {
     let mut input = JobInput::accepted(random, size);
-    input.rounds = Rounds {
-        quick: random.between(0, 4_096) as u32,
-        allowance: random.between(0, 65_535) as u16,
-    };
+    input.rounds = random.rounds();
     if random.below(3) == 0 {
         input.flow.clear();
     }
-    let length = 16 + 2 * input.samples.len() + 5 * input.flow.len();
+    let length = tape_length(input.samples.len(), input.flow.len());
     let rest = random.pick(&[0, 0, 1, 9]);
     input.output = random.bytes(length + rest);
     input
@@ -196,101 +200,4 @@ fn about(random: &mut Random, due: usize) -> usize {
     let more = due + random.below(9);
     let less = random.below(due + 1);
     random.pick(&[due, due, due, due, more, more, less])
-}
-
-/// A byte that is often a kind, or nearly one.
-fn kind_or_byte(random: &mut Random) -> u8 {
-    let kind = random.below(7) as u8;
-    let byte = random.byte();
-    random.pick(&[kind, byte])
-}
-
-/// The tape of an accepted job, and the number of its pixels and pairs.
-struct Tape {
-    bytes: Vec<u8>,
-    pixels: usize,
-    pairs: usize,
-}
-
-impl Tape {
-    fn random(random: &mut Random, pixels: u32) -> Tape {
-        let size = random.size(pixels);
-        let mut input = writable(random, size);
-        let length = write_by_reference(&mut input).expect("a job that write accepts");
-        input.output.truncate(length);
-        Tape {
-            bytes: input.output,
-            pixels: input.samples.len(),
-            pairs: pair_count(&input.terms),
-        }
-    }
-
-    /// `bytes` with buffers of any contents that hold this tape's job, or somewhat more.
-    fn lent(&self, random: &mut Random, bytes: Vec<u8>) -> TapeInput {
-        let (more_samples, more_flow) = (random.below(3), random.below(3));
-        TapeInput {
-            tape: bytes,
-            samples: random.bytes(self.pixels + more_samples),
-            flow: random.numbers(self.pairs + more_flow),
-        }
-    }
-
-    /// Where each record starts.
-    fn records(&self) -> Vec<usize> {
-        let flow_start = 15 + 2 * self.pixels;
-        let end = self.bytes.len() - 1;
-        let samples = (15..flow_start).step_by(2);
-        let flow = (flow_start..end).step_by(5);
-        [0, 5, 10]
-            .into_iter()
-            .chain(samples)
-            .chain(flow)
-            .chain([end])
-            .collect()
-    }
-
-    /// The tape with a record left out or doubled, or with some bytes changed, or as it is.
-    fn damaged(mut self, random: &mut Random) -> Vec<u8> {
-        match random.below(8) {
-            0 => self.change_records(random),
-            1 => (),
-            _ => {
-                for _ in 0..random.pick(&[1, 1, 2, 3]) {
-                    self.change_bytes(random);
-                }
-            }
-        }
-        self.bytes
-    }
-
-    /// Leaves a record out or doubles it.
-    fn change_records(&mut self, random: &mut Random) {
-        let records = self.records();
-        let record = random.below(records.len());
-        let start = records[record];
-        let next = records.get(record + 1).copied().unwrap_or(self.bytes.len());
-        if random.below(2) == 0 {
-            self.bytes.drain(start..next);
-        } else {
-            let doubled = self.bytes[start..next].to_vec();
-            self.bytes.splice(start..start, doubled);
-        }
-    }
-
-    /// Cuts the tape, or changes, adds or removes a byte, often before the samples.
-    fn change_bytes(&mut self, random: &mut Random) {
-        let length = self.bytes.len();
-        let anywhere = random.below(length + 1);
-        let early = random.below(length.min(15) + 1);
-        let place = random.pick(&[anywhere, early]);
-        let byte = kind_or_byte(random);
-        match random.below(8) {
-            0 => self.bytes.truncate(place),
-            1 => self.bytes.insert(place, byte),
-            2 if place < length => drop(self.bytes.remove(place)),
-            3 => self.bytes.push(byte),
-            _ if place < length => self.bytes[place] = byte,
-            _ => (),
-        }
-    }
 }

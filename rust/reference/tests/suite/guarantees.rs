@@ -1,12 +1,12 @@
 //! What every answer promises, tried on thousands of random jobs: the distance
 //! guarantee on the grid and its whole divisions, and the bounds of a run.
 
-use relief_inputs::Random;
+use relief_inputs::{two_by_one, Case, Random};
 use relief_reference::problem::{squared_distance, widened};
 use relief_reference::rounds::{quick_rounds, step};
 use relief_reference::{Outcome, Problem};
 
-use crate::support::{multiplied, two_by_one, Answer, Case};
+use crate::support::{multiplied, Answer, Calls};
 
 const JOBS: usize = 10_000;
 

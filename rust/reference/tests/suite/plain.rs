@@ -1,13 +1,13 @@
 //! The loop nests over 32-bit buffers against the definitions.
 
-use relief_inputs::{chessboard, chessboard_flow, Random};
+use relief_inputs::{chessboard, chessboard_flow, two_by_one, Case, Random};
 use relief_reference::check;
 use relief_reference::plain::{check_plain, quick_round_plain, steady_round_plain};
 use relief_reference::problem::widened;
 use relief_reference::rounds::{quick_rounds, step, T_UNIT};
 use relief_reference::terms::WEIGHT_LIMIT;
 
-use crate::support::{marked, two_by_one, Case};
+use crate::support::{marked, Calls};
 
 /// Many sizes, one row and one column among them.
 fn cases(seed: u64) -> impl Iterator<Item = (Random, Case)> {

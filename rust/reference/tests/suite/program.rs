@@ -3,20 +3,12 @@
 use std::io::Write;
 use std::process::{Command, Stdio};
 
-use relief_inputs::Random;
+use relief_inputs::{two_by_one, Case, Random, TWO_BY_ONE_TEXT};
 use relief_reference::program::{clean, FLOW_TABLE, INPUT_LIMIT, SAMPLE_TABLE};
-
-use crate::support::{two_by_one, Case};
-
-const SETTLED: &str = "\
-outcome moved price floor slack
-settled 17 131090 131054 36
-253 259
-";
 
 #[test]
 fn run_of_the_two_by_one_job() {
-    assert_eq!(clean(&two_by_one().tape(&[])), SETTLED);
+    assert_eq!(clean(&two_by_one().tape(&[])), TWO_BY_ONE_TEXT);
 }
 
 #[test]
@@ -97,7 +89,7 @@ fn printed(input: &[u8]) -> String {
 
 #[test]
 fn the_binary_prints_the_text() {
-    assert_eq!(printed(&two_by_one().tape(&[])), SETTLED);
+    assert_eq!(printed(&two_by_one().tape(&[])), TWO_BY_ONE_TEXT);
     assert_eq!(printed(&[]), "refused 13 at 0\n");
     assert_eq!(printed(&vec![0; INPUT_LIMIT + 1]), "refused 17 at 0\n");
 }

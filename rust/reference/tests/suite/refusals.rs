@@ -1,9 +1,10 @@
 //! Where each call turns back: every number at its place, the earlier of two faults,
 //! and no buffer touched.
 
+use relief_inputs::{flat, two_by_one, Case};
 use relief_reference::{check, price, read, run, write, Refusal, Rounds, Terms};
 
-use crate::support::{marked, read_back, refusal, two_by_one, Case};
+use crate::support::{marked, read_back, refusal, Calls};
 
 /// Everything that the calls are lent.
 #[derive(Clone, Debug, PartialEq, Eq)]
@@ -311,9 +312,7 @@ fn buffers_count_all_pairs_without_flow_records() {
 #[test]
 fn flow_records_come_all_or_not_at_all() {
     // None where there are no pairs.
-    let mut pixel = two_by_one();
-    (pixel.terms.width, pixel.samples) = (1, vec![7]);
-    let mut tape = pixel.tape(&[]);
+    let mut tape = flat(1, 1).tape(&[]);
     tape[17] = 5;
     assert_eq!(read_back(&tape, 1, 0).answer, Err(refusal(14, 17)));
     // No end before the last sample or between flow numbers.

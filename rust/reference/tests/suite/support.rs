@@ -1,18 +1,7 @@
-//! Jobs and lent buffers that the tests share.
+//! Calls in lent buffers that the tests share.
 
-use relief_inputs::Random;
-use relief_reference::terms::WEIGHT_LIMIT;
-use relief_reference::{
-    check, price, read, run, write, Figures, Grid, Job, Outcome, Problem, Refusal, Rounds, Terms,
-};
-
-/// An accepted job without a flow.
-#[derive(Clone, Debug)]
-pub struct Case {
-    pub terms: Terms,
-    pub rounds: Rounds,
-    pub samples: Vec<u8>,
-}
+use relief_inputs::Case;
+use relief_reference::{check, price, read, run, Figures, Job, Outcome, Problem, Refusal};
 
 /// What an accepted check or run gives and leaves in its buffers.
 #[derive(Debug, PartialEq, Eq)]
@@ -23,75 +12,31 @@ pub struct Answer {
     pub work: Vec<i32>,
 }
 
-/// Document 01's 2 by 1 job.
-pub fn two_by_one() -> Case {
-    Case {
-        terms: Terms {
-            width: 2,
-            height: 1,
-            weight: 256,
-            low: 0,
-            high: 255,
-        },
-        rounds: Rounds {
-            quick: 0,
-            allowance: 100,
-        },
-        samples: vec![0, 2],
-    }
+/// The calls on a job, in marked buffers, and the problem that it is.
+pub trait Calls {
+    fn problem(&self) -> Problem;
+    /// The ends of the box in sub-units.
+    fn ends(&self) -> (i64, i64);
+    fn price(&self, image: &[i32]) -> Result<Figures, Refusal>;
+    fn check(&self, flow: &[i32]) -> Result<Answer, Refusal>;
+    fn run(&self) -> Result<Answer, Refusal>;
 }
 
-impl Case {
-    /// A random job of the given size.
-    pub fn sized(random: &mut Random, width: u32, height: u32) -> Case {
-        let (low, high) = random.levels();
-        Case {
-            terms: Terms {
-                width,
-                height,
-                weight: random.weight(WEIGHT_LIMIT),
-                low,
-                high,
-            },
-            rounds: Rounds {
-                quick: random.pick(&[0, 0, 1, 2, 3, 12]),
-                allowance: random.pick(&[0, 1, 5, 40, 65_535]),
-            },
-            samples: random.samples((width * height) as usize),
-        }
-    }
-
-    /// A random job of at most 5 by 5 pixels.
-    pub fn small(random: &mut Random) -> Case {
-        let sides = [1, 1, 2, 3, 4, 5];
-        let (width, height) = (random.pick(&sides), random.pick(&sides));
-        Case::sized(random, width, height)
-    }
-
-    /// A random flow that a check accepts for the job.
-    pub fn flow(&self, random: &mut Random) -> Vec<i32> {
-        random.flow(self.grid().pair_count(), self.terms.weight)
-    }
-
-    pub fn grid(&self) -> Grid {
-        self.terms.judge().expect("a case has accepted terms")
-    }
-
-    pub fn problem(&self) -> Problem {
+impl Calls for Case {
+    fn problem(&self) -> Problem {
         Problem::new(self.grid(), &self.terms, &self.samples)
     }
 
-    /// The ends of the box in sub-units.
-    pub fn ends(&self) -> (i64, i64) {
+    fn ends(&self) -> (i64, i64) {
         let bounds = self.terms.bounds();
         (i64::from(*bounds.start()), i64::from(*bounds.end()))
     }
 
-    pub fn price(&self, image: &[i32]) -> Result<Figures, Refusal> {
+    fn price(&self, image: &[i32]) -> Result<Figures, Refusal> {
         price(&self.terms, &self.samples, image)
     }
 
-    pub fn check(&self, flow: &[i32]) -> Result<Answer, Refusal> {
+    fn check(&self, flow: &[i32]) -> Result<Answer, Refusal> {
         let mut image = marked(self.grid().pixel_count());
         let figures = check(&self.terms, &self.samples, flow, &mut image)?;
         Ok(Answer {
@@ -102,7 +47,7 @@ impl Case {
         })
     }
 
-    pub fn run(&self) -> Result<Answer, Refusal> {
+    fn run(&self) -> Result<Answer, Refusal> {
         let grid = self.grid();
         let mut flow = marked(grid.pair_count());
         let mut image = marked(grid.pixel_count());
@@ -121,14 +66,6 @@ impl Case {
             image,
             work,
         })
-    }
-
-    /// The job's tape with `flow`, where an empty one is none.
-    pub fn tape(&self, flow: &[i32]) -> Vec<u8> {
-        let mut output = vec![0; 16 + 2 * self.samples.len() + 5 * flow.len()];
-        let length = write(&self.terms, &self.rounds, &self.samples, flow, &mut output);
-        assert_eq!(length, Ok(output.len()));
-        output
     }
 }
 

@@ -1,10 +1,10 @@
 //! Tapes written and read back, cut short and changed.
 
-use relief_inputs::Random;
+use relief_inputs::{flat, two_by_one, Case, Random};
 use relief_reference::program::{clean, FLOW_TABLE, SAMPLE_TABLE};
 use relief_reference::{Job, Refusal};
 
-use crate::support::{read_back, refusal, two_by_one, Case};
+use crate::support::{read_back, refusal};
 
 #[test]
 fn bytes_of_the_two_by_one_tape() {
@@ -68,14 +68,11 @@ fn small_tapes() -> [Vec<u8>; 4] {
     let mut square = two_by_one();
     square.terms.height = 2;
     square.samples = vec![0, 9, 255, 4];
-    let mut pixel = two_by_one();
-    pixel.terms.width = 1;
-    pixel.samples = vec![7];
     [
         row.tape(&[]),
         row.tape(&[-256]),
         square.tape(&[1, -2, 256, 0]),
-        pixel.tape(&[]),
+        flat(1, 1).tape(&[]),
     ]
 }
 

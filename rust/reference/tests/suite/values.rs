@@ -1,10 +1,11 @@
 //! Document 01's "Values to compare", and the laws of T and its root.
 
+use relief_inputs::{flat, narrow_box, two_by_one, Case};
 use relief_reference::rounds::{next_t, T_UNIT};
 use relief_reference::Outcome::{Checked, Settled, Spent};
-use relief_reference::{price, Grid, Outcome, Rounds, Terms};
+use relief_reference::{price, Grid, Outcome, Rounds};
 
-use crate::support::{figures, read_back, refusal, two_by_one, Case};
+use crate::support::{figures, read_back, refusal, Calls};
 
 #[test]
 fn pairs_go_down_first_then_right() {
@@ -105,16 +106,7 @@ fn t_never_falls_and_stays_in_range() {
 
 #[test]
 fn slack_above_zero_may_belong_to_the_best_image() {
-    let job = Case {
-        terms: Terms {
-            weight: 1_280,
-            low: 8,
-            high: 12,
-            ..two_by_one().terms
-        },
-        samples: vec![0, 20],
-        ..two_by_one()
-    };
+    let job = narrow_box();
     for (flow, slack) in [(0, 2_621_440), (-1_280, 0)] {
         let answer = job.check(&[flow]).unwrap();
         assert_eq!(answer.image, [2_048, 3_072]);
@@ -125,14 +117,7 @@ fn slack_above_zero_may_belong_to_the_best_image() {
 
 #[test]
 fn one_pixel() {
-    let job = Case {
-        terms: Terms {
-            width: 1,
-            ..two_by_one().terms
-        },
-        samples: vec![7],
-        ..two_by_one()
-    };
+    let job = flat(1, 1);
     assert_eq!(job.grid().pair_count(), 0);
     let answer = job.run().unwrap();
     assert_eq!(answer.image, [1_792]);

@@ -1,0 +1,105 @@
+//! Jobs that are accepted: document 01's and random ones.
+
+use relief_reference::terms::WEIGHT_LIMIT;
+use relief_reference::{write, Grid, Rounds, Terms};
+
+use crate::{tape_length, Random};
+
+/// An accepted job without a flow.
+#[derive(Clone, Debug)]
+pub struct Case {
+    /// Size, weight and box.
+    pub terms: Terms,
+    /// Quick rounds and steady allowance.
+    pub rounds: Rounds,
+    /// One for each pixel.
+    pub samples: Vec<u8>,
+}
+
+/// Document 01's 2 by 1 job.
+pub fn two_by_one() -> Case {
+    Case {
+        terms: Terms {
+            width: 2,
+            height: 1,
+            weight: 256,
+            low: 0,
+            high: 255,
+        },
+        rounds: Rounds {
+            quick: 0,
+            allowance: 100,
+        },
+        samples: vec![0, 2],
+    }
+}
+
+/// What the program prints for the 2 by 1 job.
+pub const TWO_BY_ONE_TEXT: &str = "\
+outcome moved price floor slack
+settled 17 131090 131054 36
+253 259
+";
+
+/// Document 01's job with a box that all samples lie outside of.
+pub fn narrow_box() -> Case {
+    let mut case = two_by_one();
+    case.terms.weight = 1_280;
+    (case.terms.low, case.terms.high) = (8, 12);
+    case.samples = vec![0, 20];
+    case
+}
+
+/// The terms of the 2 by 1 job on another size, with document 01's sample 7 everywhere.
+pub fn flat(width: u32, height: u32) -> Case {
+    let mut case = two_by_one();
+    (case.terms.width, case.terms.height) = (width, height);
+    case.samples = vec![7; (width * height) as usize];
+    case
+}
+
+impl Case {
+    /// A random job of the given size.
+    pub fn sized(random: &mut Random, width: u32, height: u32) -> Case {
+        let (low, high) = random.levels();
+        Case {
+            terms: Terms {
+                width,
+                height,
+                weight: random.weight(WEIGHT_LIMIT),
+                low,
+                high,
+            },
+            rounds: Rounds {
+                quick: random.pick(&[0, 0, 1, 2, 3, 12]),
+                allowance: random.pick(&[0, 1, 5, 40, 65_535]),
+            },
+            samples: random.samples((width * height) as usize),
+        }
+    }
+
+    /// A random job of at most 5 by 5 pixels.
+    pub fn small(random: &mut Random) -> Case {
+        let sides = [1, 1, 2, 3, 4, 5];
+        let (width, height) = (random.pick(&sides), random.pick(&sides));
+        Case::sized(random, width, height)
+    }
+
+    /// A random flow that a check accepts for the job.
+    pub fn flow(&self, random: &mut Random) -> Vec<i32> {
+        random.flow(self.grid().pair_count(), self.terms.weight)
+    }
+
+    /// The grid of the job's size.
+    pub fn grid(&self) -> Grid {
+        self.terms.judge().expect("a case has accepted terms")
+    }
+
+    /// The job's tape with `flow`, where an empty one is none.
+    pub fn tape(&self, flow: &[i32]) -> Vec<u8> {
+        let mut output = vec![0; tape_length(self.samples.len(), flow.len())];
+        let length = write(&self.terms, &self.rounds, &self.samples, flow, &mut output);
+        assert_eq!(length, Ok(output.len()));
+        output
+    }
+}

@@ -1,0 +1,133 @@
+//! Tapes of accepted jobs, and damaged ones.
+
+use relief_inputs::{
+    chessboard, chessboard_flow, compare_family, small_tapes, tape_length, two_by_one, Case,
+    Difference, Random, Tally, Tape,
+};
+use relief_reference::program::{FLOW_TABLE, SAMPLE_TABLE};
+use relief_reference::terms::WEIGHT_LIMIT;
+use relief_reference::Rounds;
+
+use crate::child::Program;
+use crate::compare::compare as compare_tape;
+
+/// Sizes with the most pixels that the program takes.
+const LARGEST: [(u32, u32); 3] = [(64, 64), (4_096, 1), (1, 4_096)];
+
+/// Compares whole, cut, changed, damaged and random tapes.
+pub fn compare(program: &Program, step: usize) -> Result<(), Difference> {
+    family(program, "the most pixels", largest())?
+        .met(&["checked with floor below 0", "settled", "spent"], &[])?;
+    let words = ["checked", "checked with slack 0", "settled", "spent"];
+    family(program, "1 to 4,096 pixels", jobs(step))?.met(&words, &[])?;
+    family(program, "the most rounds", long_runs(step))?.met(&["settled"], &[])?;
+    family(program, "every prefix", prefixes(step))?.met(&["checked with slack 0"], &[13])?;
+    family(program, "changed bytes", changes(step))?.met(&[], &[8, 10, 12, 14])?;
+    let numbers = [1, 2, 3, 8, 10, 12, 13, 14, 15, 16];
+    family(program, "damaged tapes", damages(step))?.met(&[], &numbers)
+}
+
+fn family(
+    program: &Program,
+    title: &str,
+    tapes: impl Iterator<Item = Vec<u8>>,
+) -> Result<Tally, Difference> {
+    compare_family(title, tapes.map(Into::into), |input| {
+        compare_tape(program, input)
+    })
+}
+
+/// Tapes of the most pixels: with the largest totals, with any flow, and without one.
+fn largest() -> impl Iterator<Item = Vec<u8>> {
+    let mut random = Random::new(0x1A26E4);
+    LARGEST.into_iter().flat_map(move |(width, height)| {
+        let mut extreme = Case::sized(&mut random, width, height);
+        extreme.terms.weight = WEIGHT_LIMIT;
+        (extreme.terms.low, extreme.terms.high) = (0, 255);
+        extreme.samples = chessboard(width as usize, height as usize);
+        let end = WEIGHT_LIMIT as i32;
+        let [apart, together] =
+            [end, -end].map(|value| chessboard_flow(width as usize, height as usize, value));
+
+        let mut any = Case::sized(&mut random, width, height);
+        let flow = any.flow(&mut random);
+        any.rounds = few_rounds(&mut random, any.samples.len());
+        let mut far = any.clone();
+        (far.terms.low, far.terms.high) = (255, 255);
+        far.samples.fill(0);
+        let mut long = any.clone();
+        long.terms.weight = 20;
+        long.rounds.allowance = 200;
+        [
+            extreme.tape(&apart),
+            extreme.tape(&together),
+            any.tape(&flow),
+            any.tape(&[]),
+            far.tape(&flow),
+            far.tape(&[]),
+            long.tape(&[]),
+        ]
+    })
+}
+
+/// The longest tape that the program takes: all samples and all flow numbers.
+pub fn full_tape() -> Vec<u8> {
+    let mut random = Random::new(0xF011);
+    let mut case = Case::sized(&mut random, 64, 64);
+    case.terms.weight = 1_000;
+    (case.terms.low, case.terms.high) = (10, 240);
+    let tape = case.tape(&case.flow(&mut random));
+    assert_eq!(tape.len(), tape_length(SAMPLE_TABLE, FLOW_TABLE));
+    tape
+}
+
+fn jobs(step: usize) -> impl Iterator<Item = Vec<u8>> {
+    let mut random = Random::new(0x60D);
+    (0..2_000).step_by(step).map(move |_| {
+        let (width, height) = random.size(4_096);
+        let mut case = Case::sized(&mut random, width, height);
+        case.rounds = few_rounds(&mut random, case.samples.len());
+        let flow = case.flow(&mut random);
+        case.tape(random.pick(&[&flow, &[]]))
+    })
+}
+
+/// Rounds, the fewer the more pixels there are.
+fn few_rounds(random: &mut Random, pixels: usize) -> Rounds {
+    let most = (100_000 / pixels) as i64;
+    Rounds {
+        quick: random.between(0, most.min(4_096)) as u32,
+        allowance: random.between(0, most.min(65_535)) as u16,
+    }
+}
+
+fn long_runs(step: usize) -> impl Iterator<Item = Vec<u8>> {
+    let mut random = Random::new(0x10A62);
+    (0..200).step_by(step).map(move |_| {
+        let (width, height) = random.size(12);
+        let mut case = Case::sized(&mut random, width, height);
+        case.rounds.quick = random.pick(&[0, 4_096]);
+        case.rounds.allowance = 65_535;
+        case.tape(&[])
+    })
+}
+
+/// Every prefix of the 2 by 1 job's tape with a flow, and of small tapes.
+fn prefixes(step: usize) -> impl Iterator<Item = Vec<u8>> {
+    let first = Tape::new(&two_by_one(), &[-256]);
+    let others = small_tapes(12).flat_map(|(_, tape)| tape.prefixes());
+    first.prefixes().chain(others.step_by(step))
+}
+
+/// Small tapes with bytes changed.
+fn changes(step: usize) -> impl Iterator<Item = Vec<u8>> {
+    let all = small_tapes(8).flat_map(|(_, tape)| tape.changes());
+    all.step_by(61 * step)
+}
+
+fn damages(step: usize) -> impl Iterator<Item = Vec<u8>> {
+    let mut random = Random::new(0xDA3A6E2);
+    (0..1_500)
+        .step_by(step)
+        .map(move |_| Tape::random(&mut random, 40).damaged(&mut random))
+}

@@ -1,0 +1,94 @@
+//! Document 01's values, each with its text.
+
+use relief_inputs::{
+    compare_family, flat, narrow_box, two_by_one, Case, Difference, Tape, TWO_BY_ONE_TEXT,
+};
+use relief_reference::program::clean;
+
+use crate::child::Program;
+use crate::compare::{compare as compare_tape, report};
+
+/// Compares the program's text with the reference's, and that with the document's.
+pub fn compare(program: &Program) -> Result<(), Difference> {
+    compare_family("document 01's values", values(), |(tape, text)| {
+        let input = tape.clone().into();
+        let printed = clean(tape);
+        if printed != *text {
+            let differs = format!("the reference prints {printed:?}, not {text:?}");
+            return Err(report(&differs, &input));
+        }
+        compare_tape(program, &input)
+    })?
+    .met(&[], &[1, 2, 8, 13, 16])
+}
+
+/// Each tape with what the program is to print.
+fn values() -> Vec<(Vec<u8>, String)> {
+    let job = two_by_one();
+    let heaviest = {
+        let mut job = job.clone();
+        job.terms.weight = 65_280;
+        job
+    };
+    let run = |quick, allowance| {
+        let mut job = job.clone();
+        (job.rounds.quick, job.rounds.allowance) = (quick, allowance);
+        job.tape(&[])
+    };
+    let changed = |change: fn(&mut Tape)| {
+        let mut tape = Tape::new(&job, &[0]);
+        change(&mut tape);
+        tape.bytes
+    };
+    let refused = |number, place| format!("refused {number} at {place}\n");
+    vec![
+        (job.tape(&[]), TWO_BY_ONE_TEXT.to_string()),
+        check(&job, 0, "checked 0 262144 0 262144", "0 512"),
+        check(&job, -256, "checked 0 131072 131072 0", "256 256"),
+        check(&job, 256, "checked 0 458752 -327680 786432", "0 768"),
+        (changed(|tape| tape.set_flow(0, 257)), refused(8, 0)),
+        (run(0, 16), text("spent 16 131104 131040 64", "252 260")),
+        (run(0, 17), TWO_BY_ONE_TEXT.to_string()),
+        (run(3, 0), text("spent 0 150674 111470 39204", "157 355")),
+        check(
+            &narrow_box(),
+            0,
+            "checked 0 11010048 8388608 2621440",
+            "2048 3072",
+        ),
+        check(
+            &narrow_box(),
+            -1_280,
+            "checked 0 11010048 11010048 0",
+            "2048 3072",
+        ),
+        unmoved(1, 1),
+        check(&heaviest, 0, "checked 0 66846720 0 66846720", "0 512"),
+        (changed(|tape| tape.set_weight(65_281)), refused(2, 5)),
+        // The size is taken, but the program's tables are shorter.
+        (changed(|tape| tape.set_size((4_096, 256))), refused(16, 0)),
+        (changed(|tape| tape.set_size((4_096, 257))), refused(1, 0)),
+        unmoved(4_096, 1),
+        unmoved(1, 4_096),
+        unmoved(64, 64),
+        (flat(64, 65).tape(&[]), refused(16, 0)),
+        (Vec::new(), refused(13, 0)),
+    ]
+}
+
+/// A job of one pair with its flow.
+fn check(job: &Case, flow: i32, figures: &str, row: &str) -> (Vec<u8>, String) {
+    (job.tape(&[flow]), text(figures, row))
+}
+
+/// A flat job: no pair would move.
+fn unmoved(width: u32, height: u32) -> (Vec<u8>, String) {
+    let row = vec!["1792"; width as usize].join(" ");
+    let rows = vec![row; height as usize].join("\n");
+    let tape = flat(width, height).tape(&[]);
+    (tape, text("settled 0 0 0 0", &rows))
+}
+
+fn text(figures: &str, rows: &str) -> String {
+    format!("outcome moved price floor slack\n{figures}\n{rows}\n")
+}

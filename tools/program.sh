@@ -1,0 +1,19 @@
+#!/usr/bin/env bash
+# Builds the cleaning program and compares what it prints with the second implementation's text, on about 550 tapes,
+# or on about 5,800 with the argument `full`. RELIEF_BIN, if set, is the path of another program: that is taken as it
+# is, and nothing is built.
+set -euo pipefail
+if [ -n "${RELIEF_BIN:-}" ]; then
+    program=$(realpath "$RELIEF_BIN")
+fi
+cd "$(dirname "$0")/.."
+if [ -z "${RELIEF_BIN:-}" ]; then
+    rt check relief >&2
+    program=$PWD/target/bin/relief
+fi
+if [ ! -x "$program" ]; then
+    echo "there is no program $program" >&2
+    exit 1
+fi
+cd rust
+cargo run --offline --quiet --release -p relief-program -- "$program" "${1:-quick}"
