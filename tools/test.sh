@@ -1,6 +1,6 @@
 #!/usr/bin/env bash
-# All tests: layout, the Rust implementation's tests, the static library against it on about one input in twenty,
-# then every proof from nothing with the must-fail edits.
+# All tests: layout, the Rust implementation's tests, the static library and the program against it on about one input
+# in twenty, then every proof from nothing with the must-fail edits and the program's stored answer.
 # The last line is `N passed, 0 failed`.
 set -euo pipefail
 cd "$(dirname "$0")/.."
@@ -13,6 +13,9 @@ echo "== the second implementation (Rust, offline)"
 
 echo "== the static library beside the second implementation"
 bash tools/static.sh quick
+
+echo "== the program beside the second implementation"
+bash tools/program.sh quick
 
 echo "== every proof, must-fail edit and program"
 rt ci
