@@ -12,6 +12,7 @@ ghost use lib.Dec.{eqb, ltb};
 ghost use lib.ListN.{length};
 ghost use Rattle.model.specs.Verdict.{row, firstRefusal, decided};
 ghost use Rattle.model.specs.Calls.{pixelsOf, pairsOf, sizeRow, weightRow, boxRow, flowRow, imageRow};
+ghost use Rattle.calls.specs.Lengths.{pixelsDue, pairsDue, lengthRows};
 
 // The first of two verdicts that refuses.
 fn first(upper: Verdict, lower: Verdict) -> Verdict
@@ -34,6 +35,40 @@ fn exact(lent: usize, due: usize, number: u32) -> Verdict
     }
 }
 
+// How long the buffers of a job have to be.
+struct Due {
+    pixels: usize,
+    pairs: usize,
+}
+
+// The pixels and the pairs of a size that is allowed; 0 of any other, which is refused for its size.
+fn lengths_due(t: Terms) -> Due
+    ensures { λ r. ⌜ (r .pixels ≡ pixelsDue t) × (r .pairs ≡ pairsDue t) ⌝ }
+{
+    if terms::size_allowed(t.width, t.height) {
+        Due {
+            pixels: terms::pixels(t.width, t.height),
+            pairs: terms::pairs(t.width, t.height),
+        }
+    } else {
+        Due {
+            pixels: 0,
+            pairs: 0,
+        }
+    }
+}
+
+// 4, 5, 6: the lengths of samples, flow and image.
+fn judge_lengths(t: Terms, samples: usize, flow: usize, image: usize) -> Verdict
+    ensures { λ r. ⌜ r ≡ firstRefusal (lengthRows t samples flow image) ⌝ }
+{
+    let due = lengths_due(t);
+    first(
+        exact(samples, due.pixels, 4),
+        first(exact(flow, due.pairs, 5), exact(image, due.pixels, 6)),
+    )
+}
+
 // 8: a flow number beyond ±weight, at the first index.
 fn judge_flow(flow: &[i32], weight: u32) -> Verdict
     ensures { λ r. ⌜ r ≡ firstRefusal (flowRow weight (now (flow .entry)) ∷ []) ⌝ }
@@ -50,17 +85,9 @@ fn judge_flow(flow: &[i32], weight: u32) -> Verdict
 pub fn judge_check(t: Terms, samples: usize, flow: &[i32], image: usize) -> Verdict
     ensures { λ r. ⌜ r ≡ firstRefusal (sizeRow t 0 ∷ weightRow t 0 ∷ boxRow t 0 ∷ row (not (eqb samples (pixelsOf t))) 4 0 ∷ row (not (eqb (length (now (flow .entry))) (pairsOf t))) 5 0 ∷ row (not (eqb image (pixelsOf t))) 6 0 ∷ flowRow (t .weight) (now (flow .entry)) ∷ []) ⌝ }
 {
-    let terms = terms::judge_terms(t);
-    let Verdict::Accept = terms else {
-        return terms;
-    };
-    let n = terms::pixels(t.width, t.height);
-    let m = terms::pairs(t.width, t.height);
-    let lengths = first(
-        exact(samples, n, 4),
-        first(exact(flow.len(), m, 5), exact(image, n, 6)),
-    );
-    first(lengths, judge_flow(flow, t.weight))
+    let lengths = judge_lengths(t, samples, flow.len(), image);
+    let contents = judge_flow(flow, t.weight);
+    first(terms::judge_terms(t), first(lengths, contents))
 }
 
 // 9: an image value outside the box, at the first index.
@@ -79,13 +106,10 @@ fn judge_image(image: &[i32], t: Terms) -> Verdict
 pub fn judge_price(t: Terms, samples: usize, image: &[i32]) -> Verdict
     ensures { λ r. ⌜ r ≡ firstRefusal (sizeRow t 0 ∷ weightRow t 0 ∷ boxRow t 0 ∷ row (not (eqb samples (pixelsOf t))) 4 0 ∷ row (not (eqb (length (now (image .entry))) (pixelsOf t))) 6 0 ∷ imageRow t (now (image .entry)) ∷ []) ⌝ }
 {
-    let terms = terms::judge_terms(t);
-    let Verdict::Accept = terms else {
-        return terms;
-    };
-    let n = terms::pixels(t.width, t.height);
+    let n = lengths_due(t).pixels;
     let lengths = first(exact(samples, n, 4), exact(image.len(), n, 6));
-    first(lengths, judge_image(image, t))
+    let contents = judge_image(image, t);
+    first(terms::judge_terms(t), first(lengths, contents))
 }
 
 // 10: quick rounds over 4,096.
@@ -113,18 +137,10 @@ pub fn judge_run(
 ) -> Verdict
     ensures { λ r. ⌜ r ≡ firstRefusal (sizeRow t 0 ∷ weightRow t 0 ∷ boxRow t 0 ∷ row (ltb 4096 quick) 10 0 ∷ row (not (eqb samples (pixelsOf t))) 4 0 ∷ row (not (eqb flow (pairsOf t))) 5 0 ∷ row (not (eqb image (pixelsOf t))) 6 0 ∷ row (not (eqb work (2 * pairsOf t))) 7 0 ∷ []) ⌝ }
 {
-    let terms = terms::judge_terms(t);
-    let Verdict::Accept = terms else {
-        return terms;
-    };
-    let n = terms::pixels(t.width, t.height);
-    let m = terms::pairs(t.width, t.height);
+    let work_due = 2 * lengths_due(t).pairs;
     let lengths = first(
-        exact(samples, n, 4),
-        first(
-            exact(flow, m, 5),
-            first(exact(image, n, 6), exact(work, 2 * m, 7)),
-        ),
+        judge_lengths(t, samples, flow, image),
+        exact(work, work_due, 7),
     );
-    first(judge_rounds(quick), lengths)
+    first(terms::judge_terms(t), first(judge_rounds(quick), lengths))
 }

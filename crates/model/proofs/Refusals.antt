@@ -45,15 +45,8 @@ accepted-row r rows h = split (r .applies) refl h
     split true e k = let z : _≡_ {A = Bool} true false = cc in (e ∙ z, cc)
     split false e k = (e, k)
 
--- a table whose upper rows refuse, and one whose upper rows accept
+-- the first of two verdicts that refuses is that of their rows, one after the other
 module _ (upper lower : List Row) where
-  pub upper-refuses : {number place : ℕ} → firstRefusal upper ≡ Refuse number place → firstRefusal (upper ++ lower) ≡ Refuse number place
-  upper-refuses e = firstRefusal-append upper lower ∙ ap (λ (v : Verdict). decided v (firstRefusal lower) Refuse) e
-
-  pub upper-accepts : firstRefusal upper ≡ Accept → firstRefusal (upper ++ lower) ≡ firstRefusal lower
-  upper-accepts e = firstRefusal-append upper lower ∙ ap (λ (v : Verdict). decided v (firstRefusal lower) Refuse) e
-
-  -- the first of two verdicts that refuses is that of their rows, one after the other
   pub joined : {v a b : Verdict} → v ≡ decided a b Refuse → a ≡ firstRefusal upper → b ≡ firstRefusal lower → v ≡ firstRefusal (upper ++ lower)
   joined e f g = e ∙ ap₂ (λ (x y : Verdict). decided x y Refuse) f g ∙ sym (firstRefusal-append upper lower)
 

@@ -38,17 +38,9 @@ fn job_of(a: ReadResult) -> Job
             flowed,
         },
         ReadResult::Refused { number, place } => {
-            let terms = Terms {
-                width: 0,
-                height: 0,
-                weight: 0,
-                low: 0,
-                high: 0,
-            };
-            let rounds = Rounds {
-                quick: 0,
-                allowance: 0,
-            };
+            let none = tape::fresh();
+            let terms = none.terms;
+            let rounds = none.rounds;
             Job {
                 number,
                 place: place as u64,

@@ -1,5 +1,5 @@
 -- The laws of the text.
 --     Digits    the digits that `io` gives are the number's
---     Answers   the parts of an accepted answer, laid one behind the other
+--     Answers   the text of an accepted answer
 pub mod Digits
 pub mod Answers

@@ -1,41 +1,19 @@
--- `calls::judge::judge_price` meets its contract: its verdicts are those of the table's rows, one after the other.
--- Assumes nothing.
-use mathlib.Core.Path.{sym, ap, _∙_}
-use mathlib.Core.Bool.{not}
-use mathlib.Core.List.{[], _∷_}
+-- `calls::judge::judge_price` meets its contract. Assumes nothing.
+use mathlib.Core.Path.{ap, _∙_}
+use mathlib.Core.List.{[], _∷_, _++_}
 use Prim.Native.Nat.{ℕ}
-use borrow.Author.Needs.{needs}
-use lib.Dec.{eqb}
 use lib.ListN.{length}
 use Rattle.model.specs.declared.Verdict.{Verdict}
-use Rattle.model.specs.Verdict.{row, firstRefusal}
-use Rattle.model.specs.Calls.{sizeRow, weightRow, boxRow, imageRow, pixelsOf}
-use Rattle.model.proofs.Refusals.{upper-refuses, upper-accepts, joined}
-use Rattle.terms.proofs.Accepted.{AllowedTerms, accepted-terms}
+use Rattle.model.specs.Verdict.{firstRefusal}
+use Rattle.model.specs.Calls.{pixelsOf, imageRow}
+use Rattle.model.proofs.Refusals.{joined}
+use Rattle.calls.proofs.Rows.{exactRow, pixels-due, under-terms}
+use borrow.Author.Needs.{needs}
 use Rattle.calls.proofs.judge.judge_price.Statement.{statement}
 use Rattle.calls.proofs.judge.judge_price.Tie as tie
 
-judge-terms-requires : tie.Need-judge-terms-requires
-judge-terms-requires c κs = search needs
-
-enum-told : tie.Need-enum-told
-enum-told c = search needs
-
-enum-told-2 : tie.Need-enum-told-2
-enum-told-2 c = search needs
-
--- past the terms' rows, the terms are allowed
-allowed : (c : tie.After-enum-told) → AllowedTerms (c .before .before .before .args .t)
-allowed c = accepted-terms _ (sym (c .before .before .judge-terms .ensures) ∙ c .enum-told .given .1)
-
-returns : tie.Need-returns
-returns c =
-    let t = c .before .before .before .args .t in
-    let told = c .enum-told2 .given .1 in
-    told ∙ sym (upper-refuses (sizeRow t 0 ∷ weightRow t 0 ∷ boxRow t 0 ∷ []) _ (sym (c .before .before .judge-terms .ensures) ∙ told))
-
-pixels-requires : tie.Need-pixels-requires
-pixels-requires c κs = allowed c .size
+lengths-due-requires : tie.Need-lengths-due-requires
+lengths-due-requires c κs = search needs
 
 exact-requires : tie.Need-exact-requires
 exact-requires c κs = search needs
@@ -49,42 +27,48 @@ first-requires c κs = search needs
 judge-image-requires : tie.Need-judge-image-requires
 judge-image-requires c κs = search needs
 
+judge-terms-requires : tie.Need-judge-terms-requires
+judge-terms-requires c κs = search needs
+
 first-requires-2 : tie.Need-first-requires-2
 first-requires-2 c κs = search needs
 
-returns-2 : tie.Need-returns-2
-returns-2 c =
-    let values = c .before in
-    let lengths = values .before in
+first-requires-3 : tie.Need-first-requires-3
+first-requires-3 c κs = search needs
+
+returns : tie.Need-returns
+returns c =
+    let both = c .before in
+    let terms = both .before in
+    let contents = terms .before in
+    let lengths = contents .before in
     let image = lengths .before in
     let samples = image .before in
-    let pixels = samples .before in
-    let terms = pixels .before in
-    let s = terms .before .before .before in
-    let t = s .args .t in
-    let due : (number lent : ℕ) → ℕ → Verdict = λ number lent n. firstRefusal (row (not (eqb lent n)) number 0 ∷ []) in
-    let x = s .args .image .now in
-    joined (row (not (eqb (s .args .samples) (pixelsOf t))) 4 0 ∷ row (not (eqb (length x) (pixelsOf t))) 6 0 ∷ []) (imageRow t x ∷ [])
-    (c .first2 .ensures)
-    (joined (row (not (eqb (s .args .samples) (pixelsOf t))) 4 0 ∷ []) (row (not (eqb (length x) (pixelsOf t))) 6 0 ∷ [])
+    let due = samples .before in
+    let a = due .before .args in
+    let t = a .t in
+    let x = a .image .now in
+    let verdict : (number lent : ℕ) → ℕ → Verdict = λ number lent n. firstRefusal (exactRow number lent n ∷ []) in
+    let rows = exactRow 4 (a .samples) (pixelsOf t) ∷ exactRow 6 (length x) (pixelsOf t) ∷ [] in
+    under-terms t (rows ++ (imageRow t x ∷ [])) (c .first3 .ensures) (terms .judge-terms .ensures) (λ h.
+    let n = due .lengths-due .ensures .0 ∙ pixels-due t h in
+    joined rows (imageRow t x ∷ []) (both .first2 .ensures)
+    (joined (exactRow 4 (a .samples) (pixelsOf t) ∷ []) (exactRow 6 (length x) (pixelsOf t) ∷ [])
     (lengths .first .ensures)
-    (samples .exact .ensures ∙ ap (due 4 (s .args .samples)) (pixels .pixels .ensures))
-    (image .exact2 .ensures ∙ ap (due 6 (length x)) (pixels .pixels .ensures)))
-    (values .judge-image .ensures)
-    ∙ sym (upper-accepts (sizeRow t 0 ∷ weightRow t 0 ∷ boxRow t 0 ∷ []) _ (sym (terms .before .before .judge-terms .ensures) ∙ terms .enum-told .given .1))
+    (samples .exact .ensures ∙ ap (verdict 4 (a .samples)) n)
+    (image .exact2 .ensures ∙ ap (verdict 6 (length x)) n))
+    (contents .judge-image .ensures))
 
 pub judge-price-spec : {M : Type 1} → statement M
 judge-price-spec =
     tie.close
     (tie.spec
-    judge-terms-requires
-    enum-told
-    enum-told-2
-    returns
-    pixels-requires
+    lengths-due-requires
     exact-requires
     exact-requires-2
     first-requires
     judge-image-requires
+    judge-terms-requires
     first-requires-2
-    returns-2)
+    first-requires-3
+    returns)
