@@ -27,6 +27,7 @@ use Rattle.model.specs.Calls.{
 }
 use Rattle.model.specs.Tape.{Progress, Reading, turned, whole, reading}
 
+-- the word of an outcome
 abbrev pub word : Outcome → String
 word refused = "refused"
 word checked = "checked"
@@ -41,7 +42,7 @@ field digits = ascii " " ++ digits
 unfoldable pub refusalText : Answer → List ℕ
 refusalText a = ascii "refused " ++ decimal (a .number) ++ ascii " at " ++ decimal (a .place) ++ ascii "\n"
 
--- The header line and the line of numbers
+-- the numbers of an accepted answer, to the end of their line
 abbrev pub numbersText : ℕ → ℤ → ℤ → ℤ → List ℕ
 numbersText moved price floor slack =
     field (decimal moved)
@@ -50,22 +51,25 @@ numbersText moved price floor slack =
     ++ field (signedDecimal slack)
     ++ ascii "\n"
 
+-- The header line and the line of numbers
 unfoldable pub figuresText : Answer → List ℕ
 figuresText a =
     ascii "outcome moved price floor slack\n"
     ++ ascii (word (a .outcome))
     ++ numbersText (a .moved) (a .price) (a .floor) (a .slack)
 
--- One line of image values for each row
+-- a row's values, with a space between two
 abbrev pub rowText : ℕ → (ℕ → ℤ) → List ℕ
 rowText width value =
     chain width (λ column. cond (eqb column 0) (signedDecimal (value column)) (field (signedDecimal (value column))))
     ++ ascii "\n"
 
+-- One line of image values for each row
 unfoldable pub imageText : Terms → List ℤ → List ℕ
 imageText t values =
     chain (t .height) (λ row. rowText (t .width) (λ column. at values (pixel (t .width) row column)))
 
+-- the text of an answer
 unfoldable pub answerText : Answer → Terms → List ℤ → List ℕ
 answerText a t values = elim (a .outcome) [
   | refused ↦ refusalText a
@@ -74,10 +78,11 @@ answerText a t values = elim (a .outcome) [
   | spent ↦ figuresText a ++ imageText t values
 ]
 
--- With flow records it checks, else it runs, with tables of zeros: the job's answer, and the image that it leaves
+-- a table of zeros
 abbrev pub zeros : ℕ → List ℤ
 zeros n = replicate n (pos 0)
 
+-- With flow records it checks, else it runs: the job's answer, and the image that it leaves
 unfoldable pub jobAnswer : Progress → Answer
 jobAnswer p =
     let t : Terms = p .terms in
@@ -92,6 +97,7 @@ jobImage p =
     (runImage t (p .rounds) (p .samples) (zeros (pairsOf t)) (zeros (pixelsOf t)) (zeros (2 * pairsOf t)))
     (checkImage t (p .samples) (p .flow) (zeros (pixelsOf t)))
 
+-- the text for what was read
 abbrev pub readText : Reading → List ℕ
 readText (turned number place) = refusalText (refusal number place)
 readText (whole p) = answerText (jobAnswer p) (p .terms) (jobImage p)
