@@ -1,17 +1,16 @@
 -- The text of an answer, whatever the buffers that a call fills held before: only their lengths count. Assumes nothing.
 use mathlib.Core.Path.{_≡_, refl, ap, _∙_}
-use mathlib.Core.Bool.{not, cond}
-use mathlib.Core.List.{List, [], _∷_}
-use Prim.Native.Nat.{ℕ, _*_}
-use lib.Dec.{eqb}
+use mathlib.Core.Bool.{cond}
+use mathlib.Core.List.{List}
+use Prim.Native.Nat.{ℕ}
 use lib.IntN.{ℤ}
 use lib.ListN.{length}
 use Rattle.model.specs.declared.Terms.{Terms}
 use Rattle.model.specs.declared.Rounds.{Rounds}
 use Rattle.model.specs.declared.Verdict.{Verdict}
-use Rattle.model.specs.Verdict.{row, firstRefusal, decided, left}
+use Rattle.model.specs.Verdict.{decided, left}
 use Rattle.model.specs.Rounds.{Steady}
-use Rattle.model.specs.Calls.{Answer, checked, settled, spent, refusal, imageOf, figuresOf, ending, pixelsOf, pairsOf, sizeRow, weightRow, boxRow, roundsRow, lengthRow, flowRow, checkVerdict, checkAnswer, checkImage, runVerdict, runAnswer, runImage}
+use Rattle.model.specs.Calls.{Answer, checked, settled, spent, refusal, imageOf, figuresOf, ending, checkVerdict, checkAnswer, checkImage, runVerdict, runAnswer, runImage}
 use Rattle.model.specs.Program.{answerText}
 
 -- an answer and an image by one verdict
@@ -29,53 +28,31 @@ module _ (t : Terms) (samples : List ℕ) (flow : List ℤ) where
   abbrev pub checkText : List ℤ → List ℕ
   checkText image = answerText (checkAnswer t samples flow image) t (checkImage t samples flow image)
 
-  checkedBy : ℕ → Verdict
-  checkedBy image =
-      firstRefusal
-      (sizeRow t 0
-      ∷ weightRow t 0
-      ∷ boxRow t 0
-      ∷ lengthRow 4 samples (pixelsOf t)
-      ∷ lengthRow 5 flow (pairsOf t)
-      ∷ row (not (eqb image (pixelsOf t))) 6 0
-      ∷ flowRow (t .weight) flow
-      ∷ [])
-
-  abbrev printedCheck : Verdict → List ℤ → List ℕ
-  printedCheck = printed t (figuresOf checked 0 t samples flow) (imageOf t samples flow)
+  same-verdict : (image other : List ℤ) → length image ≡ length other → checkVerdict t samples flow image ≡ checkVerdict t samples flow other
+  unfolding checkVerdict
+  same-verdict image other e = cc
 
   pub same-check : (image other : List ℤ) → length image ≡ length other → checkText image ≡ checkText other
-  unfolding checkVerdict checkAnswer checkImage checkedBy
+  unfolding checkAnswer checkImage
   same-check image other e =
-      same-printed t _ _ (checkedBy (length image)) image other ∙ ap (λ (n : ℕ). printedCheck (checkedBy n) other) e
+      let a : Answer = figuresOf checked 0 t samples flow in
+      let values : List ℤ = imageOf t samples flow in
+      same-printed t a values (checkVerdict t samples flow image) image other ∙ ap (λ (v : Verdict). printed t a values v other) (same-verdict image other e)
 
 module _ (t : Terms) (r : Rounds) (samples : List ℕ) where
   -- what run prints for buffers that held these values
   abbrev pub runText : List ℤ → List ℤ → List ℤ → List ℕ
   runText flow image work = answerText (runAnswer t r samples flow image work) t (runImage t r samples flow image work)
 
-  runBy : ℕ → ℕ → ℕ → Verdict
-  runBy flow image work =
-      firstRefusal
-      (sizeRow t 0
-      ∷ weightRow t 0
-      ∷ boxRow t 0
-      ∷ roundsRow r 0
-      ∷ lengthRow 4 samples (pixelsOf t)
-      ∷ row (not (eqb flow (pairsOf t))) 5 0
-      ∷ row (not (eqb image (pixelsOf t))) 6 0
-      ∷ row (not (eqb work (2 * pairsOf t))) 7 0
-      ∷ [])
+  module _ (f i w f' i' w' : List ℤ) (flows : length f ≡ length f') (images : length i ≡ length i') (works : length w ≡ length w') where
+    same-run-verdict : runVerdict t r samples f i w ≡ runVerdict t r samples f' i' w'
+    unfolding runVerdict
+    same-run-verdict = cc
 
-  abbrev printedRun : Verdict → List ℤ → List ℕ
-  printedRun =
-      let e : Steady = ending t r samples in
-      printed t (figuresOf (cond (e .settled) settled spent) (e .moved) t samples (e .flow)) (imageOf t samples (e .flow))
-
-  pub same-run : (f i w f' i' w' : List ℤ) → length f ≡ length f' → length i ≡ length i' → length w ≡ length w' → runText f i w ≡ runText f' i' w'
-  unfolding runVerdict runAnswer runImage runBy
-  same-run f i w f' i' w' e g h =
-      same-printed t _ _ (runBy (length f) (length i) (length w)) i i'
-      ∙ ap (λ (n : ℕ). printedRun (runBy n (length i) (length w)) i') e
-      ∙ ap (λ (n : ℕ). printedRun (runBy (length f') n (length w)) i') g
-      ∙ ap (λ (n : ℕ). printedRun (runBy (length f') (length i') n) i') h
+    pub same-run : runText f i w ≡ runText f' i' w'
+    unfolding runAnswer runImage
+    same-run =
+        let e : Steady = ending t r samples in
+        let a : Answer = figuresOf (cond (e .settled) settled spent) (e .moved) t samples (e .flow) in
+        let values : List ℤ = imageOf t samples (e .flow) in
+        same-printed t a values (runVerdict t r samples f i w) i i' ∙ ap (λ (v : Verdict). printed t a values v i') same-run-verdict

@@ -4,6 +4,6 @@
 //     image    one line of values for each row
 //     answer   the whole text of an answer
 pub mod answer;
-pub mod image;
+mod image;
 pub mod line;
-pub mod number;
+mod number;
