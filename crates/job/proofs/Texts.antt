@@ -14,18 +14,18 @@ use borrow.Author.Tests.{eqb-true, eqb-false}
 use Rattle.model.specs.declared.Terms.{Terms}
 use Rattle.model.specs.declared.Rounds.{Rounds}
 use Rattle.model.specs.declared.Verdict.{Verdict}
-use Rattle.model.specs.Lists.{overwritten}
+use Rattle.model.specs.Lists.{zeros, overwritten}
 use Rattle.model.specs.Grid.{sizeAllowed}
 use Rattle.model.specs.Verdict.{left}
 use Rattle.model.specs.Calls.{Answer, refusal, pixelsOf, pairsOf, imageOf, checkVerdict, checkAnswer, checkImage, runVerdict, runAnswer, runImage}
-use Rattle.model.specs.Tape.{Progress, Reading, turned, whole, reading, ReadAnswer, readOf, readAnswer, readSamples, readFlow}
+use Rattle.model.specs.Tape.{Progress, Parse, turned, whole, parse, ReadAnswer, readOf, readAnswer, readSamples, readFlow}
 use Rattle.tape.specs.declared.reading.ReadResult.{ReadResult}
 use Rattle.tape.specs.Answers.{readAnswerOf}
-use Rattle.model.specs.Program.{zeros, refusalText, jobAnswer, jobImage, answerText, readText}
+use Rattle.model.specs.Program.{refusalText, jobAnswer, jobImage, answerText, readText}
 use Rattle.model.proofs.Lists.{length-table}
 use Rattle.terms.proofs.Size.{allowed-size}
 use Rattle.tape.proofs.Accepted.{accepted-job}
-use Rattle.tape.proofs.Judged.{accepted-reading, passed-reading, answer-by, samples-by, flow-by}
+use Rattle.tape.proofs.Judged.{accepted-parse, passed-parse, answer-by, samples-by, flow-by}
 use Rattle.job.specs.Tables.{Tables, answerIn, imageFront, flowIn, imageIn, workIn}
 use Rattle.job.specs.Cleaned.{Room, flowLeft, imageLeft, workLeft}
 use Rattle.job.proofs.Formers.{checkText, same-check, runText, same-run}
@@ -60,9 +60,9 @@ pub record Fits (samples flow : ℕ) (p : Progress) : Type 0 where
   pub flows : (length (p .flow) ≡ 0) ⊎ (length (p .flow) ≡ pairsOf (p .terms))
 
 pub whole-fits : (input samples : List ℕ) (flow : List ℤ) → ((i : ℕ) → getD input i 0 < 256) → (p : Progress) →
-    reading input (length samples) (length flow) ≡ whole p → Fits (length samples) (length flow) p
+    parse input (length samples) (length flow) ≡ whole p → Fits (length samples) (length flow) p
 whole-fits input samples flow byte p e =
-    let j = accepted-job input (record { samples = length samples; flow = length flow }) byte p (passed-reading input samples flow p e .0) in
+    let j = accepted-job input (record { samples = length samples; flow = length flow }) byte p (passed-parse input samples flow p e .0) in
     let size = j .sound .size (omega (arith, j .complete)) in
     record { size = size .0; samplesHold = size .1; flowHolds = size .2; sampled = j .samples; flows = j .flow }
 
@@ -134,8 +134,8 @@ unfolding sizeAllowed
 none-small = refl
 
 module _ (input samples : List ℕ) (flow : List ℤ) (byte : (i : ℕ) → getD input i 0 < 256) where
-  abbrev tape : Reading
-  tape = reading input (length samples) (length flow)
+  abbrev tape : Parse
+  tape = parse input (length samples) (length flow)
 
   -- a job: the tape is whole
   pub record Taken (t : Terms) (r : Rounds) (flowed : Bool) : Type 0 where
@@ -147,7 +147,7 @@ module _ (input samples : List ℕ) (flow : List ℤ) (byte : (i : ℕ) → getD
     pub flows : flowed ≡ not (eqb (length (p .flow)) 0)
 
   pub taken : (t : Terms) (r : Rounds) (flowed : Bool) → readAnswerOf (ReadResult.Job t r flowed) ≡ readAnswer input samples flow → Taken t r flowed
-  taken t r flowed e = go (accepted-reading input samples flow (ap (λ (a : ReadAnswer). a .number) (sym e)))
+  taken t r flowed e = go (accepted-parse input samples flow (ap (λ (a : ReadAnswer). a .number) (sym e)))
     where
       go : (p : Progress) × (tape ≡ whole p) → Taken t r flowed
       go (p, h) =
@@ -165,7 +165,7 @@ module _ (input samples : List ℕ) (flow : List ℤ) (byte : (i : ℕ) → getD
   pub turned-back : (number place : ℕ) → readAnswerOf (ReadResult.Refused number place) ≡ readAnswer input samples flow → tape ≡ turned number place
   turned-back number place e = go tape refl
     where
-      go : (r : Reading) → tape ≡ r → tape ≡ turned number place
+      go : (r : Parse) → tape ≡ r → tape ≡ turned number place
       go (turned n q) h =
           let a : readAnswerOf (ReadResult.Refused number place) ≡ readOf (turned n q) = e ∙ answer-by input samples flow h in
           h ∙ ap₂ turned (sym (ap (λ (x : ReadAnswer). x .number) a)) (sym (ap (λ (x : ReadAnswer). x .place) a))
@@ -180,12 +180,12 @@ module _ (input samples : List ℕ) (flow : List ℤ) (byte : (i : ℕ) → getD
       where
         clash : (p : Progress) × (tape ≡ whole p) → ⊥
         clash (p, h) =
-            let y : _≡_ {A = Reading} (turned number place) (whole p) = sym (turned-back number place e) ∙ h in
+            let y : _≡_ {A = Parse} (turned number place) (whole p) = sym (turned-back number place e) ∙ h in
             let z : _≡_ {A = ℕ} 0 1 = cc in
             absurd (omega arith)
 
         go : (b : Bool) → eqb (readAnswer input samples flow .number) 0 ≡ b → b ≡ false
-        go true h = absurd (clash (accepted-reading input samples flow (eqb-true _ _ h)))
+        go true h = absurd (clash (accepted-parse input samples flow (eqb-true _ _ h)))
         go false h = refl
 
     -- the text, and the tables as they were
@@ -232,7 +232,7 @@ module _ {input samples : List ℕ} {flow : List ℤ} {byte : (i : ℕ) → getD
   module _ (image work : List ℤ) {output : ℕ} (room : Room (length samples) (length flow) (length image) (length work) output)
       {S : List ℕ} {F : List ℤ} (s : S ≡ readSamples input samples flow) (f : F ≡ readFlow input samples flow) where
     pub read-text : {a : Answer} {values : List ℤ} → a ≡ answerIn t r flowed S F image work → values ≡ imageIn t r flowed S F image work →
-        answerText a t (take (pixelsOf t) values) ≡ readText (reading input (length samples) (length flow))
+        answerText a t (take (pixelsOf t) values) ≡ readText (parse input (length samples) (length flow))
     read-text e g =
         ap₂ (λ (b : Answer) (l : List ℤ). answerText b t (take (pixelsOf t) l)) e g
         ∙ ap (λ (u : Terms). printed u r flowed S F) (k .terms)

@@ -5,10 +5,10 @@ use mathlib.Core.List.{List, [], _∷_, _++_}
 use Prim.Native.Nat.{ℕ, _+_, _*_}
 use lib.Dec.{eqb, ltb}
 use lib.IntN.{ℤ, pos, natAbs}
-use lib.ListN.{length, replicate}
+use lib.ListN.{length}
 use lib.Signed.{ltZ}
 pub use Rattle.model.specs.declared.Rounds.{Rounds}
-use Rattle.model.specs.Lists.{at, table, firstWhere}
+use Rattle.model.specs.Lists.{at, zeros, table, firstWhere}
 use Rattle.model.specs.Problem.{Problem, pairCount, image, price, floor, slack}
 use Rattle.model.specs.Grid.{Terms, sizeAllowed, weightAllowed, boxAllowed, gridPairs, grid, lowEnd, highEnd}
 use Rattle.model.specs.Rounds.{eighth, Quick, quickRounds, Steady, steadyRounds}
@@ -157,4 +157,4 @@ runImage t r samples flow values work =
 -- The work buffer holds only zeros after an accepted run
 unfoldable pub runWork : Terms → Rounds → List ℕ → List ℤ → List ℤ → List ℤ → List ℤ
 runWork t r samples flow values work =
-    left (runVerdict t r samples flow values work) (replicate (2 * pairsOf t) (pos 0)) work
+    left (runVerdict t r samples flow values work) (zeros (2 * pairsOf t)) work

@@ -4,11 +4,15 @@ use mathlib.Core.Bool.{Bool, cond}
 use mathlib.Core.List.{List, [], _∷_, _++_}
 use Prim.Native.Nat.{ℕ, zero, suc}
 use lib.IntN.{ℤ, pos}
-use lib.ListN.{length, getD, drop}
+use lib.ListN.{length, getD, drop, replicate}
 
 -- the number at index i of a buffer
 abbrev pub at : List ℤ → ℕ → ℤ
 at buffer i = getD buffer i (pos 0)
+
+-- a buffer of zeros
+abbrev pub zeros : ℕ → List ℤ
+zeros n = replicate n (pos 0)
 
 module _ {A : Type 0} where
   -- f 0, f 1, .., f (n − 1)

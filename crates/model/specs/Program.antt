@@ -4,9 +4,9 @@ use mathlib.Core.List.{List, [], _++_}
 use Prim.Native.Nat.{ℕ, _*_}
 use Prim.Native.String.{String}
 use lib.Dec.{ltb, eqb}
-use lib.IntN.{ℤ, pos}
-use lib.ListN.{length, replicate}
-use Rattle.model.specs.Lists.{at, chain}
+use lib.IntN.{ℤ}
+use lib.ListN.{length}
+use Rattle.model.specs.Lists.{at, zeros, chain}
 use Rattle.model.specs.Text.{ascii, decimal, signedDecimal}
 use Rattle.model.specs.Grid.{Terms, pixel}
 use Rattle.model.specs.Calls.{
@@ -25,7 +25,7 @@ use Rattle.model.specs.Calls.{
   runAnswer,
   runImage,
 }
-use Rattle.model.specs.Tape.{Progress, Reading, turned, whole, reading}
+use Rattle.model.specs.Tape.{Progress, Parse, turned, whole, parse}
 
 -- the word of an outcome
 abbrev pub word : Outcome → String
@@ -78,10 +78,6 @@ answerText a t values = elim (a .outcome) [
   | spent ↦ figuresText a ++ imageText t values
 ]
 
--- a table of zeros
-abbrev pub zeros : ℕ → List ℤ
-zeros n = replicate n (pos 0)
-
 -- With flow records it checks, else it runs: the job's answer, and the image that it leaves
 unfoldable pub jobAnswer : Progress → Answer
 jobAnswer p =
@@ -98,7 +94,7 @@ jobImage p =
     (checkImage t (p .samples) (p .flow) (zeros (pixelsOf t)))
 
 -- the text for what was read
-abbrev pub readText : Reading → List ℕ
+abbrev pub readText : Parse → List ℕ
 readText (turned number place) = refusalText (refusal number place)
 readText (whole p) = answerText (jobAnswer p) (p .terms) (jobImage p)
 
@@ -106,5 +102,5 @@ readText (whole p) = answerText (jobAnswer p) (p .terms) (jobImage p)
 unfoldable pub programText : List ℕ → List ℕ
 programText input = elim (ltb 65536 (length input)) [
   | true ↦ refusalText (refusal 17 0)
-  | false ↦ readText (reading input 4096 8064)
+  | false ↦ readText (parse input 4096 8064)
 ]

@@ -5,9 +5,8 @@ use mathlib.Core.List.{List}
 use Prim.Native.Nat.{ℕ, zero, suc, _+_, _*_, _/_}
 use lib.Dec.{ltb}
 use lib.IntN.{ℤ, pos, negℤ, _+ℤ_, _-ℤ_, _*ℤ_}
-use lib.ListN.{replicate}
 use Rattle.integers.specs.Whole.{clamp, quotient, sameZ}
-use Rattle.model.specs.Lists.{at, table, firstWhere}
+use Rattle.model.specs.Lists.{at, zeros, table, firstWhere}
 use Rattle.model.specs.Problem.{Problem, pairCount, fall, image}
 use Rattle.model.specs.Root.{root}
 
@@ -43,8 +42,8 @@ extrapolate t next earlier now = now +ℤ quotient ((pos t -ℤ pos 65536) *ℤ 
 unfoldable pub quickStart : Problem → Quick
 quickStart p =
     record {
-      iterate = replicate (pairCount p) (pos 0);
-      extrapolated = replicate (pairCount p) (pos 0);
+      iterate = zeros (pairCount p);
+      extrapolated = zeros (pairCount p);
       momentum = 65536;
     }
 

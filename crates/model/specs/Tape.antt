@@ -196,21 +196,21 @@ entryRows o samplesLent flowLent (RoundLimits q a) = roundsRow (record { quick =
 entryRows o samplesLent flowLent (Sample s) = []
 entryRows o samplesLent flowLent (Flow f) = []
 
--- ---- Reading
+-- ---- Reading: the tape parsed
 
 -- A refusal, or the whole job
-pub data Reading : Type 0 where
-  turned : ℕ → ℕ → Reading
-  whole : Progress → Reading
+pub data Parse : Type 0 where
+  turned : ℕ → ℕ → Parse
+  whole : Progress → Parse
 
-abbrev pub unless : Verdict → Reading → Reading
+abbrev pub unless : Verdict → Parse → Parse
 unless Accept r = r
 unless (Refuse number place) r = turned number place
 
 -- Records from offset o on; every record takes a byte at least, so as many records as bytes are enough
-unfoldable pub readFrom : ℕ → List ℕ → ℕ → ℕ → ℕ → Progress → Reading
-readFrom zero tape samplesLent flowLent o p = turned 13 (length tape)
-readFrom (suc k) tape samplesLent flowLent o p =
+unfoldable pub parseFrom : ℕ → List ℕ → ℕ → ℕ → ℕ → Progress → Parse
+parseFrom zero tape samplesLent flowLent o p = turned 13 (length tape)
+parseFrom (suc k) tape samplesLent flowLent o p =
     let kind : ℕ = getD tape o 0 in
     let entry : Entry = decoded kind (λ i. getD tape (o + 1 + i) 0) in
     elim (firstRefusal (recordRows tape o (allowed p) ++ entryRows o samplesLent flowLent entry)) [
@@ -218,18 +218,18 @@ readFrom (suc k) tape samplesLent flowLent o p =
       | Accept ↦
           elim (eqb kind 0) [
             | true ↦ whole p
-            | false ↦ readFrom k tape samplesLent flowLent (o + 1 + bodyLength kind) (absorbed p entry)
+            | false ↦ parseFrom k tape samplesLent flowLent (o + 1 + bodyLength kind) (absorbed p entry)
           ]
     ]
 
 -- 8 is judged only when the whole tape has passed
-abbrev pub judged : Reading → Reading
+abbrev pub judged : Parse → Parse
 judged (turned number place) = turned number place
 judged (whole p) = unless (firstRefusal (flowRow (p .terms .weight) (p .flow) ∷ [])) (whole p)
 
-unfoldable pub reading : List ℕ → ℕ → ℕ → Reading
-reading tape samplesLent flowLent =
-    judged (readFrom (suc (length tape)) tape samplesLent flowLent 0 nothing)
+unfoldable pub parse : List ℕ → ℕ → ℕ → Parse
+parse tape samplesLent flowLent =
+    judged (parseFrom (suc (length tape)) tape samplesLent flowLent 0 nothing)
 
 -- What read gives: the job's terms and rounds, and whether a flow was there (no, where there are no pairs). Accepted:
 -- number and place are 0. Refused: zeros but for number and place
@@ -240,7 +240,7 @@ pub record ReadAnswer : Type 0 where
   pub rounds : Rounds
   pub flowed : Bool
 
-abbrev pub readOf : Reading → ReadAnswer
+abbrev pub readOf : Parse → ReadAnswer
 readOf (turned number place) =
     record {
       number = number;
@@ -259,23 +259,23 @@ readOf (whole p) =
     }
 
 -- a buffer's front filled with what was read and its rest left, or its former values
-abbrev pub samplesAfter : Reading → List ℕ → List ℕ
+abbrev pub samplesAfter : Parse → List ℕ → List ℕ
 samplesAfter (turned number place) former = former
 samplesAfter (whole p) former = overwritten (p .samples) former
 
-abbrev pub flowAfter : Reading → List ℤ → List ℤ
+abbrev pub flowAfter : Parse → List ℤ → List ℤ
 flowAfter (turned number place) former = former
 flowAfter (whole p) former = overwritten (p .flow) former
 
 -- Read: its answer, the sample buffer and the flow buffer (untouched without flow records)
 unfoldable pub readAnswer : List ℕ → List ℕ → List ℤ → ReadAnswer
-readAnswer tape samples flow = readOf (reading tape (length samples) (length flow))
+readAnswer tape samples flow = readOf (parse tape (length samples) (length flow))
 
 unfoldable pub readSamples : List ℕ → List ℕ → List ℤ → List ℕ
-readSamples tape samples flow = samplesAfter (reading tape (length samples) (length flow)) samples
+readSamples tape samples flow = samplesAfter (parse tape (length samples) (length flow)) samples
 
 unfoldable pub readFlow : List ℕ → List ℕ → List ℤ → List ℤ
-readFlow tape samples flow = flowAfter (reading tape (length samples) (length flow)) flow
+readFlow tape samples flow = flowAfter (parse tape (length samples) (length flow)) flow
 
 -- ---- Writing
 

@@ -5,7 +5,7 @@
 use mathlib.Core.List.{List, [], _∷_}
 use Prim.Native.Nat.{ℕ, _*_}
 use lib.IntN.{ℤ, pos, negsuc, negℤ}
-use lib.ListN.{replicate}
+use Rattle.model.specs.Lists.{zeros}
 use Rattle.model.specs.Grid.{Terms, grid}
 use Rattle.model.specs.Rounds.{eighth, quickRounds}
 use Rattle.model.specs.Calls.{
@@ -49,11 +49,7 @@ pub record Case : Type 0 where
   pub asked : Asked
   pub expected : Given
 
--- the buffers that a call fills are lent full of zeros
-abbrev pub zeros : ℕ → List ℤ
-zeros n = replicate n (pos 0)
-
--- What the definitions give
+-- What the definitions give; the buffers that a call fills are lent full of zeros
 unfoldable pub ask : Terms → List ℕ → Asked → Given
 ask t samples (checking flow) =
     let image : List ℤ = zeros (pixelsOf t) in

@@ -1,6 +1,6 @@
-// Document 01 as definitions (specs/) and their first laws (proofs/). The only code here are the two
-// records of numbers that every call takes: the calls of the crates above promise equations with
-// the definitions.
+// Document 01 as definitions (specs/) and their first laws (proofs/). There is no code here but the
+// types that the definitions and the calls of the crates above share: terms and rounds of a job,
+// a verdict, and a record of the tape.
 
 // Terms of a job without its rounds: size, weight W in sub-units, and the box in levels.
 pub struct Terms {

@@ -5,7 +5,7 @@ use Prim.Native.Nat.{ℕ, _≤_, _<_}
 use lib.ListN.{length}
 use borrow.Author.Tests.{lt-ltb, le-ltb}
 use Rattle.model.specs.Calls.{refusal}
-use Rattle.model.specs.Tape.{reading}
+use Rattle.model.specs.Tape.{parse}
 use Rattle.model.specs.Program.{refusalText, readText, programText}
 
 module _ (input : List ℕ) where
@@ -13,6 +13,6 @@ module _ (input : List ℕ) where
   unfolding programText
   too-long h = rw (lt-ltb 65536 (length input) h, programText) refl
 
-  pub not-too-long : length input ≤ 65536 → readText (reading input 4096 8064) ≡ programText input
+  pub not-too-long : length input ≤ 65536 → readText (parse input 4096 8064) ≡ programText input
   unfolding programText
   not-too-long h = rw (le-ltb 65536 (length input) h, programText) refl

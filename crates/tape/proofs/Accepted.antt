@@ -21,7 +21,7 @@ use Rattle.model.specs.Lists.{at, chain}
 use Rattle.model.specs.Grid.{sizeAllowed, weightAllowed, boxAllowed}
 use Rattle.model.specs.Verdict.{firstRefusal}
 use Rattle.model.specs.Calls.{pixelsOf, pairsOf}
-use Rattle.model.specs.Tape.{known, decoded, encoded, Progress, nothing, allowedAfter, allowed, absorbed, entryRows, Reading, whole, readFrom, tapeOf}
+use Rattle.model.specs.Tape.{known, decoded, encoded, Progress, nothing, allowedAfter, allowed, absorbed, entryRows, Parse, whole, parseFrom, tapeOf}
 use Rattle.model.proofs.Lists.{last}
 use Rattle.model.proofs.Refusals.{accepted-row}
 use Rattle.model.proofs.Bounds.{both-true}
@@ -269,18 +269,18 @@ module _ (tape : List ℕ) (lent : Lent) (byte : (i : ℕ) → getD tape i 0 < 2
         either : (eqb (length (p .flow)) 0 || eqb (length (p .flow)) (pairsOf (p .terms))) ≡ true → (length (p .flow) ≡ 0) ⊎ (length (p .flow) ≡ pairsOf (p .terms))
         either t = ⊎-elim (λ (e : eqb (length (p .flow)) 0 ≡ true). inl (eqb-true _ 0 e)) (λ (e : eqb (length (p .flow)) (pairsOf (p .terms)) ≡ true). inr (eqb-true _ _ e)) (go _ _ t)
 
-  laid : (k o : ℕ) (p q : Progress) → Good o p → readFrom k tape (lent .samples) (lent .flow) o p ≡ whole q → Job q
-  unfolding readFrom
+  laid : (k o : ℕ) (p q : Progress) → Good o p → parseFrom k tape (lent .samples) (lent .flow) o p ≡ whole q → Job q
+  unfolding parseFrom
   laid zero o p q g e = let z : _≡_ {A = ℕ} 0 1 = cc in absurd (omega arith)
   laid (suc k) o p q g e = go (turn tape lent k o p) e (laid k)
     where
-      go : {s : Step} {r : Reading} → Turn tape lent k o p s r → r ≡ whole q →
-          ((o : ℕ) (p q : Progress) → Good o p → readFrom k tape (lent .samples) (lent .flow) o p ≡ whole q → Job q) → Job q
+      go : {s : Step} {r : Parse} → Turn tape lent k o p s r → r ≡ whole q →
+          ((o : ℕ) (p q : Progress) → Good o p → parseFrom k tape (lent .samples) (lent .flow) o p ≡ whole q → Job q) → Job q
       go (Turn.refuse n f _) w ih = let z : _≡_ {A = ℕ} 0 1 = cc in absurd (omega arith)
       go (Turn.done h z) w ih = subst Job (cc) (ending o p g h z)
       go (Turn.more h v z) w ih = ih _ _ q (growing o p g h v z) w
 
-  pub accepted-job : (q : Progress) → readFrom (suc (length tape)) tape (lent .samples) (lent .flow) 0 nothing ≡ whole q → Job q
+  pub accepted-job : (q : Progress) → parseFrom (suc (length tape)) tape (lent .samples) (lent .flow) 0 nothing ≡ whole q → Job q
   unfolding soFar headerBytes sampleBytes flowBytes chain
   accepted-job q e = laid (suc (length tape)) 0 nothing q (record { bytes = refl; sound = start }) e
     where

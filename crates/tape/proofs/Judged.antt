@@ -9,7 +9,7 @@ use borrow.Author.Tests.{lt-ltb, le-ltb, ltb-false}
 use Rattle.model.specs.declared.Verdict.{Verdict}
 use Rattle.model.specs.Verdict.{firstRefusal}
 use Rattle.model.specs.Calls.{firstBeyond, flowRow}
-use Rattle.model.specs.Tape.{Progress, nothing, Reading, turned, whole, readFrom, unless, judged, reading, readOf, readAnswer, readSamples, readFlow, samplesAfter, flowAfter}
+use Rattle.model.specs.Tape.{Progress, nothing, Parse, turned, whole, parseFrom, unless, judged, parse, readOf, readAnswer, readSamples, readFlow, samplesAfter, flowAfter}
 use Rattle.model.proofs.Refusals.{accepted, refused, passed, accepted-row, refused-number}
 use Rattle.tape.specs.declared.tally.Tally.{Tally}
 use Rattle.tape.specs.declared.step.Lent.{Lent}
@@ -20,58 +20,58 @@ use Rattle.tape.specs.Scan.{scannedOf}
 use Rattle.tape.proofs.Turns.{Turn, turn}
 
 -- what a scan that came through says of the reading
-pub scanned-whole : (r : Reading) {t : Tally} → scannedOf r ≡ Scanned.Whole t → (p : Progress) × (r ≡ whole p) × (t ≡ tallyOf p)
+pub scanned-whole : (r : Parse) {t : Tally} → scannedOf r ≡ Scanned.Whole t → (p : Progress) × (r ≡ whole p) × (t ≡ tallyOf p)
 scanned-whole (turned n q) e = let z : _≡_ {A = ℕ} 0 1 = cc in absurd (omega arith)
 scanned-whole (whole p) e = (p, refl, cc)
 
-pub scanned-refused : (r : Reading) {n q : ℕ} → scannedOf r ≡ Scanned.Refused n q → r ≡ turned n q
+pub scanned-refused : (r : Parse) {n q : ℕ} → scannedOf r ≡ Scanned.Refused n q → r ≡ turned n q
 scanned-refused (turned m o) e = cc
 scanned-refused (whole p) e = cc
 
 module _ (tape : List ℕ) (samples : List ℕ) (flow : List ℤ) where
-  abbrev pub all : Reading
-  all = readFrom (suc (length tape)) tape (length samples) (length flow) 0 nothing
+  abbrev pub all : Parse
+  all = parseFrom (suc (length tape)) tape (length samples) (length flow) 0 nothing
 
-  pub refused-reading : {n q : ℕ} → all ≡ turned n q → reading tape (length samples) (length flow) ≡ turned n q
-  unfolding reading
-  refused-reading e = ap judged e
+  pub refused-parse : {n q : ℕ} → all ≡ turned n q → parse tape (length samples) (length flow) ≡ turned n q
+  unfolding parse
+  refused-parse e = ap judged e
 
   module _ (p : Progress) (e : all ≡ whole p) where
     abbrev first : ℕ
     first = firstBeyond (p .terms .weight) (p .flow)
 
-    pub beyond-reading : first < length (p .flow) → reading tape (length samples) (length flow) ≡ turned 8 first
-    unfolding reading
-    beyond-reading h = ap judged e ∙ ap (λ (v : Verdict). unless v (whole p)) (refused _ _ (lt-ltb _ _ h))
+    pub beyond-parse : first < length (p .flow) → parse tape (length samples) (length flow) ≡ turned 8 first
+    unfolding parse
+    beyond-parse h = ap judged e ∙ ap (λ (v : Verdict). unless v (whole p)) (refused _ _ (lt-ltb _ _ h))
 
-    pub whole-reading : length (p .flow) ≤ first → reading tape (length samples) (length flow) ≡ whole p
-    unfolding reading
-    whole-reading h = ap judged e ∙ ap (λ (v : Verdict). unless v (whole p)) (passed _ _ (le-ltb _ _ h) ∙ accepted)
+    pub whole-parse : length (p .flow) ≤ first → parse tape (length samples) (length flow) ≡ whole p
+    unfolding parse
+    whole-parse h = ap judged e ∙ ap (λ (v : Verdict). unless v (whole p)) (passed _ _ (le-ltb _ _ h) ∙ accepted)
 
   -- the answer and the buffers by the reading
-  module _ {r : Reading} (e : reading tape (length samples) (length flow) ≡ r) where
+  module _ {r : Parse} (e : parse tape (length samples) (length flow) ≡ r) where
     pub answer-by : readAnswer tape samples flow ≡ readOf r
     unfolding readAnswer
     answer-by = ap readOf e
 
     pub samples-by : readSamples tape samples flow ≡ samplesAfter r samples
     unfolding readSamples
-    samples-by = ap (λ (x : Reading). samplesAfter x samples) e
+    samples-by = ap (λ (x : Parse). samplesAfter x samples) e
 
     pub flow-by : readFlow tape samples flow ≡ flowAfter r flow
     unfolding readFlow
-    flow-by = ap (λ (x : Reading). flowAfter x flow) e
+    flow-by = ap (λ (x : Parse). flowAfter x flow) e
 
 -- ---- an answer with number 0 is an acceptance
 
 turned-number : (tape : List ℕ) (lent : Lent) (k o : ℕ) (p : Progress) {n q : ℕ} →
-    readFrom k tape (lent .samples) (lent .flow) o p ≡ turned n q → 0 < n
-unfolding readFrom
+    parseFrom k tape (lent .samples) (lent .flow) o p ≡ turned n q → 0 < n
+unfolding parseFrom
 turned-number tape lent zero o p {n} e = let z : _≡_ {A = ℕ} 13 n = cc in omega arith
 turned-number tape lent (suc k) o p {n} {q} e = go (turn tape lent k o p) e (λ o p. turned-number tape lent k o p)
   where
-    go : {s : Step} {r : Reading} → Turn tape lent k o p s r → r ≡ turned n q →
-        ((o : ℕ) (p : Progress) → readFrom k tape (lent .samples) (lent .flow) o p ≡ turned n q → 0 < n) → 0 < n
+    go : {s : Step} {r : Parse} → Turn tape lent k o p s r → r ≡ turned n q →
+        ((o : ℕ) (p : Progress) → parseFrom k tape (lent .samples) (lent .flow) o p ≡ turned n q → 0 < n) → 0 < n
     go (Turn.refuse m l h) w ih = let same : m ≡ n = cc in omega arith
     go (Turn.done h z) w ih = let z : _≡_ {A = ℕ} 0 1 = cc in absurd (omega arith)
     go (Turn.more h v z) w ih = ih _ _ w
@@ -82,12 +82,12 @@ unless-whole p Verdict.Accept e = (refl, cc)
 unless-whole p (Verdict.Refuse n o) e = (cc, cc)
 
 module _ (tape : List ℕ) (samples : List ℕ) (flow : List ℤ) where
-  pub passed-reading : (p : Progress) → reading tape (length samples) (length flow) ≡ whole p →
+  pub passed-parse : (p : Progress) → parse tape (length samples) (length flow) ≡ whole p →
       (all tape samples flow ≡ whole p) × (length (p .flow) ≤ firstBeyond (p .terms .weight) (p .flow))
-  unfolding reading
-  passed-reading p h = go (all tape samples flow) refl h
+  unfolding parse
+  passed-parse p h = go (all tape samples flow) refl h
     where
-      go : (r : Reading) → all tape samples flow ≡ r → judged r ≡ whole p →
+      go : (r : Parse) → all tape samples flow ≡ r → judged r ≡ whole p →
           (all tape samples flow ≡ whole p) × (length (p .flow) ≤ firstBeyond (p .terms .weight) (p .flow))
       go (turned n q) e k = let z : _≡_ {A = ℕ} 0 1 = cc in absurd (omega arith)
       go (whole o) e k =
@@ -95,9 +95,9 @@ module _ (tape : List ℕ) (samples : List ℕ) (flow : List ℤ) where
           let l : length (o .flow) ≤ firstBeyond (o .terms .weight) (o .flow) = ltb-false _ _ (accepted-row _ _ (c .0) .0) in
           (e ∙ ap whole (c .1), subst (λ (x : Progress). length (x .flow) ≤ firstBeyond (x .terms .weight) (x .flow)) (c .1) l)
 
-  pub accepted-reading : readAnswer tape samples flow .number ≡ 0 → (p : Progress) × (reading tape (length samples) (length flow) ≡ whole p)
-  unfolding readAnswer reading
-  accepted-reading h = go (all tape samples flow) refl h
+  pub accepted-parse : readAnswer tape samples flow .number ≡ 0 → (p : Progress) × (parse tape (length samples) (length flow) ≡ whole p)
+  unfolding readAnswer parse
+  accepted-parse h = go (all tape samples flow) refl h
     where
       decide : (o : Progress) (v : Verdict) → firstRefusal (flowRow (o .terms .weight) (o .flow) ∷ []) ≡ v → readOf (unless v (whole o)) .number ≡ 0 →
           (p : Progress) × (unless v (whole o) ≡ whole p)
@@ -105,7 +105,7 @@ module _ (tape : List ℕ) (samples : List ℕ) (flow : List ℤ) where
       decide o (Verdict.Refuse n q) e z =
           absurd (omega (arith, refused-number (flowRow (o .terms .weight) (o .flow) ∷ []) (omega arith) e))
 
-      go : (r : Reading) → all tape samples flow ≡ r → readOf (judged r) .number ≡ 0 → (p : Progress) × (judged r ≡ whole p)
+      go : (r : Parse) → all tape samples flow ≡ r → readOf (judged r) .number ≡ 0 → (p : Progress) × (judged r ≡ whole p)
       go (turned n q) e z =
           absurd (omega (arith, turned-number tape (record { samples = length samples; flow = length flow }) (suc (length tape)) 0 nothing e))
       go (whole o) e z = decide o _ refl z

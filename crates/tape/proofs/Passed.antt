@@ -11,7 +11,7 @@ use lib.IntN.{ℤ, natAbs}
 use lib.ListN.{length, getD}
 use Rattle.model.specs.Lists.{table, firstWhere, overwritten}
 use Rattle.model.specs.Calls.{pairsOf}
-use Rattle.model.specs.Tape.{Progress, turned, whole, reading, readAnswer, readSamples, readFlow}
+use Rattle.model.specs.Tape.{Progress, turned, whole, parse, readAnswer, readSamples, readFlow}
 use Rattle.tape.specs.declared.tally.Tally.{Tally}
 use Rattle.tape.specs.declared.scan.Scanned.{Scanned}
 use Rattle.tape.specs.declared.step.Lent.{Lent}
@@ -20,7 +20,7 @@ use Rattle.tape.specs.Scan.{scannedOf}
 use Rattle.tape.specs.Places.{numberAt}
 use Rattle.tape.proofs.Accepted.{Job, accepted-job}
 use Rattle.tape.proofs.Numbers.{job-length, codes-are, numbers-are, first-is}
-use Rattle.tape.proofs.Judged.{all, scanned-whole, beyond-reading, whole-reading, answer-by, samples-by, flow-by}
+use Rattle.tape.proofs.Judged.{all, scanned-whole, beyond-parse, whole-parse, answer-by, samples-by, flow-by}
 
 -- the codes and the numbers on the tape
 abbrev pub codeOn : List ℕ → ℕ → ℕ
@@ -53,13 +53,13 @@ module _ (tape : List ℕ) (byte : (i : ℕ) → getD tape i 0 < 256) (samples :
     pub room : (length tape ≡ 16 + 2 * t .samples + 5 * t .flows) × (t .samples ≤ length samples) × (t .flows ≤ length flow)
     room = by-job (λ u. (length tape ≡ 16 + 2 * u .samples + 5 * u .flows) × (u .samples ≤ length samples) × (u .flows ≤ length flow)) (λ p e j. room-of p j) h
 
-    pub beyond : firstOn tape t < t .flows → reading tape (length samples) (length flow) ≡ turned 8 (firstOn tape t)
-    beyond = by-job (λ u. firstOn tape u < u .flows → reading tape (length samples) (length flow) ≡ turned 8 (firstOn tape u)) far h
+    pub beyond : firstOn tape t < t .flows → parse tape (length samples) (length flow) ≡ turned 8 (firstOn tape t)
+    beyond = by-job (λ u. firstOn tape u < u .flows → parse tape (length samples) (length flow) ≡ turned 8 (firstOn tape u)) far h
       where
-        far : (p : Progress) → all tape samples flow ≡ whole p → Job tape lent byte p → firstOn tape (tallyOf p) < length (p .flow) → reading tape (length samples) (length flow) ≡ turned 8 (firstOn tape (tallyOf p))
+        far : (p : Progress) → all tape samples flow ≡ whole p → Job tape lent byte p → firstOn tape (tallyOf p) < length (p .flow) → parse tape (length samples) (length flow) ≡ turned 8 (firstOn tape (tallyOf p))
         far p e j l =
             let f = first-is tape lent byte p j (p .terms .weight) in
-            beyond-reading tape samples flow p e (subst (λ (n : ℕ). n < length (p .flow)) f l) ∙ ap (turned 8) (sym f)
+            beyond-parse tape samples flow p e (subst (λ (n : ℕ). n < length (p .flow)) f l) ∙ ap (turned 8) (sym f)
 
     -- what read gives and leaves where no number is beyond the weight
     abbrev Left : Tally → Type 0
@@ -73,7 +73,7 @@ module _ (tape : List ℕ) (byte : (i : ℕ) → getD tape i 0 < 256) (samples :
       where
         whole-job : (p : Progress) → all tape samples flow ≡ whole p → Job tape lent byte p → length (p .flow) ≤ firstOn tape (tallyOf p) → Left (tallyOf p)
         whole-job p e j l =
-            let r = whole-reading tape samples flow p e (subst (λ (n : ℕ). length (p .flow) ≤ n) (first-is tape lent byte p j (p .terms .weight)) l) in (
+            let r = whole-parse tape samples flow p e (subst (λ (n : ℕ). length (p .flow) ≤ n) (first-is tape lent byte p j (p .terms .weight)) l) in (
               answer-by tape samples flow r,
               samples-by tape samples flow r ∙ ap (λ (new : List ℕ). overwritten new samples) (sym (codes-are tape lent byte p j)),
               flow-by tape samples flow r ∙ ap (λ (new : List ℤ). overwritten new flow) (sym (numbers-are tape lent byte p j)),

@@ -7,7 +7,7 @@ use native.Mathlib.Omega.{arith}
 use lib.ListN.{length, length-append}
 use Rattle.model.specs.declared.Entry.{Entry}
 use Rattle.model.specs.declared.Entry.the-variants.{End, Size, WeightBox, RoundLimits, Sample, Flow}
-use Rattle.model.specs.Tape.{Progress, nothing, allowed, absorbed, Reading, readFrom}
+use Rattle.model.specs.Tape.{Progress, nothing, allowed, absorbed, Parse, parseFrom}
 use Rattle.tape.specs.declared.tally.Tally.{Tally}
 use Rattle.tape.specs.declared.record.Cursor.{Cursor}
 use Rattle.tape.specs.declared.step.Lent.{Lent}
@@ -28,8 +28,8 @@ absorbed-count p (Sample s) = omega (arith, length-append (p .samples) (s ∷ []
 absorbed-count p (Flow f) = omega (arith, length-append (p .flow) (f ∷ []))
 
 module _ (tape : List ℕ) (lent : Lent) where
-  abbrev pub wholeReading : Reading
-  wholeReading = readFrom (suc (length tape)) tape (lent .samples) (lent .flow) 0 nothing
+  abbrev pub wholeParse : Parse
+  wholeParse = parseFrom (suc (length tape)) tape (lent .samples) (lent .flow) 0 nothing
 
   pub record Reached (t : Tally) (o : ℕ) : Type 0 where
     pub progress : Progress
@@ -38,7 +38,7 @@ module _ (tape : List ℕ) (lent : Lent) where
     pub inside : o ≤ length tape
     pub counts : length (progress .samples) + length (progress .flow) ≤ o
     pub enough : length tape < o + suc fuel
-    pub rest : wholeReading ≡ readFrom (suc fuel) tape (lent .samples) (lent .flow) o progress
+    pub rest : wholeParse ≡ parseFrom (suc fuel) tape (lent .samples) (lent .flow) o progress
 
   pub start : Reached (tallyOf nothing) 0
   start =
@@ -60,30 +60,30 @@ module _ (tape : List ℕ) (lent : Lent) where
       omega (arith, ap (λ (u : Tally). u .flows) (r .counted), r .counts, r .inside),
     )
 
-    at-step : {s : Step} → s ≡ stepOf tape o t lent → Turn tape lent (r .fuel) o (r .progress) s wholeReading
+    at-step : {s : Step} → s ≡ stepOf tape o t lent → Turn tape lent (r .fuel) o (r .progress) s wholeParse
     at-step {s} e =
         subst₂ (Turn tape lent (r .fuel) o (r .progress))
         (ap (λ (u : Tally). stepOf tape o u lent) (sym (r .counted)) ∙ sym e) (sym (r .rest))
         (turn tape lent (r .fuel) o (r .progress))
 
-    pub refused : {number place : ℕ} → Step.Refused number place ≡ stepOf tape o t lent → Scanned.Refused number place ≡ scannedOf wholeReading
+    pub refused : {number place : ℕ} → Step.Refused number place ≡ stepOf tape o t lent → Scanned.Refused number place ≡ scannedOf wholeParse
     refused {number} {place} e = go (at-step e) refl
       where
-        go : {s : Step} {all : Reading} → Turn tape lent (r .fuel) o (r .progress) s all → s ≡ Step.Refused number place → Scanned.Refused number place ≡ scannedOf all
+        go : {s : Step} {all : Parse} → Turn tape lent (r .fuel) o (r .progress) s all → s ≡ Step.Refused number place → Scanned.Refused number place ≡ scannedOf all
         go (Turn.refuse n q _) h = cc
         go (Turn.done a z) h = cc
         go (Turn.more a v z) h = cc
 
-    pub finished : Step.Done ≡ stepOf tape o t lent → Scanned.Whole t ≡ scannedOf wholeReading
+    pub finished : Step.Done ≡ stepOf tape o t lent → Scanned.Whole t ≡ scannedOf wholeParse
     finished e = go (at-step e) refl
       where
-        go : {s : Step} {all : Reading} → Turn tape lent (r .fuel) o (r .progress) s all → s ≡ Step.Done → Scanned.Whole t ≡ scannedOf all
+        go : {s : Step} {all : Parse} → Turn tape lent (r .fuel) o (r .progress) s all → s ≡ Step.Done → Scanned.Whole t ≡ scannedOf all
         go (Turn.refuse n q _) h = cc
         go (Turn.done a z) h = ap Scanned.Whole (r .counted)
         go (Turn.more a v z) h = cc
 
     reached : {u : Tally} → Passed tape o (allowed (r .progress)) → u ≡ tallyOf (absorbed (r .progress) (entryAt tape o)) →
-        readFrom (r .fuel) tape (lent .samples) (lent .flow) (nextAt tape o) (absorbed (r .progress) (entryAt tape o)) ≡ wholeReading →
+        parseFrom (r .fuel) tape (lent .samples) (lent .flow) (nextAt tape o) (absorbed (r .progress) (entryAt tape o)) ≡ wholeParse →
         Reached u (nextAt tape o)
     reached a e w =
         let more : r .fuel ≡ suc (r .fuel - 1) = omega (arith, a .fits, r .enough) in
@@ -94,13 +94,13 @@ module _ (tape : List ℕ) (lent : Lent) where
           inside = a .fits;
           counts = omega (arith, absorbed-count (r .progress) (entryAt tape o), r .counts);
           enough = omega (arith, r .enough);
-          rest = sym w ∙ ap (λ (n : ℕ). readFrom n tape (lent .samples) (lent .flow) (nextAt tape o) (absorbed (r .progress) (entryAt tape o))) more;
+          rest = sym w ∙ ap (λ (n : ℕ). parseFrom n tape (lent .samples) (lent .flow) (nextAt tape o) (absorbed (r .progress) (entryAt tape o))) more;
         }
 
     pub onward : {u : Tally} {next : Cursor} → Step.More u next ≡ stepOf tape o t lent → Reached u (next .at) × (o < next .at)
     onward {u} {next} e = go (at-step e) refl refl
       where
-        go : {s : Step} {all : Reading} → Turn tape lent (r .fuel) o (r .progress) s all → s ≡ Step.More u next → all ≡ wholeReading → Reached u (next .at) × (o < next .at)
+        go : {s : Step} {all : Parse} → Turn tape lent (r .fuel) o (r .progress) s all → s ≡ Step.More u next → all ≡ wholeParse → Reached u (next .at) × (o < next .at)
         go (Turn.refuse n q _) h w = let z : _≡_ {A = ℕ} 0 1 = cc in absurd (omega arith)
         go (Turn.done a z) h w = let z : _≡_ {A = ℕ} 0 1 = cc in absurd (omega arith)
         go (Turn.more a v z) h w =

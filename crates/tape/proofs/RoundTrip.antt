@@ -20,7 +20,7 @@ use Rattle.model.specs.Lists.{at, overwritten}
 use Rattle.model.specs.Grid.{weightAllowed}
 use Rattle.model.specs.Verdict.{firstRefusal}
 use Rattle.model.specs.Calls.{pixelsOf, pairsOf, firstBeyond}
-use Rattle.model.specs.Tape.{Progress, nothing, allowedAfter, Reading, whole, readFrom, ReadAnswer, readAnswer, readSamples, readFlow, tapeOf, writeRows, WriteAnswer, writeAnswer, writeOutput}
+use Rattle.model.specs.Tape.{Progress, nothing, allowedAfter, Parse, whole, parseFrom, ReadAnswer, readAnswer, readSamples, readFlow, tapeOf, writeRows, WriteAnswer, writeAnswer, writeOutput}
 use Rattle.model.proofs.Lists.{firstWhere-first}
 use Rattle.model.proofs.Refusals.{accepted, passed}
 use Rattle.terms.proofs.Size.{allowed-size}
@@ -28,7 +28,7 @@ use Rattle.tape.specs.declared.step.Lent.{Lent}
 use Rattle.tape.proofs.Offsets.{tape-length, sample-here, flow-here, end-here, header-here}
 use Rattle.tape.proofs.WriteRows.{Writable, accepted-write, accepted-answer, written-answer, written-output}
 use Rattle.tape.proofs.Accepted.{Job, accepted-job}
-use Rattle.tape.proofs.Judged.{accepted-reading, passed-reading, whole-reading, answer-by, samples-by, flow-by}
+use Rattle.tape.proofs.Judged.{accepted-parse, passed-parse, whole-parse, answer-by, samples-by, flow-by}
 use Rattle.tape.proofs.Walk.{walk-on, walk-end}
 
 -- the flow's length is 0, or one number a pair
@@ -55,8 +55,8 @@ module _ (t : Terms) (r : Rounds) (s : List ℕ) (f : List ℤ) (room : ℕ) (w 
   abbrev after : List ℕ → List ℤ → Progress
   after read numbers = record { header = 3; terms = t; rounds = r; samples = read; flow = numbers }
 
-  abbrev from : ℕ → ℕ → Progress → Reading
-  from k o p = readFrom k tape (lent .samples) (lent .flow) o p
+  abbrev from : ℕ → ℕ → Progress → Parse
+  from k o p = parseFrom k tape (lent .samples) (lent .flow) o p
 
   header-read : (k : ℕ) → from (suc (suc (suc k))) 0 nothing ≡ from k 15 (after [] [])
   unfolding allowedAfter weightAllowed
@@ -134,7 +134,7 @@ module _ (t : Terms) (r : Rounds) (s : List ℕ) (f : List ℤ) (room : ℕ) (w 
           (λ (g : length f ≡ pairsOf t). ap (λ (b : Bool). eqb (length f) 0 || b) (eq-eqb (length f) (pairsOf t) g) ∙ or-true (eqb (length f) 0))
           (either (w .flowFits))
 
-  pub reads-back : readFrom (suc (length tape)) tape (lent .samples) (lent .flow) 0 nothing ≡ whole (after s f)
+  pub reads-back : parseFrom (suc (length tape)) tape (lent .samples) (lent .flow) 0 nothing ≡ whole (after s f)
   reads-back =
       let spare : ℕ = 13 + length s + 4 * length f in
       let fuel : suc (length tape) ≡ suc (suc (suc (length s + (length f + suc spare)))) = omega (arith, tape-length t r s f) in
@@ -163,7 +163,7 @@ written-reads-back t r s f output small answer samples flow long broad =
     sym (ap₂ take count (written-output t r s f output v) ∙ take-append-seam (tapeOf t r s f) (drop (length (tapeOf t r s f)) output)) in
     let lent : Lent = record { samples = length samples; flow = length flow } in
     let p : Progress = record { header = 3; terms = t; rounds = r; samples = s; flow = f } in
-    let read = whole-reading (tapeOf t r s f) samples flow p (reads-back t r s f (length output) w small lent (long, broad)) (w .within) in
+    let read = whole-parse (tapeOf t r s f) samples flow p (reads-back t r s f (length output) w small lent (long, broad)) (w .within) in
     subst
     (λ (tape : List ℕ).
     (readAnswer tape samples flow ≡ record { number = 0; place = 0; terms = t; rounds = r; flowed = not (eqb (length f) 0) })
@@ -234,8 +234,8 @@ pub read-writes-back : (tape : List ℕ) → ((i : ℕ) → getD tape i 0 < 256)
     (writeAnswer (a .terms) (a .rounds) s f output ≡ record { number = 0; place = 0; count = length tape })
     × (writeOutput (a .terms) (a .rounds) s f output ≡ overwritten tape output)
 read-writes-back tape byte samples flow number output l =
-    let (p, e) = accepted-reading tape samples flow number in
-    let (all-read, within) = passed-reading tape samples flow p e in
+    let (p, e) = accepted-parse tape samples flow number in
+    let (all-read, within) = passed-parse tape samples flow p e in
     let lent : Lent = record { samples = length samples; flow = length flow } in
     let j : Job tape lent byte p = accepted-job tape lent byte p all-read in
     let answer = answer-by tape samples flow e in

@@ -16,7 +16,7 @@ use Rattle.tape.specs.declared.tally.Tally.{Tally}
 use Rattle.tape.specs.declared.step.Lent.{Lent}
 use Rattle.tape.specs.declared.step.Step.{Step}
 use Rattle.tape.specs.Record.{formOf, bodyRows}
-use Rattle.tape.specs.Step.{moved, settled}
+use Rattle.tape.specs.Step.{continued, judgedEntry}
 
 -- what a form says of its kind
 pub form-unknown : (kind : ℕ) (ok : Bool) → formOf kind ok ≡ Form.Unknown → known kind ≡ false
@@ -53,6 +53,6 @@ module _ (tape : List ℕ) (o : ℕ) (may : ℕ → Bool) where
     known-kind k = passed _ _ (lt-leb (length tape) o h) ∙ passed _ _ (ap not k)
 
 -- what the verdict on a record's terms gives
-pub settles : (t : Tally) (e : Entry) (next : Cursor) (o : ℕ) (lent : Lent) {v : Verdict} →
-    firstRefusal (entryRows o (lent .samples) (lent .flow) e) ≡ v → decided v (moved t e next) Step.Refused ≡ settled t e next o lent
-settles t e next o lent h = ap (λ (v : Verdict). decided v (moved t e next) Step.Refused) (sym h)
+pub judged-entry : (t : Tally) (e : Entry) (next : Cursor) (o : ℕ) (lent : Lent) {v : Verdict} →
+    firstRefusal (entryRows o (lent .samples) (lent .flow) e) ≡ v → decided v (continued t e next) Step.Refused ≡ judgedEntry t e next o lent
+judged-entry t e next o lent h = ap (λ (v : Verdict). decided v (continued t e next) Step.Refused) (sym h)

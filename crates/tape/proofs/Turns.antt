@@ -11,7 +11,7 @@ use Rattle.model.specs.declared.Verdict.{Verdict}
 use Rattle.model.specs.declared.Entry.{Entry}
 use Rattle.model.specs.declared.Entry.the-variants.{End, Size, WeightBox, RoundLimits, Sample, Flow}
 use Rattle.model.specs.Verdict.{firstRefusal, decided}
-use Rattle.model.specs.Tape.{known, bodyLength, decoded, Progress, allowed, absorbed, recordRows, entryRows, Reading, turned, whole, readFrom}
+use Rattle.model.specs.Tape.{known, bodyLength, decoded, Progress, allowed, absorbed, recordRows, entryRows, Parse, turned, whole, parseFrom}
 use Rattle.model.proofs.Refusals.{accepted-row, firstRefusal-append, Numbered, refused-number}
 use Rattle.tape.specs.declared.tally.Tally.{Tally}
 use Rattle.tape.specs.declared.record.Cursor.{Cursor}
@@ -20,7 +20,7 @@ use Rattle.tape.specs.declared.step.Lent.{Lent}
 use Rattle.tape.specs.declared.step.Step.{Step}
 use Rattle.tape.specs.Tally.{tallyOf}
 use Rattle.tape.specs.Record.{recordAt, gotAt}
-use Rattle.tape.specs.Step.{tallied, moved, taken, stepOf}
+use Rattle.tape.specs.Step.{tallied, continued, taken, stepOf}
 
 -- the record at offset o, and where the next begins
 abbrev pub entryAt : List ℕ → ℕ → Entry
@@ -66,15 +66,15 @@ tallied-absorbed p (Sample s) = rw (length-append (p .samples) (s ∷ []))
 tallied-absorbed p (Flow f) = rw (length-append (p .flow) (f ∷ []))
 
 -- only the end ends
-moved-kind : (t : Tally) (next : Cursor) (kind : ℕ) (b : ℕ → ℕ) → known kind ≡ true →
-    moved t (decoded kind b) next ≡ cond (eqb kind 0) Step.Done (Step.More (tallied t (decoded kind b)) next)
-moved-kind t next zero b h = refl
-moved-kind t next (suc zero) b h = refl
-moved-kind t next (suc (suc zero)) b h = refl
-moved-kind t next (suc (suc (suc zero))) b h = refl
-moved-kind t next (suc (suc (suc (suc zero)))) b h = refl
-moved-kind t next (suc (suc (suc (suc (suc zero))))) b h = refl
-moved-kind t next (suc (suc (suc (suc (suc (suc k)))))) b h = absurd (omega (arith, ltb-true (suc (suc (suc (suc (suc (suc k)))))) 6 h))
+continued-kind : (t : Tally) (next : Cursor) (kind : ℕ) (b : ℕ → ℕ) → known kind ≡ true →
+    continued t (decoded kind b) next ≡ cond (eqb kind 0) Step.Done (Step.More (tallied t (decoded kind b)) next)
+continued-kind t next zero b h = refl
+continued-kind t next (suc zero) b h = refl
+continued-kind t next (suc (suc zero)) b h = refl
+continued-kind t next (suc (suc (suc zero))) b h = refl
+continued-kind t next (suc (suc (suc (suc zero)))) b h = refl
+continued-kind t next (suc (suc (suc (suc (suc zero))))) b h = refl
+continued-kind t next (suc (suc (suc (suc (suc (suc k)))))) b h = absurd (omega (arith, ltb-true (suc (suc (suc (suc (suc (suc k)))))) 6 h))
 
 -- no row has the number 0
 record-numbered : (tape : List ℕ) (o : ℕ) (may : ℕ → Bool) → Numbered (recordRows tape o may)
@@ -95,24 +95,24 @@ termsVerdict tape lent o = firstRefusal (entryRows o (lent .samples) (lent .flow
 
 module _ (tape : List ℕ) (lent : Lent) (k o : ℕ) (p : Progress) where
   -- the step, and what is still to be read after it
-  pub data Turn : Step → Reading → Type 0 where
+  pub data Turn : Step → Parse → Type 0 where
     refuse : (number place : ℕ) → 0 < number → Turn (Step.Refused number place) (turned number place)
     done : Passed tape o (allowed p) → getD tape o 0 ≡ 0 → Turn Step.Done (whole p)
     more : Passed tape o (allowed p) → termsVerdict tape lent o ≡ Verdict.Accept →
         ¬ (getD tape o 0 ≡ 0) →
         Turn (Step.More (tallyOf (absorbed p (entryAt tape o))) (record { at = nextAt tape o }))
-        (readFrom k tape (lent .samples) (lent .flow) (nextAt tape o) (absorbed p (entryAt tape o)))
+        (parseFrom k tape (lent .samples) (lent .flow) (nextAt tape o) (absorbed p (entryAt tape o)))
 
-  after : Bool → Reading
+  after : Bool → Parse
   after true = whole p
-  after false = readFrom k tape (lent .samples) (lent .flow) (nextAt tape o) (absorbed p (entryAt tape o))
+  after false = parseFrom k tape (lent .samples) (lent .flow) (nextAt tape o) (absorbed p (entryAt tape o))
 
-  upon : Verdict → Reading
+  upon : Verdict → Parse
   upon Verdict.Accept = after (eqb (getD tape o 0) 0)
   upon (Verdict.Refuse number place) = turned number place
 
-  unrolled : upon (decided (firstRefusal (recordRows tape o (allowed p))) (termsVerdict tape lent o) Verdict.Refuse) ≡ readFrom (suc k) tape (lent .samples) (lent .flow) o p
-  unfolding readFrom after upon
+  unrolled : upon (decided (firstRefusal (recordRows tape o (allowed p))) (termsVerdict tape lent o) Verdict.Refuse) ≡ parseFrom (suc k) tape (lent .samples) (lent .flow) o p
+  unfolding parseFrom after upon
   unrolled = ap upon (sym (firstRefusal-append (recordRows tape o (allowed p)) (entryRows o (lent .samples) (lent .flow) (entryAt tape o))))
 
   ends : (z : Bool) → eqb (getD tape o 0) 0 ≡ z → Passed tape o (allowed p) → termsVerdict tape lent o ≡ Verdict.Accept →
@@ -124,12 +124,12 @@ module _ (tape : List ℕ) (lent : Lent) (k o : ℕ) (p : Progress) where
       (sym (tallied-absorbed p (entryAt tape o))) (more h v (eqb-false _ _ e))
 
   judged : (v : Verdict) → termsVerdict tape lent o ≡ v → Passed tape o (allowed p) →
-      Turn (decided v (moved (tallyOf p) (entryAt tape o) (record { at = nextAt tape o })) Step.Refused) (upon v)
+      Turn (decided v (continued (tallyOf p) (entryAt tape o) (record { at = nextAt tape o })) Step.Refused) (upon v)
   unfolding upon
   judged (Verdict.Refuse number place) e h = refuse number place (refused-number _ (entry-numbered o (lent .samples) (lent .flow) (entryAt tape o)) e)
   judged Verdict.Accept e h =
       subst (λ (s : Step). Turn s (after (eqb (getD tape o 0) 0)))
-      (sym (moved-kind (tallyOf p) (record { at = nextAt tape o }) (getD tape o 0) (λ i. getD tape (o + 1 + i) 0) (h .isKnown)))
+      (sym (continued-kind (tallyOf p) (record { at = nextAt tape o }) (getD tape o 0) (λ i. getD tape (o + 1 + i) 0) (h .isKnown)))
       (ends (eqb (getD tape o 0) 0) refl h e)
 
   read-one : (v : Verdict) → firstRefusal (recordRows tape o (allowed p)) ≡ v →
@@ -138,7 +138,7 @@ module _ (tape : List ℕ) (lent : Lent) (k o : ℕ) (p : Progress) where
   read-one (Verdict.Refuse number place) e = refuse number place (refused-number _ (record-numbered tape o (allowed p)) e)
   read-one Verdict.Accept e = judged (termsVerdict tape lent o) refl (passed-record tape o (allowed p) e)
 
-  pub turn : Turn (stepOf tape o (tallyOf p) lent) (readFrom (suc k) tape (lent .samples) (lent .flow) o p)
+  pub turn : Turn (stepOf tape o (tallyOf p) lent) (parseFrom (suc k) tape (lent .samples) (lent .flow) o p)
   unfolding stepOf gotAt
   turn =
       subst (Turn (taken (gotAt tape o (tallyOf p)) o (tallyOf p) lent)) unrolled
@@ -147,8 +147,8 @@ module _ (tape : List ℕ) (lent : Lent) (k o : ℕ) (p : Progress) where
   -- reading goes on over a record that its rows and the rows of its terms accept, and ends at the end
   pub unrolled-on : firstRefusal (recordRows tape o (allowed p)) ≡ Verdict.Accept → termsVerdict tape lent o ≡ Verdict.Accept →
       ¬ (getD tape o 0 ≡ 0) →
-      readFrom (suc k) tape (lent .samples) (lent .flow) o p
-      ≡ readFrom k tape (lent .samples) (lent .flow) (nextAt tape o) (absorbed p (entryAt tape o))
+      parseFrom (suc k) tape (lent .samples) (lent .flow) o p
+      ≡ parseFrom k tape (lent .samples) (lent .flow) (nextAt tape o) (absorbed p (entryAt tape o))
   unfolding after upon
   unrolled-on a b z =
       sym unrolled
@@ -156,7 +156,7 @@ module _ (tape : List ℕ) (lent : Lent) (k o : ℕ) (p : Progress) where
       ∙ ap after (ne-eqb (getD tape o 0) 0 z)
 
   pub unrolled-end : firstRefusal (recordRows tape o (allowed p)) ≡ Verdict.Accept → termsVerdict tape lent o ≡ Verdict.Accept →
-      getD tape o 0 ≡ 0 → readFrom (suc k) tape (lent .samples) (lent .flow) o p ≡ whole p
+      getD tape o 0 ≡ 0 → parseFrom (suc k) tape (lent .samples) (lent .flow) o p ≡ whole p
   unfolding after upon
   unrolled-end a b z =
       sym unrolled

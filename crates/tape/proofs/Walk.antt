@@ -11,7 +11,7 @@ use Rattle.model.specs.declared.Verdict.{Verdict}
 use Rattle.model.specs.declared.Entry.{Entry}
 use Rattle.model.specs.declared.Entry.the-variants.{End, Size, WeightBox, RoundLimits, Sample, Flow}
 use Rattle.model.specs.Verdict.{firstRefusal}
-use Rattle.model.specs.Tape.{known, bodyLength, encoded, Progress, allowed, absorbed, recordRows, entryRows, whole, readFrom}
+use Rattle.model.specs.Tape.{known, bodyLength, encoded, Progress, allowed, absorbed, recordRows, entryRows, whole, parseFrom}
 use Rattle.model.proofs.Refusals.{accepted, passed}
 use Rattle.tape.specs.declared.step.Lent.{Lent}
 use Rattle.tape.proofs.Turns.{nextAt, termsVerdict, Passed, unrolled-on, unrolled-end}
@@ -82,11 +82,11 @@ module _ (tape : List ℕ) (lent : Lent) (k o : ℕ) (p : Progress) (e : Entry) 
         ap (λ (x : Entry). firstRefusal (entryRows o (lent .samples) (lent .flow) x)) (entry-here tape o e rest here r) ∙ v
 
     pub walk-on : ¬ (kindOf e ≡ 0) →
-        readFrom (suc k) tape (lent .samples) (lent .flow) o p
-        ≡ readFrom k tape (lent .samples) (lent .flow) (o + length (encoded e)) (absorbed p e)
+        parseFrom (suc k) tape (lent .samples) (lent .flow) o p
+        ≡ parseFrom k tape (lent .samples) (lent .flow) (o + length (encoded e)) (absorbed p e)
     walk-on z =
         unrolled-on tape lent k o p (record-passes tape o (allowed p) (passes (λ y. absurd (z y)))) judged (λ y. z (sym kind ∙ y))
-        ∙ ap₂ (λ (n : ℕ) (x : Entry). readFrom k tape (lent .samples) (lent .flow) n (absorbed p x)) next (entry-here tape o e rest here r)
+        ∙ ap₂ (λ (n : ℕ) (x : Entry). parseFrom k tape (lent .samples) (lent .flow) n (absorbed p x)) next (entry-here tape o e rest here r)
 
-    pub walk-end : kindOf e ≡ 0 → length rest ≡ 0 → readFrom (suc k) tape (lent .samples) (lent .flow) o p ≡ whole p
+    pub walk-end : kindOf e ≡ 0 → length rest ≡ 0 → parseFrom (suc k) tape (lent .samples) (lent .flow) o p ≡ whole p
     walk-end z l = unrolled-end tape lent k o p (record-passes tape o (allowed p) (passes (λ _. l))) judged (kind ∙ z)

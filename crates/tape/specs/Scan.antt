@@ -1,9 +1,9 @@
 -- A scan of the whole tape.
-use Rattle.model.specs.Tape.{Reading, turned, whole}
+use Rattle.model.specs.Tape.{Parse, turned, whole}
 use Rattle.tape.specs.declared.scan.Scanned.{Scanned}
 use Rattle.tape.specs.Tally.{tallyOf}
 
--- a reading, as the code counts it
-abbrev pub scannedOf : Reading → Scanned
+-- what a parse gives, as the code counts it
+abbrev pub scannedOf : Parse → Scanned
 scannedOf (turned number place) = Scanned.Refused number place
 scannedOf (whole p) = Scanned.Whole (tallyOf p)

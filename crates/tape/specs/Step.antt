@@ -68,21 +68,21 @@ tallied t (Flow f) =
     }
 
 -- the end ends the job; after any other record there is another
-abbrev pub moved : Tally → Entry → Cursor → Step
-moved t End next = Step.Done
-moved t (Size w h) next = Step.More (tallied t (Size w h)) next
-moved t (WeightBox weight low high) next = Step.More (tallied t (WeightBox weight low high)) next
-moved t (RoundLimits q a) next = Step.More (tallied t (RoundLimits q a)) next
-moved t (Sample s) next = Step.More (tallied t (Sample s)) next
-moved t (Flow f) next = Step.More (tallied t (Flow f)) next
+abbrev pub continued : Tally → Entry → Cursor → Step
+continued t End next = Step.Done
+continued t (Size w h) next = Step.More (tallied t (Size w h)) next
+continued t (WeightBox weight low high) next = Step.More (tallied t (WeightBox weight low high)) next
+continued t (RoundLimits q a) next = Step.More (tallied t (RoundLimits q a)) next
+continued t (Sample s) next = Step.More (tallied t (Sample s)) next
+continued t (Flow f) next = Step.More (tallied t (Flow f)) next
 
 -- the record's terms judged, at offset o
-abbrev pub settled : Tally → Entry → Cursor → ℕ → Lent → Step
-settled t e next o lent = decided (firstRefusal (entryRows o (lent .samples) (lent .flow) e)) (moved t e next) Step.Refused
+abbrev pub judgedEntry : Tally → Entry → Cursor → ℕ → Lent → Step
+judgedEntry t e next o lent = decided (firstRefusal (entryRows o (lent .samples) (lent .flow) e)) (continued t e next) Step.Refused
 
 abbrev pub taken : Got → ℕ → Tally → Lent → Step
 taken (Got.Refused number place) o t lent = Step.Refused number place
-taken (Got.Record e next) o t lent = settled t e next o lent
+taken (Got.Record e next) o t lent = judgedEntry t e next o lent
 
 -- the record at offset o
 unfoldable pub stepOf : List ℕ → ℕ → Tally → Lent → Step

@@ -12,7 +12,7 @@ use model::Terms;
 ghost use mathlib.Core.Path.{_≡_};
 ghost use Prim.Native.Nat.{suc};
 ghost use lib.ListN.{length};
-ghost use Rattle.model.specs.Tape.{readFrom, nothing, readAnswer, readSamples, readFlow};
+ghost use Rattle.model.specs.Tape.{parseFrom, nothing, readAnswer, readSamples, readFlow};
 ghost use Rattle.tape.specs.declared.scan.Scanned.{Scanned};
 ghost use Rattle.tape.specs.Scan.{scannedOf};
 ghost use Rattle.tape.specs.Answers.{readAnswerOf};
@@ -32,7 +32,7 @@ pub enum ReadResult {
 
 // The numbers of a tape that has passed: 8 is judged, and the buffers are filled.
 fn take_numbers(tape: &[u8], t: Tally, samples: &mut [u8], flow: &mut [i32]) -> ReadResult
-    requires { ⌜ scannedOf (readFrom (suc (length (now tape))) (now tape) (length (now samples)) (length (now flow)) 0 nothing) ≡ Scanned.Whole t ⌝ }
+    requires { ⌜ scannedOf (parseFrom (suc (length (now tape))) (now tape) (length (now samples)) (length (now flow)) 0 nothing) ≡ Scanned.Whole t ⌝ }
     ensures { λ r. ⌜ readAnswerOf r ≡ readAnswer (now (tape .entry)) (now (samples .entry)) (now (flow .entry)) ⌝ }
     ensures { λ _. ⌜ now (samples .exit) ≡ readSamples (now (tape .entry)) (now (samples .entry)) (now (flow .entry)) ⌝ }
     ensures { λ _. ⌜ now (flow .exit) ≡ readFlow (now (tape .entry)) (now (samples .entry)) (now (flow .entry)) ⌝ }

@@ -8,7 +8,7 @@ use crate::tally::fresh;
 ghost use mathlib.Core.Path.{_≡_};
 ghost use Prim.Native.Nat.{suc};
 ghost use lib.ListN.{length};
-ghost use Rattle.model.specs.Tape.{readFrom, nothing};
+ghost use Rattle.model.specs.Tape.{parseFrom, nothing};
 ghost use Rattle.tape.specs.Scan.{scannedOf};
 
 // What a scan gives: the first refusal, or the counts and the terms of the whole job.
@@ -18,7 +18,7 @@ pub enum Scanned {
 }
 
 pub fn scan_tape(tape: &[u8], lent: Lent) -> Scanned
-    ensures { λ r. ⌜ r ≡ scannedOf (readFrom (suc (length (now (tape .entry)))) (now (tape .entry)) (lent .samples) (lent .flow) 0 nothing) ⌝ }
+    ensures { λ r. ⌜ r ≡ scannedOf (parseFrom (suc (length (now (tape .entry)))) (now (tape .entry)) (lent .samples) (lent .flow) 0 nothing) ⌝ }
 {
     let mut t = fresh();
     let mut at = 0;

@@ -16,7 +16,7 @@ use terms::weight_allowed;
 ghost use mathlib.Core.Path.{_≡_};
 ghost use Prim.Native.Nat.{_<_, _^_};
 ghost use Rattle.model.specs.declared.Entry.{Entry};
-ghost use Rattle.tape.specs.Step.{settled, stepOf};
+ghost use Rattle.tape.specs.Step.{judgedEntry, stepOf};
 
 // The lengths of the buffers that the caller lends.
 pub struct Lent {
@@ -34,7 +34,7 @@ pub enum Step {
 
 // 1 size, at the record; 16 right after it, for all samples and all pairs.
 fn take_size(t: Tally, width: u32, height: u32, next: Cursor, at: usize, lent: Lent) -> Step
-    ensures { λ r. ⌜ r ≡ settled t (Entry.Size width height) next at lent ⌝ }
+    ensures { λ r. ⌜ r ≡ judgedEntry t (Entry.Size width height) next at lent ⌝ }
 {
     if !size_allowed(width, height) {
         return Step::Refused(1, at);
@@ -70,7 +70,7 @@ fn take_weight(
     at: usize,
     lent: Lent,
 ) -> Step
-    ensures { λ r. ⌜ r ≡ settled t (Entry.WeightBox weight low high) next at lent ⌝ }
+    ensures { λ r. ⌜ r ≡ judgedEntry t (Entry.WeightBox weight low high) next at lent ⌝ }
 {
     if !weight_allowed(weight) {
         return Step::Refused(2, at);
@@ -94,7 +94,7 @@ fn take_weight(
 
 // 10 quick rounds over 4,096.
 fn take_rounds(t: Tally, quick: u32, allowance: u16, next: Cursor, at: usize, lent: Lent) -> Step
-    ensures { λ r. ⌜ r ≡ settled t (Entry.RoundLimits quick allowance) next at lent ⌝ }
+    ensures { λ r. ⌜ r ≡ judgedEntry t (Entry.RoundLimits quick allowance) next at lent ⌝ }
 {
     if !quick_allowed(quick) {
         return Step::Refused(10, at);
@@ -109,7 +109,7 @@ fn take_rounds(t: Tally, quick: u32, allowance: u16, next: Cursor, at: usize, le
 // A record that has been read.
 fn take(t: Tally, entry: Entry, next: Cursor, at: usize, lent: Lent) -> Step
     requires { ⌜ (t .samples < 2 ^ 63) × (t .flows < 2 ^ 63) ⌝ }
-    ensures { λ r. ⌜ r ≡ settled t entry next at lent ⌝ }
+    ensures { λ r. ⌜ r ≡ judgedEntry t entry next at lent ⌝ }
 {
     let mut now = t;
     match entry {

@@ -1,6 +1,6 @@
 -- `tape::reading::read` meets its contract. Assumes nothing.
 use mathlib.Core.Path.{sym, _∙_}
-use Rattle.tape.proofs.Judged.{scanned-refused, refused-reading, answer-by, samples-by, flow-by}
+use Rattle.tape.proofs.Judged.{scanned-refused, refused-parse, answer-by, samples-by, flow-by}
 use borrow.Author.Needs.{needs}
 use Rattle.tape.proofs.reading.read.Statement.{statement}
 use Rattle.tape.proofs.reading.read.Tie as tie
@@ -21,7 +21,7 @@ take-numbers-requires c κs =
 returns : tie.Need-returns
 returns c =
     let a = c .before .before .before .before .before .before .args in
-    let r = refused-reading (a .tape .now) (a .samples .now) (a .flow .now) (scanned-refused _ (sym (c .before .before .before .scan-tape .ensures) ∙ c .before .scanned .given .1)) in (
+    let r = refused-parse (a .tape .now) (a .samples .now) (a .flow .now) (scanned-refused _ (sym (c .before .before .before .scan-tape .ensures) ∙ c .before .scanned .given .1)) in (
       sym (answer-by (a .tape .now) (a .samples .now) (a .flow .now) r),
       (sym (samples-by (a .tape .now) (a .samples .now) (a .flow .now) r), sym (flow-by (a .tape .now) (a .samples .now) (a .flow .now) r)),
     )

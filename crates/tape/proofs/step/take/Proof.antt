@@ -3,8 +3,8 @@ use mathlib.Core.Path.{_≡_, sym, ap, _∙_}
 use borrow.Author.Needs.{needs}
 use Rattle.model.specs.declared.Entry.{Entry}
 use Rattle.model.proofs.Refusals.{accepted}
-use Rattle.tape.specs.Step.{settled}
-use Rattle.tape.proofs.Rows.{settles}
+use Rattle.tape.specs.Step.{judgedEntry}
+use Rattle.tape.proofs.Rows.{judged-entry}
 use Rattle.tape.proofs.step.take.Statement.{statement}
 use Rattle.tape.proofs.step.take.Tie as tie
 
@@ -42,13 +42,13 @@ add-now-2 : tie.Need-add-now-2
 add-now-2 c = search needs
 
 -- the step of the record that the arm knows
-known : (c : tie.Start) {e : Entry} → c .args .entry ≡ e → settled (c .args .t) e (c .args .next) (c .args .at) (c .args .lent) ≡ settled (c .args .t) (c .args .entry) (c .args .next) (c .args .at) (c .args .lent)
-known c h = ap (λ (e : Entry). settled (c .args .t) e (c .args .next) (c .args .at) (c .args .lent)) (sym h)
+known : (c : tie.Start) {e : Entry} → c .args .entry ≡ e → judgedEntry (c .args .t) e (c .args .next) (c .args .at) (c .args .lent) ≡ judgedEntry (c .args .t) (c .args .entry) (c .args .next) (c .args .at) (c .args .lent)
+known c h = ap (λ (e : Entry). judgedEntry (c .args .t) e (c .args .next) (c .args .at) (c .args .lent)) (sym h)
 
 returns : tie.Need-returns
 returns c =
     let a = c .before .before .args in
-    settles (a .t) Entry.End (a .next) (a .at) (a .lent) accepted ∙ known (c .before .before) (c .enum-told .given .1)
+    judged-entry (a .t) Entry.End (a .next) (a .at) (a .lent) accepted ∙ known (c .before .before) (c .enum-told .given .1)
 
 returns-2 : tie.Need-returns-2
 returns-2 c = c .take-size .ensures ∙ known (c .before .before .before .before) (c .before .before .entry .given .1)
@@ -63,13 +63,13 @@ returns-5 : tie.Need-returns-5
 returns-5 c =
     let s = c .before .before .before in
     let h = c .before .enum-told2 .given in
-    settles (s .args .t) (Entry.Sample (h .0 .0)) (s .args .next) (s .args .at) (s .args .lent) accepted ∙ known s (h .1)
+    judged-entry (s .args .t) (Entry.Sample (h .0 .0)) (s .args .next) (s .args .at) (s .args .lent) accepted ∙ known s (h .1)
 
 returns-6 : tie.Need-returns-6
 returns-6 c =
     let s = c .before .before .before in
     let h = c .before .enum-told3 .given in
-    settles (s .args .t) (Entry.Flow (h .0 .0)) (s .args .next) (s .args .at) (s .args .lent) accepted ∙ known s (h .1)
+    judged-entry (s .args .t) (Entry.Flow (h .0 .0)) (s .args .next) (s .args .at) (s .args .lent) accepted ∙ known s (h .1)
 
 pub take-spec : {M : Type 1} → statement M
 take-spec =

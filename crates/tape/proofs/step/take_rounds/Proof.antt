@@ -4,7 +4,7 @@ use borrow.Author.Needs.{needs}
 use borrow.Author.Tests.{not-true, not-false}
 use Rattle.model.specs.declared.Entry.{Entry}
 use Rattle.model.proofs.Refusals.{accepted, refused, passed}
-use Rattle.tape.proofs.Rows.{settles}
+use Rattle.tape.proofs.Rows.{judged-entry}
 use Rattle.tape.proofs.step.take_rounds.Statement.{statement}
 use Rattle.tape.proofs.step.take_rounds.Tie as tie
 
@@ -14,13 +14,13 @@ quick-allowed-requires c κs = search needs
 returns : tie.Need-returns
 returns c =
     let a = c .before .before .args in
-    settles (a .t) (Entry.RoundLimits (a .quick) (a .allowance)) (a .next) (a .at) (a .lent)
+    judged-entry (a .t) (Entry.RoundLimits (a .quick) (a .allowance)) (a .next) (a .at) (a .lent)
     (refused _ _ (not-false _ (sym (c .before .quick-allowed .ensures) ∙ not-true _ (c .if1 .taken))))
 
 returns-2 : tie.Need-returns-2
 returns-2 c =
     let a = c .before .before .args in
-    settles (a .t) (Entry.RoundLimits (a .quick) (a .allowance)) (a .next) (a .at) (a .lent)
+    judged-entry (a .t) (Entry.RoundLimits (a .quick) (a .allowance)) (a .next) (a .at) (a .lent)
     (passed _ _ (not-true _ (sym (c .before .quick-allowed .ensures) ∙ not-false _ (c .if1 .left))) ∙ accepted)
 
 pub take-rounds-spec : {M : Type 1} → statement M

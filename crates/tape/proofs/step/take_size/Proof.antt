@@ -11,7 +11,7 @@ use Rattle.model.specs.Grid.{sizeAllowed, gridPairs}
 use Rattle.model.specs.Tape.{sized}
 use Rattle.model.proofs.Refusals.{accepted, refused, passed}
 use Rattle.tape.specs.declared.step.Step.{Step}
-use Rattle.tape.proofs.Rows.{settles}
+use Rattle.tape.proofs.Rows.{judged-entry}
 use Rattle.tape.proofs.step.take_size.Statement.{statement}
 use Rattle.tape.proofs.step.take_size.Tie as tie
 
@@ -21,7 +21,7 @@ size-allowed-requires c κs = search needs
 returns : tie.Need-returns
 returns c =
     let a = c .before .before .args in
-    settles (a .t) (Entry.Size (a .width) (a .height)) (a .next) (a .at) (a .lent)
+    judged-entry (a .t) (Entry.Size (a .width) (a .height)) (a .next) (a .at) (a .lent)
     (refused _ _ (sym (ap not (c .before .size-allowed .ensures)) ∙ c .if1 .taken))
 
 allowed : (c : tie.Else1) → sizeAllowed (c .before .before .args .width) (c .before .before .args .height) ≡ true
@@ -45,7 +45,7 @@ returns-2 : tie.Need-returns-2
 returns-2 c =
     let s = c .before .before .before in
     let a = s .before .before .before .before .args in
-    settles (a .t) (Entry.Size (a .width) (a .height)) (a .next) (a .at) (a .lent)
+    judged-entry (a .t) (Entry.Size (a .width) (a .height)) (a .next) (a .at) (a .lent)
     (passed _ _ (ap not (allowed (s .before .before))) ∙ refused _ _ (sym (short s) ∙ c .if2 .taken))
 
 returns-3 : tie.Need-returns-3
@@ -55,7 +55,7 @@ returns-3 c =
     ap₂ (λ (m n : ℕ). Step.More
     (record { header = 1; terms = sized (a .width) (a .height); rounds = a .t .rounds; pixels = m; pairs = n; samples = a .t .samples; flows = a .t .flows })
     (a .next)) (s .before .pixels .ensures) (s .pairs .ensures)
-    ∙ settles (a .t) (Entry.Size (a .width) (a .height)) (a .next) (a .at) (a .lent)
+    ∙ judged-entry (a .t) (Entry.Size (a .width) (a .height)) (a .next) (a .at) (a .lent)
     (passed _ _ (ap not (allowed (s .before .before))) ∙ passed _ _ (sym (short s) ∙ c .if2 .left) ∙ accepted)
 
 pub take-size-spec : {M : Type 1} → statement M

@@ -4,7 +4,7 @@ use mathlib.Core.Bool.{not}
 use borrow.Author.Needs.{needs}
 use Rattle.model.specs.declared.Entry.{Entry}
 use Rattle.model.proofs.Refusals.{accepted, refused, passed}
-use Rattle.tape.proofs.Rows.{settles}
+use Rattle.tape.proofs.Rows.{judged-entry}
 use Rattle.tape.proofs.step.take_weight.Statement.{statement}
 use Rattle.tape.proofs.step.take_weight.Tie as tie
 
@@ -14,7 +14,7 @@ weight-allowed-requires c κs = search needs
 returns : tie.Need-returns
 returns c =
     let a = c .before .before .args in
-    settles (a .t) (Entry.WeightBox (a .weight) (a .low) (a .high)) (a .next) (a .at) (a .lent)
+    judged-entry (a .t) (Entry.WeightBox (a .weight) (a .low) (a .high)) (a .next) (a .at) (a .lent)
     (refused _ _ (sym (ap not (c .before .weight-allowed .ensures)) ∙ c .if1 .taken))
 
 box-allowed-requires : tie.Need-box-allowed-requires
@@ -23,14 +23,14 @@ box-allowed-requires c κs = search needs
 returns-2 : tie.Need-returns-2
 returns-2 c =
     let a = c .before .before .before .before .args in
-    settles (a .t) (Entry.WeightBox (a .weight) (a .low) (a .high)) (a .next) (a .at) (a .lent)
+    judged-entry (a .t) (Entry.WeightBox (a .weight) (a .low) (a .high)) (a .next) (a .at) (a .lent)
     (passed _ _ (sym (ap not (c .before .before .before .weight-allowed .ensures)) ∙ c .before .before .if1 .left)
     ∙ refused _ _ (sym (ap not (c .before .box-allowed .ensures)) ∙ c .if2 .taken))
 
 returns-3 : tie.Need-returns-3
 returns-3 c =
     let a = c .before .before .before .before .before .args in
-    settles (a .t) (Entry.WeightBox (a .weight) (a .low) (a .high)) (a .next) (a .at) (a .lent)
+    judged-entry (a .t) (Entry.WeightBox (a .weight) (a .low) (a .high)) (a .next) (a .at) (a .lent)
     (passed _ _ (sym (ap not (c .before .before .before .before .weight-allowed .ensures)) ∙ c .before .before .before .if1 .left)
     ∙ passed _ _ (sym (ap not (c .before .before .box-allowed .ensures)) ∙ c .before .if2 .left)
     ∙ accepted)
