@@ -1,19 +1,16 @@
 -- The plain numbers of an answer are those of an equal answer. Assumes nothing.
-use mathlib.Core.Path.{_≡_, ap, subst}
+use mathlib.Core.Path.{_≡_, sym, ap, subst}
 use Prim.Native.Nat.{ℕ}
-use lib.IntN.{ℤ, pos}
+use lib.IntN.{ℤ}
 use Rattle.model.specs.Calls.{Answer}
 use Rattle.model.specs.Tape.{ReadAnswer}
-use Rattle.relief_c.specs.Plain.{outcomeNumber}
+use Rattle.relief_c.specs.Plain.{Handed}
 
--- price, check and run
-abbrev pub Says : (number place outcome moved price : ℕ) (floor : ℤ) (slack : ℕ) → Answer → Type 0
-Says number place outcome moved price floor slack a =
-    (number ≡ a .number) × ((place ≡ a .place) × ((outcome ≡ outcomeNumber (a .outcome)) × ((moved ≡ a .moved) × ((pos price ≡ a .price) × ((floor ≡ a .floor) × (pos slack ≡ a .slack))))))
-
-pub same : {number place outcome moved price : ℕ} {floor : ℤ} {slack : ℕ} {a b : Answer} → a ≡ b → Says number place outcome moved price floor slack a →
-    Says number place outcome moved price floor slack b
-same {number} {place} {outcome} {moved} {price} {floor} {slack} = subst (Says number place outcome moved price floor slack)
+-- price, check and run; the sign of a floor is read from its bits
+pub same : {number place outcome moved price : ℕ} {floor bits : ℤ} {slack : ℕ} {a b : Answer} → a ≡ b → bits ≡ floor → Handed number place outcome moved price floor slack a →
+    Handed number place outcome moved price bits slack b
+same {number} {place} {outcome} {moved} {price} {floor} {bits} {slack} {a} {b} e f h =
+    subst (λ (z : ℤ). Handed number place outcome moved price z slack b) (sym f) (subst (Handed number place outcome moved price floor slack) e h)
 
 -- read
 pub parts : {a b : ReadAnswer} → a ≡ b → (a .number ≡ b .number) × ((a .place ≡ b .place) × ((a .terms ≡ b .terms) × ((a .rounds ≡ b .rounds) × (a .flowed ≡ b .flowed))))

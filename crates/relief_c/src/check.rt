@@ -4,11 +4,10 @@ use crate::numbers::numbers_of;
 use calls::check::check;
 use model::Terms;
 ghost use mathlib.Core.Path.{_≡_};
-ghost use lib.IntN.{pos};
 ghost use Rattle.model.specs.declared.Verdict.{Verdict};
 ghost use Rattle.model.specs.Calls.{checkVerdict, checkAnswer, checkImage};
 ghost use Rattle.certificate.specs.Demand.{CheckDemand};
-ghost use Rattle.relief_c.specs.Plain.{termsOf};
+ghost use Rattle.relief_c.specs.Plain.{termsOf, Handed};
 
 #[no_mangle]
 pub extern "C" fn relief_check(
@@ -21,15 +20,13 @@ pub extern "C" fn relief_check(
     flow: &[i32],
     image: &mut [i32],
     place: &mut u64,
+    outcome: &mut u32,
+    moved: &mut u32,
     price: &mut u64,
     floor: &mut i64,
     slack: &mut u64,
 ) -> u32
-    ensures { λ r. ⌜ r ≡ checkAnswer (termsOf width height weight low high) (now (samples .entry)) (now (flow .entry)) (now (image .entry)) .number ⌝ }
-    ensures { λ _. ⌜ now (place .exit) ≡ checkAnswer (termsOf width height weight low high) (now (samples .entry)) (now (flow .entry)) (now (image .entry)) .place ⌝ }
-    ensures { λ _. ⌜ pos (now (price .exit)) ≡ checkAnswer (termsOf width height weight low high) (now (samples .entry)) (now (flow .entry)) (now (image .entry)) .price ⌝ }
-    ensures { λ _. ⌜ now (floor .exit) ≡ checkAnswer (termsOf width height weight low high) (now (samples .entry)) (now (flow .entry)) (now (image .entry)) .floor ⌝ }
-    ensures { λ _. ⌜ pos (now (slack .exit)) ≡ checkAnswer (termsOf width height weight low high) (now (samples .entry)) (now (flow .entry)) (now (image .entry)) .slack ⌝ }
+    ensures { λ r. ⌜ Handed r (now (place .exit)) (now (outcome .exit)) (now (moved .exit)) (now (price .exit)) (now (floor .exit)) (now (slack .exit)) (checkAnswer (termsOf width height weight low high) (now (samples .entry)) (now (flow .entry)) (now (image .entry))) ⌝ }
     ensures { λ _. ⌜ now (image .exit) ≡ checkImage (termsOf width height weight low high) (now (samples .entry)) (now (flow .entry)) (now (image .entry)) ⌝ }
     ensures { λ _. ⌜ (checkVerdict (termsOf width height weight low high) (now (samples .entry)) (now (flow .entry)) (now (image .entry)) ≡ Verdict.Accept → CheckDemand (termsOf width height weight low high) (now (samples .entry)) (now (flow .entry))) ⌝ }
 {
@@ -42,6 +39,8 @@ pub extern "C" fn relief_check(
     };
     let n = numbers_of(check(t, samples, flow, image));
     *place = n.place;
+    *outcome = n.outcome;
+    *moved = n.moved;
     *price = n.price;
     let least = n.floor;
     *floor = least;

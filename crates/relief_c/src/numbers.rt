@@ -1,10 +1,8 @@
 // An answer of price, check or run as plain numbers, which the functions for other languages hand out.
 
 use calls::answer::Answer;
-ghost use mathlib.Core.Path.{_≡_};
-ghost use lib.IntN.{pos};
 ghost use Rattle.calls.specs.Answers.{answerOf};
-ghost use Rattle.relief_c.specs.Plain.{outcomeNumber};
+ghost use Rattle.relief_c.specs.Plain.{Handed};
 
 pub struct Numbers {
     pub number: u32,
@@ -17,13 +15,7 @@ pub struct Numbers {
 }
 
 pub fn numbers_of(a: Answer) -> Numbers
-    ensures { λ r. ⌜ r .number ≡ answerOf a .number ⌝ }
-    ensures { λ r. ⌜ r .place ≡ answerOf a .place ⌝ }
-    ensures { λ r. ⌜ r .outcome ≡ outcomeNumber (answerOf a .outcome) ⌝ }
-    ensures { λ r. ⌜ r .moved ≡ answerOf a .moved ⌝ }
-    ensures { λ r. ⌜ pos (r .price) ≡ answerOf a .price ⌝ }
-    ensures { λ r. ⌜ r .floor ≡ answerOf a .floor ⌝ }
-    ensures { λ r. ⌜ pos (r .slack) ≡ answerOf a .slack ⌝ }
+    ensures { λ r. ⌜ Handed (r .number) (r .place) (r .outcome) (r .moved) (r .price) (r .floor) (r .slack) (answerOf a) ⌝ }
 {
     match a {
         Answer::Refused { number, place } => Numbers {

@@ -3,10 +3,8 @@
 use crate::numbers::numbers_of;
 use calls::price::price as price_image;
 use model::Terms;
-ghost use mathlib.Core.Path.{_≡_};
-ghost use lib.IntN.{pos};
 ghost use Rattle.model.specs.Calls.{priceAnswer};
-ghost use Rattle.relief_c.specs.Plain.{termsOf};
+ghost use Rattle.relief_c.specs.Plain.{termsOf, Handed};
 
 #[no_mangle]
 pub extern "C" fn relief_price(
@@ -18,11 +16,13 @@ pub extern "C" fn relief_price(
     samples: &[u8],
     image: &[i32],
     place: &mut u64,
+    outcome: &mut u32,
+    moved: &mut u32,
     price: &mut u64,
+    floor: &mut i64,
+    slack: &mut u64,
 ) -> u32
-    ensures { λ r. ⌜ r ≡ priceAnswer (termsOf width height weight low high) (now (samples .entry)) (now (image .entry)) .number ⌝ }
-    ensures { λ _. ⌜ now (place .exit) ≡ priceAnswer (termsOf width height weight low high) (now (samples .entry)) (now (image .entry)) .place ⌝ }
-    ensures { λ _. ⌜ pos (now (price .exit)) ≡ priceAnswer (termsOf width height weight low high) (now (samples .entry)) (now (image .entry)) .price ⌝ }
+    ensures { λ r. ⌜ Handed r (now (place .exit)) (now (outcome .exit)) (now (moved .exit)) (now (price .exit)) (now (floor .exit)) (now (slack .exit)) (priceAnswer (termsOf width height weight low high) (now (samples .entry)) (now (image .entry))) ⌝ }
 {
     let t = Terms {
         width,
@@ -33,6 +33,11 @@ pub extern "C" fn relief_price(
     };
     let n = numbers_of(price_image(t, samples, image));
     *place = n.place;
+    *outcome = n.outcome;
+    *moved = n.moved;
     *price = n.price;
+    let least = n.floor;
+    *floor = least;
+    *slack = n.slack;
     n.number
 }

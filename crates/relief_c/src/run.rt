@@ -5,11 +5,10 @@ use calls::run::run;
 use model::Rounds;
 use model::Terms;
 ghost use mathlib.Core.Path.{_≡_};
-ghost use lib.IntN.{pos};
 ghost use Rattle.model.specs.declared.Verdict.{Verdict};
 ghost use Rattle.model.specs.Calls.{runVerdict, runAnswer, runFlow, runImage, runWork};
 ghost use Rattle.certificate.specs.Demand.{RunDemand};
-ghost use Rattle.relief_c.specs.Plain.{termsOf, roundsOf, outcomeNumber};
+ghost use Rattle.relief_c.specs.Plain.{termsOf, roundsOf, Handed};
 
 #[no_mangle]
 pub extern "C" fn relief_run(
@@ -31,13 +30,7 @@ pub extern "C" fn relief_run(
     floor: &mut i64,
     slack: &mut u64,
 ) -> u32
-    ensures { λ r. ⌜ r ≡ runAnswer (termsOf width height weight low high) (roundsOf quick allowance) (now (samples .entry)) (now (flow .entry)) (now (image .entry)) (now (work .entry)) .number ⌝ }
-    ensures { λ _. ⌜ now (place .exit) ≡ runAnswer (termsOf width height weight low high) (roundsOf quick allowance) (now (samples .entry)) (now (flow .entry)) (now (image .entry)) (now (work .entry)) .place ⌝ }
-    ensures { λ _. ⌜ now (outcome .exit) ≡ outcomeNumber (runAnswer (termsOf width height weight low high) (roundsOf quick allowance) (now (samples .entry)) (now (flow .entry)) (now (image .entry)) (now (work .entry)) .outcome) ⌝ }
-    ensures { λ _. ⌜ now (moved .exit) ≡ runAnswer (termsOf width height weight low high) (roundsOf quick allowance) (now (samples .entry)) (now (flow .entry)) (now (image .entry)) (now (work .entry)) .moved ⌝ }
-    ensures { λ _. ⌜ pos (now (price .exit)) ≡ runAnswer (termsOf width height weight low high) (roundsOf quick allowance) (now (samples .entry)) (now (flow .entry)) (now (image .entry)) (now (work .entry)) .price ⌝ }
-    ensures { λ _. ⌜ now (floor .exit) ≡ runAnswer (termsOf width height weight low high) (roundsOf quick allowance) (now (samples .entry)) (now (flow .entry)) (now (image .entry)) (now (work .entry)) .floor ⌝ }
-    ensures { λ _. ⌜ pos (now (slack .exit)) ≡ runAnswer (termsOf width height weight low high) (roundsOf quick allowance) (now (samples .entry)) (now (flow .entry)) (now (image .entry)) (now (work .entry)) .slack ⌝ }
+    ensures { λ r. ⌜ Handed r (now (place .exit)) (now (outcome .exit)) (now (moved .exit)) (now (price .exit)) (now (floor .exit)) (now (slack .exit)) (runAnswer (termsOf width height weight low high) (roundsOf quick allowance) (now (samples .entry)) (now (flow .entry)) (now (image .entry)) (now (work .entry))) ⌝ }
     ensures { λ _. ⌜ now (flow .exit) ≡ runFlow (termsOf width height weight low high) (roundsOf quick allowance) (now (samples .entry)) (now (flow .entry)) (now (image .entry)) (now (work .entry)) ⌝ }
     ensures { λ _. ⌜ now (image .exit) ≡ runImage (termsOf width height weight low high) (roundsOf quick allowance) (now (samples .entry)) (now (flow .entry)) (now (image .entry)) (now (work .entry)) ⌝ }
     ensures { λ _. ⌜ now (work .exit) ≡ runWork (termsOf width height weight low high) (roundsOf quick allowance) (now (samples .entry)) (now (flow .entry)) (now (image .entry)) (now (work .entry)) ⌝ }

@@ -1,5 +1,4 @@
 -- `relief_c::check::relief_check` meets its contract. Assumes nothing.
-use mathlib.Core.Path.{_∙_}
 use borrow.Author.Needs.{needs}
 use mir.Syntax.{w64}
 use Rattle.integers.proofs.Machine.{read}
@@ -19,8 +18,8 @@ same-length c = search needs
 returns : tie.Need-returns
 returns c =
     let k = c .before .before .before .check .ensures in
-    let n = same (k .0) (c .before .numbers-of .ensures) in
-    (n .0, (n .1 .0, (n .1 .1 .1 .1 .0, (read w64 (c .before .numbers-of .ok .1 .1 .1 .1 .1 .1 .1 .0 .1) ∙ n .1 .1 .1 .1 .1 .0, (n .1 .1 .1 .1 .1 .1, k .1)))))
+    let n = c .before .numbers-of in
+    (same (k .0) (read w64 (n .ok .1 .1 .1 .1 .1 .1 .1 .0 .1)) (n .ensures), k .1)
 
 pub relief-check-spec : {M : Type 1} → statement M
 relief-check-spec = tie.close (tie.spec check-requires numbers-of-requires same-length returns)

@@ -1,5 +1,7 @@
 -- `relief_c::price::relief_price` meets its contract. Assumes nothing.
 use borrow.Author.Needs.{needs}
+use mir.Syntax.{w64}
+use Rattle.integers.proofs.Machine.{read}
 use Rattle.relief_c.proofs.Says.{same}
 use Rattle.relief_c.proofs.price.relief_price.Statement.{statement}
 use Rattle.relief_c.proofs.price.relief_price.Tie as tie
@@ -12,8 +14,8 @@ numbers-of-requires c κs = search needs
 
 returns : tie.Need-returns
 returns c =
-    let n = same (c .before .price .ensures) (c .numbers-of .ensures) in
-    (n .0, (n .1 .0, n .1 .1 .1 .1 .0))
+    let n = c .before .numbers-of in
+    same (c .before .before .price .ensures) (read w64 (n .ok .1 .1 .1 .1 .1 .1 .1 .0 .1)) (n .ensures)
 
 pub relief-price-spec : {M : Type 1} → statement M
 relief-price-spec = tie.close (tie.spec price-requires numbers-of-requires returns)
