@@ -19,9 +19,9 @@ use Rattle.model.specs.Calls.{pixelsOf, pairsOf, imageOf}
 use Rattle.model.proofs.Lists.{length-table}
 use Rattle.model.proofs.Bounds as Bounds
 use Rattle.model.proofs.Bounds.{size-limits, value-least, value-most, image-inside}
-use Rattle.raster.specs.Limits.{Within, MisfitLimits}
+use Rattle.runs.specs.Limits.{Within, MisfitLimits}
 use Rattle.raster.specs.Whole.{RasterLimits, WorkLimits}
-use Rattle.raster.proofs.Elements.{within-below}
+use Rattle.runs.proofs.Elements.{within-below}
 use Rattle.raster.proofs.Model.{value-at}
 use Rattle.calls.specs.Ready.{Allowed}
 

@@ -6,7 +6,7 @@ use crate::judge;
 use model::Terms;
 use model::Verdict;
 use raster::image::fill_image;
-use raster::leaf;
+use stencil::pixel;
 ghost use mathlib.Core.Path.{_≡_};
 ghost use Rattle.model.specs.Calls.{checkVerdict, checkAnswer, checkImage};
 ghost use Rattle.certificate.specs.Demand.{CheckDemand};
@@ -21,8 +21,8 @@ pub fn check(t: Terms, samples: &[u8], flow: &[i32], image: &mut [i32]) -> Answe
     if let Verdict::Refuse { number, place } = verdict {
         return Answer::Refused { number, place };
     }
-    let low = leaf::low_end(t.low);
-    let high = leaf::high_end(t.high);
+    let low = pixel::low_end(t.low);
+    let high = pixel::high_end(t.high);
     fill_image(
         image,
         samples,

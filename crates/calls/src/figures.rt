@@ -4,7 +4,7 @@ use integers::signed;
 use model::Terms;
 use raster::grid::total_variation_grid;
 use raster::grid::total_work_grid;
-use raster::pixels::misfit;
+use runs::pixels::misfit;
 ghost use Prim.Native.Nat.{_+_, _*_, _^_, _<_};
 ghost use mathlib.Core.Path.{_≡_};
 ghost use lib.IntN.{pos, natAbs, _+ℤ_, _-ℤ_, _*ℤ_};

@@ -2,8 +2,8 @@
 
 use model::Terms;
 use model::Verdict;
-use raster::leaf;
-use raster::pixels::first_outside;
+use runs::pixels::first_outside;
+use stencil::pixel;
 ghost use Prim.Native.Nat.{_*_};
 ghost use mathlib.Core.Path.{_≡_};
 ghost use mathlib.Core.Bool.{not};
@@ -94,7 +94,7 @@ pub fn judge_check(t: Terms, samples: usize, flow: &[i32], image: usize) -> Verd
 fn judge_image(image: &[i32], t: Terms) -> Verdict
     ensures { λ r. ⌜ r ≡ firstRefusal (imageRow t (now (image .entry)) ∷ []) ⌝ }
 {
-    let place = first_outside(image, leaf::low_end(t.low), leaf::high_end(t.high));
+    let place = first_outside(image, pixel::low_end(t.low), pixel::high_end(t.high));
     if place < image.len() {
         Verdict::Refuse { number: 9, place }
     } else {

@@ -11,7 +11,7 @@ use lib.IntN.{ℤ, pos, natAbs}
 use lib.ListN.{length, take, drop, length-take, length-drop, List·getD-eq-default}
 use lib.Seq.{getD-take, getD-drop}
 use Rattle.model.specs.Lists.{at}
-use Rattle.raster.specs.Limits.{Within}
+use Rattle.runs.specs.Limits.{Within}
 
 abbrev pub part : {A : Type 0} → ℕ → ℕ → List A → List A
 part a e l = take (e - a) (drop a l)

@@ -15,10 +15,12 @@ use lib.ListN.{length, getD, take, drop}
 use lib.Seq.{getD-take, getD-drop, drop-drop}
 use Rattle.model.specs.Lists.{at, table}
 use Rattle.model.proofs.Lists.{length-table}
-use Rattle.raster.specs.Limits.{RowLimits, ImageLimits, ImageRowLimits}
-use Rattle.raster.specs.Rows.{rowValue, imageValue, withRow}
+use Rattle.runs.specs.Limits.{RowLimits}
+use Rattle.raster.specs.Limits.{ImageLimits, ImageRowLimits}
+use Rattle.runs.specs.Row.{rowValue}
+use Rattle.raster.specs.Image.{imageValue, withRow}
 use Rattle.raster.specs.Stencil.{gathered, rightPair}
-use Rattle.raster.proofs.Fill.{Filling, filling-part, table-cong}
+use Rattle.runs.proofs.Fill.{Filling, filling-part, table-cong}
 use Rattle.raster.proofs.Parts.{part, part-at, part-within, length-part}
 
 -- two tests that hold together

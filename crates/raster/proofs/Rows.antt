@@ -12,9 +12,9 @@ use lib.Seq.{getD-take, getD-drop, drop-at, drop-drop}
 use borrow.Rule.Slice.PartMut.{putMid}
 use Rattle.model.specs.Lists.{at, table}
 use Rattle.model.proofs.Lists.{length-table}
-use Rattle.raster.specs.Limits.{Within}
+use Rattle.runs.specs.Limits.{Within}
 use Rattle.raster.specs.Whole.{rowPixel}
-use Rattle.raster.proofs.Fill.{filled, filled-part}
+use Rattle.runs.proofs.Fill.{filled, filled-part}
 use Rattle.raster.proofs.Stencil.{horizontal-here}
 
 -- the rows end where the buffer does: `row` rows of a numbers each lie before `start`

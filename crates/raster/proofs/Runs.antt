@@ -9,10 +9,10 @@ use lib.IntN.{ℤ, pos}
 use lib.ListN.{length, take, drop, length-drop}
 use lib.Seq.{length-take-le, getD-take, getD-drop}
 use Rattle.model.specs.Lists.{at}
-use Rattle.raster.specs.Limits.{Within, StepLimits, VariationLimits, FallLimits}
+use Rattle.runs.specs.Limits.{Within, StepLimits, VariationLimits, FallLimits}
 use Rattle.raster.specs.Whole.{firstPixel, secondPixel, rowPixel, AcrossLimits, GridLimits, GridSize, RasterLimits, WorkLimits}
 use Rattle.model.specs.Grid.{gridPairs}
-use Rattle.raster.proofs.Fill.{filled}
+use Rattle.runs.proofs.Fill.{filled}
 use Rattle.raster.proofs.Rows.{row-end, part-count, part-at, part-length, part-within, drop-within, rest-is, row-pixel}
 use Rattle.raster.proofs.Whole.{vertical, vertical-first, vertical-second, horizontal-first, horizontal-second, vertical-sides, pairs-most, vertical-most, vertical-reach, rest-all}
 

@@ -6,11 +6,11 @@ use Prim.Native.Nat.{ℕ, _+_, _≤_, _<_}
 use native.Mathlib.Omega.{arith}
 use Rattle.model.specs.Lists.{firstWhere}
 use Rattle.model.proofs.Lists.{firstWhere-first}
-use Rattle.raster.specs.declared.pairs.Moving.{Moving}
-use Rattle.raster.specs.declared.pairs.Moving.the-variants.{At, Nothing}
-use Rattle.raster.specs.Run.{movingOf}
-use Rattle.raster.proofs.Moving.{nothing-is, at-is, nothing-moves, one-moves, first-is}
-use Rattle.raster.proofs.Search.{Passed, search-cong, passed-append, search-found, search-ended}
+use Rattle.runs.specs.declared.pairs.Moving.{Moving}
+use Rattle.runs.specs.declared.pairs.Moving.the-variants.{At, Nothing}
+use Rattle.runs.specs.Run.{movingOf}
+use Rattle.runs.proofs.Moving.{nothing-is, at-is, nothing-moves, one-moves, first-is}
+use Rattle.runs.proofs.Search.{Passed, search-cong, passed-append, search-found, search-ended}
 
 -- the answer of a search among n pairs
 abbrev pub answer : ℕ → (ℕ → Bool) → Moving

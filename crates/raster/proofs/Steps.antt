@@ -12,10 +12,10 @@ use Rattle.integers.proofs.Absolute.{natAbs-neg, ≤-abs, bounds→natAbs}
 use Rattle.integers.proofs.Clamp.{Place, below, above, inside, clamp-place}
 use Rattle.model.specs.Lists.{table}
 use Rattle.model.specs.Rounds.{eighth}
-use Rattle.raster.specs.Stencil.{stepValue}
-use Rattle.raster.specs.Run.{stepAt}
+use Rattle.stencil.specs.Pair.{stepValue}
+use Rattle.runs.specs.Run.{stepAt}
 use Rattle.raster.specs.Whole.{rowStep, gridStep}
-use Rattle.raster.proofs.Fill.{filled, table-cong}
+use Rattle.runs.proofs.Fill.{filled, table-cong}
 use Rattle.raster.proofs.Rows.{put-part}
 use Rattle.raster.proofs.Whole.{vertical}
 use Rattle.raster.proofs.Runs.{Stretch, row-run, vertical-run, horizontal-run}

@@ -13,7 +13,7 @@ use Rattle.model.specs.Lists.{table}
 use Rattle.model.specs.Problem.{Pair}
 use Rattle.model.proofs.Pairs.{grid-count, vertical-pair, horizontal-at}
 use Rattle.raster.specs.Whole.{firstPixel, secondPixel, rowPixel, GridSize}
-use Rattle.raster.proofs.Fill.{filled, filled-all, length-filled}
+use Rattle.runs.proofs.Fill.{filled, filled-all, length-filled}
 use Rattle.raster.proofs.Rows.{rest-is, put-part}
 
 -- how many vertical pairs there are

@@ -1,11 +1,9 @@
--- What the passes over a raster's buffers compute.
---     Stencil     a pixel with its pairs, a pair with its pixels
---     Run         a run of pairs in buffers
+-- What the passes over a whole raster compute.
+--     Stencil     the pull on a pixel, from its up to four pairs
 --     Whole       all pairs of a raster in buffers
---     Rows        the image of a flow, and its rows
+--     Image       the image of a flow
 --     Limits      limits within which no machine operation overflows
 pub mod Stencil
-pub mod Run
 pub mod Whole
-pub mod Rows
+pub mod Image
 pub mod Limits

@@ -1,74 +1,10 @@
--- Limits on the numbers of a pass, within which no machine operation overflows.
+-- Limits on the buffers of a raster, within which no machine operation overflows.
 use mathlib.Core.Path.{_≡_}
 use mathlib.Core.List.{List}
 use Prim.Native.Nat.{ℕ, _+_, _-_, _*_, _^_, _≤_, _<_}
-use lib.IntN.{ℤ, natAbs}
+use lib.IntN.{ℤ}
 use lib.ListN.{length}
-use Rattle.model.specs.Lists.{at}
-
--- a pair's weight, its number f and its pixels' values x and y
-pub record PairLimits (weight f x y : ℤ) : Type 0 where
-  pub weight-most : natAbs weight ≤ 2 ^ 20
-  pub flow-most : natAbs f ≤ 2 ^ 20
-  pub first-most : natAbs x ≤ 2 ^ 20
-  pub second-most : natAbs y ≤ 2 ^ 20
-
--- a pixel's reading b and the numbers of its pairs
-pub record PixelLimits (b below right above left : ℤ) : Type 0 where
-  pub reading-most : natAbs b ≤ 2 ^ 20
-  pub below-most : natAbs below ≤ 2 ^ 20
-  pub right-most : natAbs right ≤ 2 ^ 20
-  pub above-most : natAbs above ≤ 2 ^ 20
-  pub left-most : natAbs left ≤ 2 ^ 20
-
--- every number of a buffer is at most k in size
-abbrev pub Within : ℕ → List ℤ → Type 0
-Within k buffer = (i : ℕ) → natAbs (at buffer i) ≤ k
-
--- the numbers of a run of pairs, the pixels' values, the distance of a pair's pixels, and the weight
-pub record StepLimits (flow image : List ℤ) (stride : ℕ) (weight : ℤ) : Type 0 where
-  pub reach : length flow + stride ≤ length image
-  pub weight-most : natAbs weight ≤ 2 ^ 20
-  pub flow-most : Within (2 ^ 20) flow
-  pub image-most : Within (2 ^ 20) image
-
--- the pixels' values, the distance of a pair's pixels, and how many pairs there are
-pub record VariationLimits (image : List ℤ) (stride count : ℕ) : Type 0 where
-  pub reach : count + stride ≤ length image
-  pub count-most : count ≤ 2 ^ 21
-  pub image-most : Within (2 ^ 20) image
-
--- the numbers of a run of pairs, the pixels' values, and the distance of a pair's pixels
-pub record FallLimits (flow image : List ℤ) (stride : ℕ) : Type 0 where
-  pub reach : length flow + stride ≤ length image
-  pub count-most : length flow ≤ 2 ^ 21
-  pub flow-most : Within (2 ^ 20) flow
-  pub image-most : Within (2 ^ 20) image
-
--- the pixels' values and their samples
-pub record MisfitLimits (image : List ℤ) (samples : List ℕ) : Type 0 where
-  pub same-count : length image ≡ length samples
-  pub count-most : length image ≤ 2 ^ 20
-  pub image-most : Within (2 ^ 20) image
-
--- column c of a row, from the parts with the rows below and above and the numbers to the right and left
-pub record ColumnLimits (below above : List ℤ) (c : ℕ) (right left : ℤ) : Type 0 where
-  pub below-reach : 0 < length below → c < length below
-  pub above-reach : 0 < length above → c < length above
-  pub below-most : Within (2 ^ 20) below
-  pub above-most : Within (2 ^ 20) above
-  pub right-most : natAbs right ≤ 2 ^ 20
-  pub left-most : natAbs left ≤ 2 ^ 20
-
--- a row, its samples and its parts of the flow
-pub record RowLimits (row : List ℤ) (samples : List ℕ) (below above across : List ℤ) : Type 0 where
-  pub sample-count : length samples ≡ length row
-  pub across-count : length across + 1 ≡ length row
-  pub below-count : 0 < length below → length below ≡ length row
-  pub above-count : 0 < length above → length above ≡ length row
-  pub below-most : Within (2 ^ 20) below
-  pub above-most : Within (2 ^ 20) above
-  pub across-most : Within (2 ^ 20) across
+use Rattle.runs.specs.Limits.{Within}
 
 -- a raster of width w and height h, its samples and its flow
 pub record ImageLimits (image : List ℤ) (samples : List ℕ) (flow : List ℤ) (w h : ℕ) : Type 0 where

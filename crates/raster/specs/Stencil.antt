@@ -1,11 +1,9 @@
 -- The grid's definitions as a pass sees them: a pixel with its up to four pairs, a pair with its two pixels. That they are
 -- the definitions of crate `model` is proved in proofs/Stencil.antt.
-use mathlib.Core.Bool.{Bool, not, cond}
+use mathlib.Core.Bool.{cond}
 use Prim.Native.Nat.{ℕ, _+_, _-_, _*_}
 use lib.Dec.{ltb}
-use lib.IntN.{ℤ, pos, negℤ, _+ℤ_, _-ℤ_}
-use Rattle.integers.specs.Whole.{clamp, sameZ}
-use Rattle.model.specs.Rounds.{eighth}
+use lib.IntN.{ℤ, pos, _+ℤ_, _-ℤ_}
 
 -- the number of the pair of a pixel and the one to its right
 abbrev pub rightPair : ℕ → ℕ → ℕ → ℕ → ℕ
@@ -19,11 +17,3 @@ gathered w h f row column =
     +ℤ cond (ltb (column + 1) w) (f (rightPair w h row column)) (pos 0))
     -ℤ (cond (ltb 0 row) (f ((row - 1) * w + column)) (pos 0)
     +ℤ cond (ltb 0 column) (f (rightPair w h row (column - 1))) (pos 0))
-
--- The number of a pair after a step, from its number f and its pixels' values x and y
-unfoldable pub stepValue : ℤ → ℤ → ℤ → ℤ → ℤ
-stepValue weight f x y = clamp (negℤ weight) weight (f +ℤ eighth (x -ℤ y))
-
--- whether the step would change it
-abbrev pub moves : ℤ → ℤ → ℤ → ℤ → Bool
-moves weight f x y = not (sameZ (stepValue weight f x y) f)

@@ -8,8 +8,8 @@ use lib.IntN.{ℤ, natAbs, _-ℤ_}
 use lib.ListN.{length, getD}
 use Rattle.model.specs.Lists.{at}
 use Rattle.model.specs.Grid.{gridPairs}
-use Rattle.raster.specs.Stencil.{stepValue, moves}
-use Rattle.raster.specs.Limits.{Within}
+use Rattle.stencil.specs.Pair.{stepValue, moves}
+use Rattle.runs.specs.Limits.{Within}
 
 -- the pixels of pair j
 abbrev pub firstPixel : ℕ → ℕ → ℕ → ℕ

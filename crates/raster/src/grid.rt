@@ -1,9 +1,9 @@
 // Passes over all pairs of a raster: the vertical pairs are one run, the horizontal pairs of each
 // row another.
 
-use crate::pairs;
-use crate::pairs::Moving;
 use integers::signed;
+use runs::pairs;
+use runs::pairs::Moving;
 ghost use Prim.Native.Nat.{_+_, _-_, _*_};
 ghost use mathlib.Core.Path.{_≡_};
 ghost use lib.IntN.{pos, _*ℤ_};
@@ -12,7 +12,7 @@ ghost use Rattle.integers.specs.Whole.{abs};
 ghost use Rattle.integers.specs.Sum.{total};
 ghost use Rattle.model.specs.Lists.{at, table, firstWhere};
 ghost use Rattle.model.specs.Grid.{gridPairs};
-ghost use Rattle.raster.specs.Run.{movingOf};
+ghost use Rattle.runs.specs.Run.{movingOf};
 ghost use Rattle.raster.specs.Whole.{AcrossLimits, rowStep, rowMoves, GridLimits, gridStep, gridMoves, rowFall, gridFall, RasterLimits, WorkLimits};
 
 // The horizontal pairs of all rows, a run for each.

@@ -1,6 +1,3 @@
-// Passes over a raster's buffers.
+// Passes over a whole raster: the image of a flow, and all its pairs.
 pub mod grid;
 pub mod image;
-pub mod leaf;
-pub mod pairs;
-pub mod pixels;

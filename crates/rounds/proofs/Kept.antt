@@ -12,9 +12,9 @@ use Rattle.model.specs.Grid.{grid}
 use Rattle.model.specs.Rounds.{eighth, stepped, step, nextMomentum, Quick, quickStart, quickRound, quickRounds}
 use Rattle.model.proofs.Lists.{length-table, table-constant}
 use Rattle.model.proofs.Root.{momentum-least}
-use Rattle.raster.specs.Limits.{Within}
-use Rattle.raster.proofs.Elements.{within-table}
-use Rattle.rounds.proofs.Bounds.{extrapolate-bound, momentum-low}
+use Rattle.runs.specs.Limits.{Within}
+use Rattle.runs.proofs.Elements.{within-table}
+use Rattle.momentum.proofs.Bounds.{extrapolate-bound, momentum-low}
 use Rattle.rounds.proofs.Model.{step-within}
 
 module _ (share : ℤ → ℤ) (p : Problem) where

@@ -17,15 +17,15 @@ use Rattle.model.specs.Rounds.{eighth, stepped, step, nextMomentum, quickRound}
 use Rattle.model.specs.Calls.{imageOf}
 use Rattle.model.proofs.Lists.{getD-table}
 use Rattle.model.proofs.Root.{momentum-grows, momentum-least}
-use Rattle.raster.specs.Limits.{Within}
+use Rattle.runs.specs.Limits.{Within}
 use Rattle.raster.specs.Whole.{gridStep}
-use Rattle.raster.proofs.Elements.{within-table}
-use Rattle.raster.proofs.Fill.{table-cong}
+use Rattle.runs.proofs.Elements.{within-table}
+use Rattle.runs.proofs.Fill.{table-cong}
 use Rattle.raster.proofs.Model.{step-is, stepped-is}
-use Rattle.rounds.specs.Reciprocal.{Reciprocal}
-use Rattle.rounds.specs.Ahead.{aheadOf, gridAhead}
+use Rattle.momentum.specs.Reciprocal.{Reciprocal}
+use Rattle.advance.specs.Ahead.{aheadOf, gridAhead}
 use Rattle.rounds.specs.Ready.{held}
-use Rattle.rounds.proofs.Bounds.{extrapolate-is}
+use Rattle.momentum.proofs.Bounds.{extrapolate-is}
 
 -- between two ends of 0 .. k
 clamp-most : {a b k : ℕ} (z : ℤ) → a ≤ k → b ≤ k → natAbs (clamp (pos a) (pos b) z) ≤ k

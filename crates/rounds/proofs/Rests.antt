@@ -13,7 +13,7 @@ use Rattle.model.specs.Problem.{Problem, pairCount}
 use Rattle.model.specs.Grid.{grid}
 use Rattle.model.specs.Rounds.{eighth, step, firstMoving, Steady, oneMore, steadyRounds}
 use Rattle.model.specs.Calls.{imageOf}
-use Rattle.raster.specs.Limits.{Within}
+use Rattle.runs.specs.Limits.{Within}
 use Rattle.rounds.specs.Ready.{SteadyReady}
 use Rattle.rounds.proofs.Kept.{step-size}
 use Rattle.rounds.proofs.Model.{step-within}

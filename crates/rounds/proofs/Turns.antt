@@ -13,7 +13,7 @@ use Rattle.model.specs.Problem.{pairCount}
 use Rattle.model.specs.Grid.{grid}
 use Rattle.model.specs.Rounds.{eighth, Quick, quickStart, quickRound, quickRounds}
 use Rattle.rounds.specs.Ready.{QuickReady, QuickJob, held}
-use Rattle.rounds.proofs.Bounds.{momentum-low, momentum-high}
+use Rattle.momentum.proofs.Bounds.{momentum-low, momentum-high}
 use Rattle.rounds.proofs.Kept.{iterate-size, ahead-size, iterate-within, ahead-within}
 
 -- after k rounds: the flow holds P, the second half of the work buffer R

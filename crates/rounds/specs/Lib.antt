@@ -1,4 +1,2 @@
 -- What the rounds' inner contracts cite beside the model's definitions.
-pub mod Reciprocal
-pub mod Ahead
 pub mod Ready

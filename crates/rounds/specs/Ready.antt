@@ -7,7 +7,7 @@ use lib.ListN.{length}
 use Rattle.model.specs.declared.Terms.{Terms}
 use Rattle.model.specs.Grid.{gridPairs}
 use Rattle.model.specs.Rounds.{Quick}
-use Rattle.raster.specs.Limits.{Within}
+use Rattle.runs.specs.Limits.{Within}
 
 -- an allowed size and weight
 pub record JobLimits (t : Terms) : Type 0 where

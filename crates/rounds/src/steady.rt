@@ -4,8 +4,8 @@ use integers::signed;
 use model::Terms;
 use raster::grid;
 use raster::image::fill_image;
-use raster::leaf;
-use raster::pairs::Moving;
+use runs::pairs::Moving;
+use stencil::pixel;
 ghost use mathlib.Core.Path.{_≡_};
 ghost use lib.Dec.{ltb};
 ghost use Rattle.model.specs.Lists.{at};
@@ -35,8 +35,8 @@ fn some_moves(t: Terms, samples: &[u8], flow: &[i32], image: &mut [i32]) -> bool
         flow,
         w,
         h,
-        leaf::low_end(t.low),
-        leaf::high_end(t.high),
+        pixel::low_end(t.low),
+        pixel::high_end(t.high),
     );
     let first = grid::first_moving_grid(flow, image, w, h, signed::natural(t.weight));
     match first {

@@ -11,7 +11,7 @@ use Rattle.model.specs.Calls.{checked, checkVerdict, imageOf}
 use Rattle.model.proofs.Bounds.{size-limits}
 use Rattle.model.proofs.Pairs.{grid-count}
 use Rattle.certificate.proofs.Grid.{check-demand}
-use Rattle.raster.specs.Rows.{imageValue}
+use Rattle.raster.specs.Image.{imageValue}
 use Rattle.raster.proofs.Model.{image-is}
 use Rattle.calls.proofs.Jobs.{flow-most}
 use Rattle.calls.proofs.Verdicts.{not-both, figured, CheckAccepted, check-accepts, check-answers, check-fills, check-refuses, check-keeps}

@@ -20,7 +20,7 @@ use Rattle.model.specs.Calls.{Outcome, figures, settled, spent, imageOf, figure
 use Rattle.model.proofs.Bounds.{size-limits}
 use Rattle.certificate.specs.Demand.{RunDemand}
 use Rattle.certificate.proofs.Grid.{run-demand, ending-flow}
-use Rattle.raster.specs.Limits.{Within}
+use Rattle.runs.specs.Limits.{Within}
 use Rattle.rounds.specs.Ready.{JobLimits}
 use Rattle.rounds.proofs.Kept.{iterate-size, iterate-within}
 use Rattle.terms.proofs.Accepted.{AllowedTerms}

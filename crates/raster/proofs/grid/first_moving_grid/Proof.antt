@@ -10,12 +10,12 @@ use lib.Seq.{length-take-le}
 use mir.Syntax.{w32}
 use mir.Val.{toZ, ofZ}
 use mir.ValLaws.{toZ-ofZ}
-use Rattle.raster.specs.declared.pairs.Moving.the-variants.{At}
-use Rattle.raster.specs.Stencil.{moves}
+use Rattle.runs.specs.declared.pairs.Moving.the-variants.{At}
+use Rattle.stencil.specs.Pair.{moves}
 use Rattle.raster.specs.Whole.{gridMoves}
 use Rattle.raster.proofs.Whole.{vertical, vertical-most, all-pairs}
 use Rattle.raster.proofs.Runs.{Stretch, lent-rest, vertical-limits, horizontal-limits, vertical-run, horizontal-run}
-use Rattle.raster.proofs.Search.{Passed}
+use Rattle.runs.proofs.Search.{Passed}
 use Rattle.raster.proofs.Searches.{answer, answer-cong, none-moves, first-moves, none-answer, front-first, part-none, part-first}
 use Rattle.raster.proofs.grid.first_moving_grid.Statement.{statement}
 use Rattle.raster.proofs.grid.first_moving_grid.Tie as tie

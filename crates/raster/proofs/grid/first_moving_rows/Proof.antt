@@ -7,12 +7,12 @@ use borrow.Author.Needs.{needs}
 use mir.Syntax.{w32}
 use mir.Val.{toZ, ofZ}
 use mir.ValLaws.{toZ-ofZ}
-use Rattle.raster.specs.declared.pairs.Moving.the-variants.{At}
-use Rattle.raster.specs.Stencil.{moves}
+use Rattle.runs.specs.declared.pairs.Moving.the-variants.{At}
+use Rattle.stencil.specs.Pair.{moves}
 use Rattle.raster.specs.Whole.{rowMoves}
 use Rattle.raster.proofs.Rows.{rows-end}
 use Rattle.raster.proofs.Runs.{Lent, row-part, row-limits, row-run}
-use Rattle.raster.proofs.Search.{Passed, passed-none}
+use Rattle.runs.proofs.Search.{Passed, passed-none}
 use Rattle.raster.proofs.Searches.{answer, answer-cong, first-moves, none-answer, part-none, part-first}
 use Rattle.raster.proofs.grid.first_moving_rows.Statement.{statement}
 use Rattle.raster.proofs.grid.first_moving_rows.Tie as tie

@@ -11,7 +11,7 @@ use mir.Val.{toZ, ofZ}
 use mir.ValLaws.{toZ-ofZ}
 use Rattle.raster.specs.Whole.{gridStep}
 use Rattle.model.specs.Lists.{table}
-use Rattle.raster.proofs.Fill.{filled, length-filled}
+use Rattle.runs.proofs.Fill.{filled, length-filled}
 use Rattle.raster.proofs.Steps.{vertical-stepped, horizontal-stepped}
 use Rattle.raster.proofs.Runs.{Stretch, rest, vertical-limits, horizontal-limits}
 use Rattle.raster.proofs.Whole.{vertical, vertical-most, all-pairs, upper-filled, lower-part, both-filled}

@@ -10,7 +10,7 @@ use mir.ValLaws.{toZ-ofZ}
 use Rattle.model.specs.Lists.{table}
 use Rattle.model.proofs.Lists.{length-table}
 use Rattle.raster.specs.Whole.{rowStep}
-use Rattle.raster.proofs.Fill.{filled, filled-none, length-filled, filled-all}
+use Rattle.runs.proofs.Fill.{filled, filled-none, length-filled, filled-all}
 use Rattle.raster.proofs.Rows.{rows-end}
 use Rattle.raster.proofs.Runs.{Lent, row-part, unfilled, row-limits}
 use Rattle.raster.proofs.Steps.{row-stepped}

@@ -10,7 +10,8 @@ use Rattle.model.proofs.Pairs.{grid-count}
 use Rattle.raster.specs.Whole.{firstPixel, secondPixel, gridFall}
 use Rattle.raster.proofs.Whole.{vertical}
 use Rattle.raster.proofs.Runs.{vertical-falls, pairs-few}
-use Rattle.raster.proofs.Sums.{total-part, parts-most, fall-most, vertical-variation, horizontal-variation}
+use Rattle.runs.proofs.Sums.{total-part, parts-most, fall-most}
+use Rattle.raster.proofs.RunSums.{vertical-variation, horizontal-variation}
 use Rattle.raster.proofs.grid.total_variation_grid.Statement.{statement}
 use Rattle.raster.proofs.grid.total_variation_grid.Tie as tie
 

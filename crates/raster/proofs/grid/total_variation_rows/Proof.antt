@@ -11,7 +11,8 @@ use Rattle.integers.proofs.Total.{total-zero}
 use Rattle.raster.specs.Whole.{rowPixel, rowFall}
 use Rattle.raster.proofs.Rows.{row-end}
 use Rattle.raster.proofs.Runs.{Lent, row-part, row-falls, pairs-few}
-use Rattle.raster.proofs.Sums.{total-part, parts-most, fall-most, row-variation}
+use Rattle.runs.proofs.Sums.{total-part, parts-most, fall-most}
+use Rattle.raster.proofs.RunSums.{row-variation}
 use Rattle.raster.proofs.grid.total_variation_rows.Statement.{statement}
 use Rattle.raster.proofs.grid.total_variation_rows.Tie as tie
 

@@ -16,7 +16,8 @@ use Rattle.raster.specs.Whole.{firstPixel, secondPixel, gridFall}
 use Rattle.raster.proofs.Rows.{part-within}
 use Rattle.raster.proofs.Whole.{vertical, vertical-most, all-pairs}
 use Rattle.raster.proofs.Runs.{Stretch, lent-rest, vertical-falls, work-limits, work-size, horizontal-work, pairs-few, vertical-run, horizontal-run}
-use Rattle.raster.proofs.Sums.{work, total-part, parts-most, product-most}
+use Rattle.raster.proofs.RunSums.{work}
+use Rattle.runs.proofs.Sums.{total-part, parts-most, product-most}
 use Rattle.raster.proofs.grid.total_work_grid.Statement.{statement}
 use Rattle.raster.proofs.grid.total_work_grid.Tie as tie
 

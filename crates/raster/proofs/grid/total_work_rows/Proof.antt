@@ -13,7 +13,8 @@ use Rattle.model.specs.Lists.{at}
 use Rattle.raster.specs.Whole.{rowPixel, rowFall}
 use Rattle.raster.proofs.Rows.{rows-end}
 use Rattle.raster.proofs.Runs.{Lent, row-part, row-falls, work-limits, row-run, pairs-few}
-use Rattle.raster.proofs.Sums.{work, total-part, parts-most, product-most}
+use Rattle.raster.proofs.RunSums.{work}
+use Rattle.runs.proofs.Sums.{total-part, parts-most, product-most}
 use Rattle.raster.proofs.grid.total_work_rows.Statement.{statement}
 use Rattle.raster.proofs.grid.total_work_rows.Tie as tie
 

@@ -7,8 +7,8 @@ use borrow.Author.Needs.{needs}
 use mir.Syntax.{w32}
 use mir.Val.{toZ}
 use mir.ValLaws.{toZ-ofZ}
-use Rattle.raster.specs.Rows.{imageValue}
-use Rattle.raster.proofs.Fill.{Filling, filling-none, filling-all}
+use Rattle.raster.specs.Image.{imageValue}
+use Rattle.runs.proofs.Fill.{Filling, filling-none, filling-all}
 use Rattle.raster.proofs.RowParts.{row-in, filling-row, same-raster}
 use Rattle.raster.proofs.image.fill_image.Statement.{statement}
 use Rattle.raster.proofs.image.fill_image.Tie as tie

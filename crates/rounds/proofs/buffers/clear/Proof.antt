@@ -5,7 +5,7 @@ use native.Mathlib.Omega.{arith}
 use borrow.Author.Needs.{needs}
 use lib.IntN.{pos}
 use lib.ListN.{length}
-use Rattle.raster.proofs.Fill.{Filling, filling-none, filling-more, filling-all}
+use Rattle.runs.proofs.Fill.{Filling, filling-none, filling-more, filling-all}
 use Rattle.model.proofs.Lists.{table-constant}
 use Rattle.rounds.proofs.buffers.clear.Statement.{statement}
 use Rattle.rounds.proofs.buffers.clear.Tie as tie

@@ -7,7 +7,7 @@ use lib.IntN.{pos}
 use lib.ListN.{length}
 use mir.Syntax.{w32}
 use mir.ValLaws.{toZ-ofZ}
-use Rattle.raster.proofs.Fill.{Filling, filling-none, filling-more, filling-all}
+use Rattle.runs.proofs.Fill.{Filling, filling-none, filling-more, filling-all}
 use Rattle.model.specs.Lists.{at, table}
 use Rattle.model.proofs.Lists.{table-self}
 use Rattle.rounds.proofs.buffers.copy.Statement.{statement}

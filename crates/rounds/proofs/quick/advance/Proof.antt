@@ -9,7 +9,7 @@ use Rattle.integers.proofs.Machine.{read}
 use Rattle.model.specs.Grid.{gridPairs}
 use Rattle.model.specs.Rounds.{nextMomentum, quickRound}
 use Rattle.model.specs.Calls.{imageOf}
-use Rattle.rounds.specs.Reciprocal.{Reciprocal}
+use Rattle.momentum.specs.Reciprocal.{Reciprocal}
 use Rattle.rounds.proofs.Model.{next-range, factor-most, iterate-is, ahead-is}
 use Rattle.rounds.proofs.Passes.{fill-limits, grid-limits, filled-is}
 use Rattle.rounds.proofs.quick.advance.Statement.{statement}

@@ -11,10 +11,10 @@ use Rattle.model.specs.Problem.{pairCount}
 use Rattle.model.specs.Grid.{grid}
 use Rattle.model.specs.Rounds.{eighth, firstMoving}
 use Rattle.model.specs.Calls.{imageOf}
-use Rattle.raster.specs.Run.{movingOf}
-use Rattle.raster.specs.Limits.{Within}
+use Rattle.runs.specs.Run.{movingOf}
+use Rattle.runs.specs.Limits.{Within}
 use Rattle.raster.proofs.Model.{moving-is}
-use Rattle.raster.proofs.Moving.{one-moves, nothing-moves}
+use Rattle.runs.proofs.Moving.{one-moves, nothing-moves}
 use Rattle.rounds.proofs.Passes.{fill-limits, grid-limits, filled-is}
 use Rattle.rounds.proofs.steady.some_moves.Statement.{statement}
 use Rattle.rounds.proofs.steady.some_moves.Tie as tie

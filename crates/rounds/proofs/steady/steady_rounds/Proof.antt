@@ -13,7 +13,7 @@ use mir.Syntax.{w32}
 use Rattle.integers.proofs.Machine.{read}
 use Rattle.model.specs.Grid.{grid}
 use Rattle.model.specs.Rounds.{eighth, step, Steady}
-use Rattle.raster.specs.Limits.{Within}
+use Rattle.runs.specs.Limits.{Within}
 use Rattle.raster.proofs.Model.{stepped-is}
 use Rattle.rounds.proofs.Model.{step-within}
 use Rattle.rounds.proofs.Kept.{step-size}

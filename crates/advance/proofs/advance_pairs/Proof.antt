@@ -1,0 +1,167 @@
+-- `rounds::quick::advance_pairs` meets its contract. Assumes nothing.
+use mathlib.Core.Path.{_≡_, ap, ap₂, _∙_}
+use mathlib.Core.List.{List}
+use Prim.Native.Nat.{ℕ, _+_, _-_}
+use native.Mathlib.Nat.{le-refl, le-trans}
+use native.Mathlib.Omega.{arith}
+use borrow.Author.Needs.{needs}
+use lib.IntN.{ℤ, pos}
+use lib.ListN.{length}
+use mir.Syntax.{w32}
+use mir.Val.{toZ, ofZ}
+use mir.ValLaws.{toZ-ofZ}
+use Rattle.integers.proofs.Machine.{read, called}
+use Rattle.model.specs.Lists.{at}
+use Rattle.runs.specs.Run.{stepAt}
+use Rattle.runs.proofs.Elements.{element, pair-limits}
+use Rattle.raster.proofs.Steps.{step-most}
+use Rattle.runs.specs.Limits.{Within}
+use Rattle.runs.proofs.Fill.{Filling, filling-none, filling-more, filling-all, filling-rest}
+use Rattle.advance.specs.Ahead.{aheadOf, aheadAt}
+use Rattle.advance.proofs.advance_pairs.Statement.{statement}
+use Rattle.advance.proofs.advance_pairs.Tie as tie
+
+abbrev Inv-loop : tie.InvT-loop
+Inv-loop flow₀ ahead₀ image stride weight m j₀ flow ahead j =
+    Filling (stepAt (toZ w32 weight) ahead₀ image stride) flow₀ j flow × Filling (aheadAt (toZ w32 weight) m flow₀ ahead₀ image stride) ahead₀ j ahead
+
+abbrev μ-loop : tie.MeasureT-loop
+μ-loop flow₀ ahead₀ image stride weight m j₀ flow ahead j = length flow₀ - j
+
+-- a number of a buffer within the weights' limit, as the machine reads it back
+small : (l : List ℤ) → Within 65280 l → (i : ℕ) → toZ w32 (ofZ w32 (at l i)) ≡ at l i
+small l h = element l (λ i. omega (arith, h i))
+
+-- the stepped number, as the next operation reads it
+next-is : (c : tie.After-step-value Inv-loop μ-loop) →
+    let s = c .before .before .before .before .before .before in
+    toZ w32 (ofZ w32 (c .step-value .result))
+    ≡ stepAt (toZ w32 (ofZ w32 (s .args .weight))) (s .args .ahead .now) (s .args .image .now) (s .args .stride) (c .before .before .before .before .before .loop .j)
+next-is c =
+    let s = c .before .before .before .before .before .before in
+    let l = c .before .before .before .before .before .loop in
+    let p = s .pre .step in
+    called w32 (c .step-value .ok) (λ z. z) (c .step-value .ensures)
+    (rw (filling-rest (l .inv .1) (l .j) (pos 0) (le-refl (l .j)), element (s .args .ahead .now) (p .flow-most) (l .j), element (s .args .image .now) (p .image-most) (l .j), element (s .args .image .now) (p .image-most) (l .j + s .args .stride)))
+
+loop-holds : tie.Need-loop-holds Inv-loop μ-loop
+loop-holds c = (filling-none _ _, filling-none _ _)
+
+mul-step-value : tie.Need-mul-step-value Inv-loop μ-loop
+mul-step-value c = search needs
+
+slice-copy-out-step-value : tie.Need-slice-copy-out-step-value Inv-loop μ-loop
+slice-copy-out-step-value c = search needs
+
+mul-step-value-2 : tie.Need-mul-step-value-2 Inv-loop μ-loop
+mul-step-value-2 c = search needs
+
+shared-slice-copy-out-step-value : tie.Need-shared-slice-copy-out-step-value Inv-loop μ-loop
+shared-slice-copy-out-step-value c = search needs
+
+add-step-value : tie.Need-add-step-value Inv-loop μ-loop
+add-step-value c = search needs
+
+mul-step-value-3 : tie.Need-mul-step-value-3 Inv-loop μ-loop
+mul-step-value-3 c = search needs
+
+shared-slice-copy-out-step-value-2 : tie.Need-shared-slice-copy-out-step-value-2 Inv-loop μ-loop
+shared-slice-copy-out-step-value-2 c = search needs
+
+step-value-requires : tie.Need-step-value-requires Inv-loop μ-loop
+step-value-requires c κs =
+    let s = c .before .before .before .before .before in
+    let l = c .before .before .before .before .loop in
+    let p = s .pre .step in
+    rw (toZ-ofZ w32 (s .args .weight) (s .fits .weight), filling-rest (l .inv .1) (l .j) (pos 0) (le-refl (l .j)), element (s .args .ahead .now) (p .flow-most) (l .j), element (s .args .image .now) (p .image-most) (l .j), element (s .args .image .now) (p .image-most) (l .j + s .args .stride))
+    (pair-limits p (l .j))
+
+mul-extrapolated : tie.Need-mul-extrapolated Inv-loop μ-loop
+mul-extrapolated c = search needs
+
+slice-copy-out-extrapolated : tie.Need-slice-copy-out-extrapolated Inv-loop μ-loop
+slice-copy-out-extrapolated c = search needs
+
+extrapolated-requires : tie.Need-extrapolated-requires Inv-loop μ-loop
+extrapolated-requires c κs =
+    let v = c .before in
+    let s = v .before .before .before .before .before .before in
+    let l = v .before .before .before .before .before .loop in (
+      rw (filling-rest (l .inv .0) (l .j) (pos 0) (le-refl (l .j)), small (s .args .flow .now) (s .pre .flow-most) (l .j)) (s .pre .flow-most (l .j)),
+      rw (next-is v) (le-trans (step-most (toZ w32 (ofZ w32 (s .args .weight))) _ _ _) (rw (toZ-ofZ w32 (s .args .weight) (s .fits .weight)) (s .pre .weight-most))),
+      s .pre .factor-most,
+    )
+
+mul-t17 : tie.Need-mul-t17 Inv-loop μ-loop
+mul-t17 c = search needs
+
+slice-set-from-ahead : tie.Need-slice-set-from-ahead Inv-loop μ-loop
+slice-set-from-ahead c = search needs
+
+mul-next : tie.Need-mul-next Inv-loop μ-loop
+mul-next c = search needs
+
+slice-set-from-next : tie.Need-slice-set-from-next Inv-loop μ-loop
+slice-set-from-next c = search needs
+
+add-j : tie.Need-add-j Inv-loop μ-loop
+add-j c = search needs
+
+loop-less : tie.Need-loop-less Inv-loop μ-loop
+loop-less c = search needs
+
+loop-again : tie.Need-loop-again Inv-loop μ-loop
+loop-again c =
+    let v = c .before .before in
+    let s = v .before .before .before .before .before .before in
+    let l = v .before .before .before .before .before .loop in (
+      filling-more (l .inv .0) (omega arith) (next-is v),
+      filling-more (l .inv .1) (omega (arith, s .pre .same-length))
+          (read w32 (c .extrapolated .ok) ∙ c .extrapolated .ensures
+          ∙ ap₂ (aheadOf (s .args .m))
+          (ap (λ (z : ℤ). toZ w32 (ofZ w32 z)) (filling-rest (l .inv .0) (l .j) (pos 0) (le-refl (l .j))) ∙ small (s .args .flow .now) (s .pre .flow-most) (l .j))
+          (next-is v)),
+    )
+
+same-length : tie.Need-same-length Inv-loop μ-loop
+same-length c = search needs
+
+same-length-2 : tie.Need-same-length-2 Inv-loop μ-loop
+same-length-2 c = search needs
+
+returns : tie.Need-returns Inv-loop μ-loop
+returns c =
+    let s = c .before .before in
+    let i = c .before .loop .inv in (
+      rw (toZ-ofZ w32 _ (s .fits .weight)) at (filling-all (i .0) (omega arith)),
+      rw (toZ-ofZ w32 _ (s .fits .weight), ← s .pre .same-length) at (filling-all (i .1) (omega (arith, s .pre .same-length))),
+    )
+
+pub advance-pairs-spec : {M : Type 1} → statement M
+advance-pairs-spec =
+    tie.close
+    (tie.spec
+    Inv-loop
+    μ-loop
+    loop-holds
+    mul-step-value
+    slice-copy-out-step-value
+    mul-step-value-2
+    shared-slice-copy-out-step-value
+    add-step-value
+    mul-step-value-3
+    shared-slice-copy-out-step-value-2
+    step-value-requires
+    mul-extrapolated
+    slice-copy-out-extrapolated
+    extrapolated-requires
+    mul-t17
+    slice-set-from-ahead
+    mul-next
+    slice-set-from-next
+    add-j
+    loop-less
+    loop-again
+    same-length
+    same-length-2
+    returns)

@@ -1,0 +1,48 @@
+-- A quick round in buffers: the numbers ahead, by a fixed-point factor m in place of a quotient for each pair.
+use mathlib.Core.List.{List}
+use mathlib.Core.Path.{_≡_}
+use Prim.Native.Nat.{ℕ, _^_, _≤_}
+use lib.IntN.{ℤ, pos, natAbs, _+ℤ_, _-ℤ_, _*ℤ_}
+use lib.ListN.{length}
+use Rattle.integers.specs.Whole.{quotient}
+use Rattle.model.specs.Lists.{at}
+use Rattle.runs.specs.Limits.{Within, StepLimits}
+use Rattle.runs.specs.Run.{stepAt}
+use Rattle.raster.specs.Whole.{rowStep, AcrossLimits, gridStep, GridLimits}
+
+-- a number ahead of now, by the change since earlier times m / 2⁴⁶, rounded toward zero
+abbrev pub aheadOf : ℕ → ℤ → ℤ → ℤ
+aheadOf m earlier now = now +ℤ quotient ((now -ℤ earlier) *ℤ pos m) (pos 70368744177664)
+
+-- the number ahead of pair j of a run, from the flow and the numbers ahead so far
+abbrev pub aheadAt : ℤ → ℕ → List ℤ → List ℤ → List ℤ → ℕ → ℕ → ℤ
+aheadAt weight m flow ahead image stride j = aheadOf m (at flow j) (stepAt weight ahead image stride j)
+
+-- within these limits no operation of a run overflows
+pub record AdvanceLimits (flow ahead image : List ℤ) (stride : ℕ) (weight : ℤ) (m : ℕ) : Type 0 where
+  pub step : StepLimits ahead image stride weight
+  pub same-length : length flow ≡ length ahead
+  pub weight-most : natAbs weight ≤ 65280
+  pub flow-most : Within 65280 flow
+  pub factor-most : m ≤ 2 ^ 46
+
+-- the same for the horizontal pairs alone, counted through all rows, and for all pairs
+abbrev pub rowAhead : ℕ → ℤ → ℕ → List ℤ → List ℤ → List ℤ → ℕ → ℤ
+rowAhead w weight m flow ahead image k = aheadOf m (at flow k) (rowStep w weight ahead image k)
+
+abbrev pub gridAhead : ℕ → ℕ → ℤ → ℕ → List ℤ → List ℤ → List ℤ → ℕ → ℤ
+gridAhead w h weight m flow ahead image j = aheadOf m (at flow j) (gridStep w h weight ahead image j)
+
+pub record RowAdvance (w h : ℕ) (flow ahead image : List ℤ) (weight : ℤ) (m : ℕ) : Type 0 where
+  pub rows : AcrossLimits w h weight ahead image
+  pub same-length : length flow ≡ length ahead
+  pub weight-most : natAbs weight ≤ 65280
+  pub flow-most : Within 65280 flow
+  pub factor-most : m ≤ 2 ^ 46
+
+pub record GridAdvance (w h : ℕ) (flow ahead image : List ℤ) (weight : ℤ) (m : ℕ) : Type 0 where
+  pub grid : GridLimits w h weight ahead image
+  pub same-length : length flow ≡ length ahead
+  pub weight-most : natAbs weight ≤ 65280
+  pub flow-most : Within 65280 flow
+  pub factor-most : m ≤ 2 ^ 46

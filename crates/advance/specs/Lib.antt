@@ -1,0 +1,2 @@
+-- A quick round's pass in buffers.
+pub mod Ahead

@@ -1,0 +1,2 @@
+-- What the momentum's contracts cite beside the model's definitions.
+pub mod Reciprocal

@@ -1,0 +1,46 @@
+-- The numbers of buffers within limits: as the machine reads them back from their bits, and what the limits say of a pair.
+-- Assumes nothing.
+use mathlib.Core.Path.{_≡_}
+use mathlib.Core.List.{List}
+use Prim.Native.Nat.{ℕ, _+_, _^_, _≤_, _<_, zero-le}
+use native.Mathlib.Decide.{decLt}
+use native.Mathlib.Omega.{arith}
+use lib.IntN.{ℤ, pos, natAbs}
+use lib.ListN.{length, List·getD-eq-default}
+use mir.Syntax.{w32}
+use mir.Val.{toZ, ofZ}
+use mir.ValLaws.{toZ-ofZ}
+use Rattle.integers.proofs.Machine.{fits}
+use Rattle.model.specs.Lists.{at, table}
+use Rattle.model.proofs.Lists.{length-table, getD-table}
+use Rattle.runs.specs.Limits.{Within, StepLimits}
+use Rattle.stencil.specs.Limits.{PairLimits}
+
+pub element : (l : List ℤ) → Within (2 ^ 20) l → (i : ℕ) → toZ w32 (ofZ w32 (at l i)) ≡ at l i
+element l h i = toZ-ofZ w32 (at l i) (fits w32 (omega (arith, h i)))
+
+-- ---- buffers whose numbers are all at most k in size
+
+pub within-below : {k : ℕ} (l : List ℤ) → ((i : ℕ) → i < length l → natAbs (at l i) ≤ k) → Within k l
+within-below {k} l h i = by (decLt i (length l))
+  where
+    by : Dec (i < length l) → natAbs (at l i) ≤ k
+    by (yes m) = h i m
+    by (no m) = rw (List·getD-eq-default l (pos 0) {n = i} (omega (arith, m))) zero-le
+
+pub within-table : {k : ℕ} (n : ℕ) (g : ℕ → ℤ) → ((i : ℕ) → i < n → natAbs (g i) ≤ k) → Within k (table n g)
+within-table n g h =
+    within-below (table n g) (λ i m.
+    let l : i < n = rw (length-table n g) at m in
+    rw (getD-table n g i (pos 0) l) (h i l))
+
+-- ---- what the limits say of a pair
+
+pub pair-limits : {flow image : List ℤ} {stride : ℕ} {weight : ℤ} → StepLimits flow image stride weight → (j : ℕ) → PairLimits weight (at flow j) (at image j) (at image (j + stride))
+pair-limits {stride} l j =
+    record {
+      weight-most = l .weight-most;
+      flow-most = l .flow-most j;
+      first-most = l .image-most j;
+      second-most = l .image-most (j + stride);
+    }

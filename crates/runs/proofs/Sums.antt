@@ -1,0 +1,62 @@
+-- Running sums, that those over buffers within limits fit 64 bits. Assumes nothing.
+use mathlib.Core.Path.{_≡_, sym, ap₂, _∙_}
+use mathlib.Core.List.{List}
+use Prim.Native.Nat.{ℕ, _+_, _*_, _^_, _≤_, _<_, _-_}
+use native.Mathlib.Nat.{mul-le-mul}
+use native.Mathlib.Numerals.{add-one}
+use native.Mathlib.Omega.{arith}
+use lib.IntN.{ℤ, natAbs, _+ℤ_, _-ℤ_, _*ℤ_}
+use lib.ListN.{getD}
+use Rattle.integers.specs.Whole.{abs, square}
+use Rattle.integers.specs.Sum.{total}
+use Rattle.integers.proofs.Absolute.{natAbs-difference, natAbs-product, natAbs-square}
+use Rattle.integers.proofs.Total.{total-suc, total-append, natAbs-total}
+use Rattle.model.specs.Lists.{at}
+use Rattle.model.specs.Grid.{readingOf}
+use Rattle.runs.specs.Limits.{Within}
+use Rattle.stencil.proofs.Readings.{reading-most}
+
+-- one more term
+pub total-more : (g : ℕ → ℤ) (n : ℕ) {s x : ℤ} → s ≡ total n g → x ≡ g n → s +ℤ x ≡ total (n + 1) g
+total-more g n p q = rw (add-one n, total-suc n g) (ap₂ _+ℤ_ p q)
+
+-- n more terms
+pub total-part : (g : ℕ → ℤ) (a n : ℕ) {s x : ℤ} → s ≡ total a g → x ≡ total n (λ i. g (a + i)) → s +ℤ x ≡ total (a + n) g
+total-part g a n p q = ap₂ _+ℤ_ p q ∙ sym (total-append a n g)
+
+-- ---- over pixels
+
+abbrev pub misfitAt : List ℤ → List ℕ → ℕ → ℤ
+misfitAt image samples i = square (at image i -ℤ readingOf (getD samples i 0))
+
+module _ (image : List ℤ) (h : Within (2 ^ 20) image) (samples : List ℕ) (bytes : (i : ℕ) → getD samples i 0 < 256) where
+  pub misfit-most : (i : ℕ) → natAbs (misfitAt image samples i) ≤ 2 ^ 42
+  misfit-most i =
+      let b : ℤ = readingOf (getD samples i 0) in
+      let d : natAbs (at image i -ℤ b) ≤ 2 ^ 21 = omega (arith, h i, reading-most (bytes i), natAbs-difference (at image i) b) in
+      rw natAbs-square (mul-le-mul d d)
+
+  pub misfits-most : (n : ℕ) → natAbs (total n (misfitAt image samples)) ≤ n * 2 ^ 42
+  misfits-most n = natAbs-total n (misfitAt image samples) (λ i _. misfit-most i)
+
+-- ---- over pairs
+
+-- what both parts come to in size
+pub parts-most : (g : ℕ → ℤ) {c : ℕ} → ((i : ℕ) → natAbs (g i) ≤ c) → (a n : ℕ) {s x : ℤ} → s ≡ total a g → x ≡ total n (λ i. g (a + i)) →
+    natAbs s + natAbs x ≤ (a + n) * c
+parts-most g m a n p q = rw (p, q) (omega (arith, natAbs-total a g (λ i _. m i), natAbs-total n (λ i. g (a + i)) (λ i _. m (a + i))))
+
+-- the falls of pairs, pair j with its pixels at first j and second j
+module _ (image : List ℤ) (h : Within (2 ^ 20) image) (first second : ℕ → ℕ) where
+  pub fall-most : (j : ℕ) → natAbs (at image (first j) -ℤ at image (second j)) ≤ 2 ^ 21
+  fall-most j = omega (arith, natAbs-difference (at image (first j)) (at image (second j)), h (first j), h (second j))
+
+  pub variation-most : (n : ℕ) → natAbs (total n (λ j. abs (at image (first j) -ℤ at image (second j)))) ≤ n * 2 ^ 21
+  variation-most n = natAbs-total n (λ j. abs (at image (first j) -ℤ at image (second j))) (λ j _. fall-most j)
+
+  module _ (flow : List ℤ) (k : Within (2 ^ 20) flow) where
+    pub product-most : (j : ℕ) → natAbs (at flow j *ℤ (at image (first j) -ℤ at image (second j))) ≤ 2 ^ 41
+    product-most j = rw natAbs-product (mul-le-mul (k j) (fall-most j))
+
+    pub work-most : (n : ℕ) → natAbs (total n (λ j. at flow j *ℤ (at image (first j) -ℤ at image (second j)))) ≤ n * 2 ^ 41
+    work-most n = natAbs-total n (λ j. at flow j *ℤ (at image (first j) -ℤ at image (second j))) (λ j _. product-most j)

@@ -1,0 +1,105 @@
+-- `raster::pairs::first_moving` meets its contract. Assumes nothing.
+use mathlib.Core.Path.{_≡_, sym, _∙_}
+use Prim.Native.Nat.{_+_, _-_, _≤_, _<_}
+use native.Mathlib.Omega.{arith}
+use borrow.Author.Needs.{needs}
+use lib.ListN.{length}
+use mir.Syntax.{w32}
+use mir.Val.{toZ, ofZ}
+use mir.ValLaws.{toZ-ofZ}
+use Rattle.runs.specs.Run.{movesAt}
+use Rattle.runs.proofs.Elements.{element, pair-limits}
+use Rattle.runs.proofs.Moving.{nothing-is, at-is}
+use Rattle.runs.proofs.Search.{Passed, passed-none, passed-more, search-found, search-ended}
+use Rattle.runs.proofs.pairs.first_moving.Statement.{statement}
+use Rattle.runs.proofs.pairs.first_moving.Tie as tie
+
+abbrev Inv-loop : tie.InvT-loop
+Inv-loop flow image stride weight j₀ j = (j ≤ length flow) × Passed (movesAt (toZ w32 weight) flow image stride) j
+
+abbrev μ-loop : tie.MeasureT-loop
+μ-loop flow image stride weight j₀ j = length flow - j
+
+loop-holds : tie.Need-loop-holds Inv-loop μ-loop
+loop-holds c = (omega arith, passed-none _)
+
+mul-would-move : tie.Need-mul-would-move Inv-loop μ-loop
+mul-would-move c = search needs
+
+shared-slice-copy-out-would-move : tie.Need-shared-slice-copy-out-would-move Inv-loop μ-loop
+shared-slice-copy-out-would-move c = search needs
+
+mul-would-move-2 : tie.Need-mul-would-move-2 Inv-loop μ-loop
+mul-would-move-2 c = search needs
+
+shared-slice-copy-out-would-move-2 : tie.Need-shared-slice-copy-out-would-move-2 Inv-loop μ-loop
+shared-slice-copy-out-would-move-2 c = search needs
+
+add-would-move : tie.Need-add-would-move Inv-loop μ-loop
+add-would-move c = search needs
+
+mul-would-move-3 : tie.Need-mul-would-move-3 Inv-loop μ-loop
+mul-would-move-3 c = search needs
+
+shared-slice-copy-out-would-move-3 : tie.Need-shared-slice-copy-out-would-move-3 Inv-loop μ-loop
+shared-slice-copy-out-would-move-3 c = search needs
+
+would-move-requires : tie.Need-would-move-requires Inv-loop μ-loop
+would-move-requires c κs =
+    let s = c .before .before .before .before .before in
+    let j = c .before .before .before .before .loop .j in
+    rw (toZ-ofZ w32 (s .args .weight) (s .fits .weight), element (s .args .flow .now) (s .pre .flow-most) j, element (s .args .image .now) (s .pre .image-most) j, element (s .args .image .now) (s .pre .image-most) (j + s .args .stride))
+    (pair-limits (s .pre) j)
+
+-- the test at j
+tested : (c : tie.After-would-move Inv-loop μ-loop) → let s = c .before .before .before .before .before .before in c .would-move .result ≡ movesAt (toZ w32 (ofZ w32 (s .args .weight))) (s .args .flow .now) (s .args .image .now) (s .args .stride) (c .before .before .before .before .before .loop .j)
+tested c =
+    let s = c .before .before .before .before .before .before in
+    let j = c .before .before .before .before .before .loop .j in
+    c .would-move .ensures
+    ∙ rw (element (s .args .flow .now) (s .pre .flow-most) j, element (s .args .image .now) (s .pre .image-most) j, element (s .args .image .now) (s .pre .image-most) (j + s .args .stride))
+
+add-j : tie.Need-add-j Inv-loop μ-loop
+add-j c = search needs
+
+loop-less : tie.Need-loop-less Inv-loop μ-loop
+loop-less c = search needs
+
+loop-again : tie.Need-loop-again Inv-loop μ-loop
+loop-again c =
+    let l = c .before .before .before .before .before .before .loop in
+    (omega arith, passed-more _ (l .j) (l .inv .1) (sym (tested (c .before)) ∙ c .if2 .left))
+
+returns : tie.Need-returns Inv-loop μ-loop
+returns c =
+    let s = c .before .before in
+    let l = c .before .loop in
+    rw (toZ-ofZ w32 _ (s .fits .weight)) at (nothing-is (length (s .args .flow .now)) _ (search-ended _ (l .inv .1) (omega arith)))
+
+returns-2 : tie.Need-returns-2 Inv-loop μ-loop
+returns-2 c =
+    let s = c .before .before .before .before .before .before .before in
+    let l = c .before .before .before .before .before .before .loop in
+    let inside : l .j < length (s .args .flow .now) = omega arith in
+    rw (toZ-ofZ w32 _ (s .fits .weight)) at (at-is (length (s .args .flow .now)) _ (search-found _ (l .inv .1) inside (sym (tested (c .before)) ∙ c .if2 .taken)) inside)
+
+pub first-moving-spec : {M : Type 1} → statement M
+first-moving-spec =
+    tie.close
+    (tie.spec
+    Inv-loop
+    μ-loop
+    loop-holds
+    mul-would-move
+    shared-slice-copy-out-would-move
+    mul-would-move-2
+    shared-slice-copy-out-would-move-2
+    add-would-move
+    mul-would-move-3
+    shared-slice-copy-out-would-move-3
+    would-move-requires
+    add-j
+    loop-less
+    loop-again
+    returns
+    returns-2)

@@ -1,0 +1,102 @@
+-- `raster::pairs::step_pairs` meets its contract. Assumes nothing.
+use Prim.Native.Nat.{_+_, _-_}
+use native.Mathlib.Nat.{le-refl}
+use native.Mathlib.Omega.{arith}
+use borrow.Author.Needs.{needs}
+use lib.IntN.{pos}
+use lib.ListN.{length}
+use mir.Syntax.{w32}
+use mir.Val.{toZ}
+use mir.ValLaws.{toZ-ofZ}
+use Rattle.integers.proofs.Machine.{called}
+use Rattle.runs.specs.Run.{stepAt}
+use Rattle.runs.proofs.Elements.{element, pair-limits}
+use Rattle.runs.proofs.Fill.{Filling, filling-none, filling-more, filling-all, filling-rest}
+use Rattle.runs.proofs.pairs.step_pairs.Statement.{statement}
+use Rattle.runs.proofs.pairs.step_pairs.Tie as tie
+
+abbrev Inv-loop : tie.InvT-loop
+Inv-loop flow₀ image stride weight j₀ flow j = Filling (stepAt (toZ w32 weight) flow₀ image stride) flow₀ j flow
+
+abbrev μ-loop : tie.MeasureT-loop
+μ-loop flow₀ image stride weight j₀ flow j = length flow₀ - j
+
+loop-holds : tie.Need-loop-holds Inv-loop μ-loop
+loop-holds c = filling-none _ _
+
+mul-step-value : tie.Need-mul-step-value Inv-loop μ-loop
+mul-step-value c = search needs
+
+slice-copy-out-step-value : tie.Need-slice-copy-out-step-value Inv-loop μ-loop
+slice-copy-out-step-value c = search needs
+
+mul-step-value-2 : tie.Need-mul-step-value-2 Inv-loop μ-loop
+mul-step-value-2 c = search needs
+
+shared-slice-copy-out-step-value : tie.Need-shared-slice-copy-out-step-value Inv-loop μ-loop
+shared-slice-copy-out-step-value c = search needs
+
+add-step-value : tie.Need-add-step-value Inv-loop μ-loop
+add-step-value c = search needs
+
+mul-step-value-3 : tie.Need-mul-step-value-3 Inv-loop μ-loop
+mul-step-value-3 c = search needs
+
+shared-slice-copy-out-step-value-2 : tie.Need-shared-slice-copy-out-step-value-2 Inv-loop μ-loop
+shared-slice-copy-out-step-value-2 c = search needs
+
+step-value-requires : tie.Need-step-value-requires Inv-loop μ-loop
+step-value-requires c κs =
+    let s = c .before .before .before .before .before in
+    let l = c .before .before .before .before .loop in
+    rw (toZ-ofZ w32 (s .args .weight) (s .fits .weight), filling-rest (l .inv) (l .j) (pos 0) (le-refl (l .j)), element (s .args .flow .now) (s .pre .flow-most) (l .j), element (s .args .image .now) (s .pre .image-most) (l .j), element (s .args .image .now) (s .pre .image-most) (l .j + s .args .stride))
+    (pair-limits (s .pre) (l .j))
+
+mul-t18 : tie.Need-mul-t18 Inv-loop μ-loop
+mul-t18 c = search needs
+
+slice-set-from-flow : tie.Need-slice-set-from-flow Inv-loop μ-loop
+slice-set-from-flow c = search needs
+
+add-j : tie.Need-add-j Inv-loop μ-loop
+add-j c = search needs
+
+loop-less : tie.Need-loop-less Inv-loop μ-loop
+loop-less c = search needs
+
+loop-again : tie.Need-loop-again Inv-loop μ-loop
+loop-again c =
+    let s = c .before .before .before .before .before .before in
+    let l = c .before .before .before .before .before .loop in
+    filling-more (l .inv) (omega arith)
+    (called w32 (c .step-value .ok) (λ z. z) (c .step-value .ensures)
+    (rw (filling-rest (l .inv) (l .j) (pos 0) (le-refl (l .j)), element (s .args .flow .now) (s .pre .flow-most) (l .j), element (s .args .image .now) (s .pre .image-most) (l .j), element (s .args .image .now) (s .pre .image-most) (l .j + s .args .stride))))
+
+same-length : tie.Need-same-length Inv-loop μ-loop
+same-length c = search needs
+
+returns : tie.Need-returns Inv-loop μ-loop
+returns c = rw (toZ-ofZ w32 _ (c .before .before .fits .weight)) at (filling-all (c .before .loop .inv) (omega arith))
+
+pub step-pairs-spec : {M : Type 1} → statement M
+step-pairs-spec =
+    tie.close
+    (tie.spec
+    Inv-loop
+    μ-loop
+    loop-holds
+    mul-step-value
+    slice-copy-out-step-value
+    mul-step-value-2
+    shared-slice-copy-out-step-value
+    add-step-value
+    mul-step-value-3
+    shared-slice-copy-out-step-value-2
+    step-value-requires
+    mul-t18
+    slice-set-from-flow
+    add-j
+    loop-less
+    loop-again
+    same-length
+    returns)

@@ -1,0 +1,46 @@
+-- `raster::image::column_value` meets its contract. Assumes nothing.
+use native.Mathlib.Omega.{arith}
+use borrow.Author.Needs.{needs}
+use mir.Syntax.{w32}
+use mir.ValLaws.{toZ-ofZ}
+use Rattle.integers.proofs.Machine.{read}
+use Rattle.stencil.proofs.Readings.{reading-most}
+use Rattle.runs.proofs.row.column_value.Statement.{statement}
+use Rattle.runs.proofs.row.column_value.Tie as tie
+
+reading-requires : tie.Need-reading-requires
+reading-requires c κs = search needs
+
+number-at-requires : tie.Need-number-at-requires
+number-at-requires c κs = search needs
+
+number-at-requires-2 : tie.Need-number-at-requires-2
+number-at-requires-2 c κs = search needs
+
+pixel-value-requires : tie.Need-pixel-value-requires
+pixel-value-requires c κs =
+    let s = c .before .before .before in
+    let p = s .pre in
+    rw (read w32 {r = c .before .before .reading .result} (c .before .before .reading .ok), c .before .before .reading .ensures, read w32 {r = c .before .number-at .result} (c .before .number-at .ok), c .before .number-at .ensures, read w32 {r = c .number-at2 .result} (c .number-at2 .ok), c .number-at2 .ensures, toZ-ofZ w32 _ (s .fits .right), toZ-ofZ w32 _ (s .fits .left))
+    (record {
+      reading-most = omega (arith, reading-most (s .fits .sample .fits));
+      below-most = p .below-most (s .args .c);
+      right-most = p .right-most;
+      above-most = p .above-most (s .args .c);
+      left-most = p .left-most;
+    })
+
+returns : tie.Need-returns
+returns c =
+    let s = c .before .before .before .before in
+    rw (read w32 {r = c .pixel-value .result} (c .pixel-value .ok), c .pixel-value .ensures, read w32 {r = c .before .before .before .reading .result} (c .before .before .before .reading .ok), c .before .before .before .reading .ensures, read w32 {r = c .before .before .number-at .result} (c .before .before .number-at .ok), c .before .before .number-at .ensures, read w32 {r = c .before .number-at2 .result} (c .before .number-at2 .ok), c .before .number-at2 .ensures, toZ-ofZ w32 _ (s .fits .right), toZ-ofZ w32 _ (s .fits .left), toZ-ofZ w32 _ (s .fits .low), toZ-ofZ w32 _ (s .fits .high))
+
+pub column-value-spec : {M : Type 1} → statement M
+column-value-spec =
+    tie.close
+    (tie.spec
+    reading-requires
+    number-at-requires
+    number-at-requires-2
+    pixel-value-requires
+    returns)

@@ -1,0 +1,121 @@
+-- `raster::image::image_row` meets its contract. Assumes nothing.
+use mathlib.Core.Path.{_≡_, refl}
+use mathlib.Core.List.{_∷_}
+use Prim.Native.Nat.{_-_, _≤_, zero-le}
+use native.Mathlib.Numerals.{add-one}
+use native.Mathlib.Omega.{arith}
+use borrow.Author.Needs.{needs}
+use lib.IntN.{pos}
+use lib.ListN.{length, List·getD-eq-default}
+use mir.Syntax.{w32}
+use mir.Val.{toZ, ofZ}
+use mir.ValLaws.{toZ-ofZ}
+use Rattle.integers.proofs.Machine.{read}
+use Rattle.model.specs.Lists.{at}
+use Rattle.runs.specs.Row.{rowValue}
+use Rattle.runs.proofs.Elements.{element}
+use Rattle.runs.proofs.Fill.{Filling, filling-none, filling-more, filling-all}
+use Rattle.runs.proofs.Columns.{column-limits}
+use Rattle.runs.proofs.row.image_row.Statement.{statement}
+use Rattle.runs.proofs.row.image_row.Tie as tie
+
+abbrev Inv-loop : tie.InvT-loop
+Inv-loop row₀ samples below above across low high left₀ c₀ row left c =
+    (c ≤ length across)
+    × Filling (rowValue (toZ w32 low) (toZ w32 high) samples below above across) row₀ c row
+    × (toZ w32 left ≡ at (pos 0 ∷ across) c)
+
+abbrev μ-loop : tie.MeasureT-loop
+μ-loop row₀ samples below above across low high left₀ c₀ row left c = length across - c
+
+loop-holds : tie.Need-loop-holds Inv-loop μ-loop
+loop-holds c = (omega arith, filling-none _ _, refl)
+
+mul-right : tie.Need-mul-right Inv-loop μ-loop
+mul-right c = search needs
+
+shared-slice-copy-out-right : tie.Need-shared-slice-copy-out-right Inv-loop μ-loop
+shared-slice-copy-out-right c = search needs
+
+shared-slice-read-column-value : tie.Need-shared-slice-read-column-value Inv-loop μ-loop
+shared-slice-read-column-value c = search needs
+
+column-value-requires : tie.Need-column-value-requires Inv-loop μ-loop
+column-value-requires c κs =
+    let s = c .before .before .before .before .before in
+    let l = c .before .before .before .loop in
+    rw (element (s .args .across .now) (s .pre .across-most) (l .c), l .inv .2)
+    (column-limits (s .pre) (l .c) (omega (arith, s .pre)) (at (s .args .across .now) (l .c)) (s .pre .across-most (l .c)))
+
+mul-t11 : tie.Need-mul-t11 Inv-loop μ-loop
+mul-t11 c = search needs
+
+slice-set-from-row : tie.Need-slice-set-from-row Inv-loop μ-loop
+slice-set-from-row c = search needs
+
+add-c : tie.Need-add-c Inv-loop μ-loop
+add-c c = search needs
+
+loop-less : tie.Need-loop-less Inv-loop μ-loop
+loop-less c = search needs
+
+loop-again : tie.Need-loop-again Inv-loop μ-loop
+loop-again c =
+    let s = c .before .before .before .before .before .before in
+    let l = c .before .before .before .before .loop in
+    let right = element (s .args .across .now) (s .pre .across-most) (l .c) in (
+      omega arith,
+      filling-more (l .inv .1) (omega (arith, s .pre)) (rw (read w32 {r = c .column-value .result} (c .column-value .ok), c .column-value .ensures, right, l .inv .2)),
+      rw (add-one (l .c)) right,
+    )
+
+shared-slice-read-column-value-2 : tie.Need-shared-slice-read-column-value-2 Inv-loop μ-loop
+shared-slice-read-column-value-2 c = search needs
+
+column-value-requires-2 : tie.Need-column-value-requires-2 Inv-loop μ-loop
+column-value-requires-2 c κs =
+    let s = c .before .before .before .before in
+    let l = c .before .before .loop in
+    rw (l .inv .2) (column-limits (s .pre) (l .c) (omega (arith, s .pre)) (pos 0) zero-le)
+
+mul-t21 : tie.Need-mul-t21 Inv-loop μ-loop
+mul-t21 c = search needs
+
+slice-set-from-row-2 : tie.Need-slice-set-from-row-2 Inv-loop μ-loop
+slice-set-from-row-2 c = search needs
+
+same-length : tie.Need-same-length Inv-loop μ-loop
+same-length c = search needs
+
+returns : tie.Need-returns Inv-loop μ-loop
+returns c =
+    let s = c .before .before .before .before .before in
+    let l = c .before .before .before .loop in
+    let past : at (s .args .across .now) (l .c) ≡ pos 0 = List·getD-eq-default (s .args .across .now) (pos 0) (omega arith) in
+    rw (toZ-ofZ w32 _ (s .fits .low), toZ-ofZ w32 _ (s .fits .high))
+    at (filling-all
+    (filling-more (l .inv .1) {x = toZ w32 (ofZ w32 (c .column-value2 .result))} (omega (arith, s .pre)) (rw (read w32 {r = c .column-value2 .result} (c .column-value2 .ok), c .column-value2 .ensures, past, l .inv .2)))
+    (omega (arith, s .pre)))
+
+pub image-row-spec : {M : Type 1} → statement M
+image-row-spec =
+    tie.close
+    (tie.spec
+    Inv-loop
+    μ-loop
+    loop-holds
+    mul-right
+    shared-slice-copy-out-right
+    shared-slice-read-column-value
+    column-value-requires
+    mul-t11
+    slice-set-from-row
+    add-c
+    loop-less
+    loop-again
+    shared-slice-read-column-value-2
+    column-value-requires-2
+    mul-t21
+    slice-set-from-row-2
+    same-length
+    returns)

@@ -1,0 +1,7 @@
+-- What the passes over a run or a row compute.
+--     Run         a run of pairs in buffers
+--     Row         a row of the image of a flow
+--     Limits      limits within which no machine operation overflows
+pub mod Run
+pub mod Row
+pub mod Limits

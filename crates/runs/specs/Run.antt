@@ -1,0 +1,27 @@
+-- A run of pairs in buffers: pair j has its number at index j of the flow, its first pixel at index j of the image, and its
+-- second one `stride` after that.
+use mathlib.Core.Bool.{Bool, cond}
+use mathlib.Core.List.{List}
+use Prim.Native.Nat.{ℕ, _+_}
+use lib.Dec.{ltb}
+use lib.IntN.{ℤ, _-ℤ_}
+use Rattle.model.specs.Lists.{at}
+use Rattle.runs.specs.declared.pairs.Moving.{Moving}
+use Rattle.runs.specs.declared.pairs.Moving.the-variants.{At, Nothing}
+use Rattle.stencil.specs.Pair.{stepValue, moves}
+
+-- the fall of pair j
+abbrev pub fallAt : List ℤ → ℕ → ℕ → ℤ
+fallAt image stride j = at image j -ℤ at image (j + stride)
+
+-- the number of pair j after a step
+abbrev pub stepAt : ℤ → List ℤ → List ℤ → ℕ → ℕ → ℤ
+stepAt weight flow image stride j = stepValue weight (at flow j) (at image j) (at image (j + stride))
+
+-- whether a step would change it
+abbrev pub movesAt : ℤ → List ℤ → List ℤ → ℕ → ℕ → Bool
+movesAt weight flow image stride j = moves weight (at flow j) (at image j) (at image (j + stride))
+
+-- the answer of a search among n pairs, where k is the first that moves, or n where none does
+abbrev pub movingOf : ℕ → ℕ → Moving
+movingOf n k = cond (ltb k n) (At k) Nothing

@@ -1,0 +1,4 @@
+// Passes over a run of pairs, a row of pixels, or pixels in any order.
+pub mod pairs;
+pub mod pixels;
+pub mod row;

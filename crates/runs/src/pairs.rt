@@ -1,0 +1,76 @@
+// Passes over a run of pairs in which the second pixel stands `stride` after the first: the
+// vertical pairs of a raster (stride its width), or the horizontal pairs of one row (stride 1).
+
+use integers::signed;
+use stencil::pair;
+ghost use mathlib.Core.Path.{_≡_};
+ghost use lib.IntN.{pos, _*ℤ_};
+ghost use lib.ListN.{length};
+ghost use Rattle.integers.specs.Whole.{abs};
+ghost use Rattle.integers.specs.Sum.{total};
+ghost use Rattle.model.specs.Lists.{at, table, firstWhere};
+ghost use Rattle.runs.specs.Limits.{StepLimits, VariationLimits, FallLimits};
+ghost use Rattle.runs.specs.Run.{fallAt, stepAt, movesAt, movingOf};
+
+// The first pair that would move.
+pub enum Moving {
+    At(usize),
+    Nothing,
+}
+
+// A step: each pair's number becomes its stepped value.
+pub fn step_pairs(flow: &mut [i32], image: &[i32], stride: usize, weight: i32)
+    requires { ⌜ StepLimits (now flow) (now image) stride weight ⌝ }
+    ensures { λ _. ⌜ now (flow .exit) ≡ table (length (now (flow .entry))) (stepAt weight (now (flow .entry)) (now (image .entry)) stride) ⌝ }
+{
+    let mut j = 0;
+    while j < flow.len() {
+        flow[j] = pair::step_value(flow[j], image[j], image[j + stride], weight);
+        j += 1;
+    }
+}
+
+// The test before a round: the first pair that a step would change.
+pub fn first_moving(flow: &[i32], image: &[i32], stride: usize, weight: i32) -> Moving
+    requires { ⌜ StepLimits (now flow) (now image) stride weight ⌝ }
+    ensures { λ r. ⌜ r ≡ movingOf (length (now (flow .entry))) (firstWhere (length (now (flow .entry))) (movesAt weight (now (flow .entry)) (now (image .entry)) stride)) ⌝ }
+{
+    let mut j = 0;
+    loop {
+        if flow.len() <= j {
+            break Moving::Nothing;
+        }
+        if pair::would_move(flow[j], image[j], image[j + stride], weight) {
+            break Moving::At(j);
+        }
+        j += 1;
+    }
+}
+
+// The sum of the sizes of the first `count` pairs' falls.
+pub fn total_variation(image: &[i32], stride: usize, count: usize) -> u64
+    requires { ⌜ VariationLimits (now image) stride count ⌝ }
+    ensures { λ r. ⌜ pos r ≡ total count (λ j. abs (fallAt (now (image .entry)) stride j)) ⌝ }
+{
+    let mut sum = 0;
+    let mut j = 0;
+    while j < count {
+        sum += pair::variation(image[j], image[j + stride]);
+        j += 1;
+    }
+    sum
+}
+
+// The sum of the pairs' numbers times their falls.
+pub fn total_work(flow: &[i32], image: &[i32], stride: usize) -> i64
+    requires { ⌜ FallLimits (now flow) (now image) stride ⌝ }
+    ensures { λ r. ⌜ r ≡ total (length (now (flow .entry))) (λ j. at (now (flow .entry)) j *ℤ (fallAt (now (image .entry)) stride j)) ⌝ }
+{
+    let mut sum = 0;
+    let mut j = 0;
+    while j < flow.len() {
+        sum = signed::add_wide(sum, pair::product(flow[j], image[j], image[j + stride]));
+        j += 1;
+    }
+    sum
+}

@@ -1,0 +1,3 @@
+-- Laws of one pixel or pair.
+--     Readings    a reading's size
+pub mod Readings

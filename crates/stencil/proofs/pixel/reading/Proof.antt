@@ -1,0 +1,21 @@
+-- `raster::leaf::reading` meets its contract. Assumes nothing.
+use mathlib.Core.Path.{_∙_}
+use borrow.Author.Needs.{needs}
+use mir.Syntax.{w32}
+use Rattle.model.specs.Grid.{readingOf}
+use Rattle.integers.proofs.Machine.{read}
+use Rattle.stencil.proofs.pixel.reading.Statement.{statement}
+use Rattle.stencil.proofs.pixel.reading.Tie as tie
+
+mul-natural : tie.Need-mul-natural
+mul-natural c = search needs
+
+natural-requires : tie.Need-natural-requires
+natural-requires c κs = search needs
+
+returns : tie.Need-returns
+unfolding readingOf
+returns c = read w32 (c .natural .ok) ∙ c .natural .ensures
+
+pub reading-spec : {M : Type 1} → statement M
+reading-spec = tie.close (tie.spec mul-natural natural-requires returns)
