@@ -19,13 +19,13 @@ use Rattle.model.specs.Grid.{sizeAllowed}
 use Rattle.model.specs.Verdict.{left}
 use Rattle.model.specs.Calls.{Answer, refusal, pixelsOf, pairsOf, imageOf, checkVerdict, checkAnswer, checkImage, runVerdict, runAnswer, runImage}
 use Rattle.model.specs.Tape.{Progress, Parse, turned, whole, parse, ReadAnswer, readOf, readAnswer, readSamples, readFlow}
-use Rattle.tape.specs.declared.reading.ReadResult.{ReadResult}
-use Rattle.tape.specs.Answers.{readAnswerOf}
+use Rattle.tape_read.specs.declared.reading.ReadResult.{ReadResult}
+use Rattle.tape_read.specs.Answers.{readAnswerOf}
 use Rattle.model.specs.Program.{refusalText, jobAnswer, jobImage, answerText, readText}
 use Rattle.model.proofs.Lists.{length-table}
 use Rattle.terms.proofs.Size.{allowed-size}
-use Rattle.tape.proofs.Accepted.{accepted-job}
-use Rattle.tape.proofs.Judged.{accepted-parse, passed-parse, answer-by, samples-by, flow-by}
+use Rattle.roundtrip.proofs.Accepted.{accepted-job}
+use Rattle.roundtrip.proofs.Judged.{accepted-parse, passed-parse, answer-by, samples-by, flow-by}
 use Rattle.job.specs.Tables.{Tables, answerIn, imageFront, flowIn, imageIn, workIn}
 use Rattle.job.specs.Cleaned.{Room, flowLeft, imageLeft, workLeft}
 use Rattle.job.proofs.Formers.{checkText, same-check, runText, same-run}

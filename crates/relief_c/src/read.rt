@@ -2,12 +2,12 @@
 
 use model::Rounds;
 use model::Terms;
-use tape::ReadResult;
-use tape::read;
+use tape_read::ReadResult;
+use tape_read::read;
 ghost use mathlib.Core.Path.{_≡_};
 ghost use mathlib.Core.Bool.{cond};
 ghost use Rattle.model.specs.Tape.{readAnswer, readSamples, readFlow};
-ghost use Rattle.tape.specs.Answers.{readAnswerOf};
+ghost use Rattle.tape_read.specs.Answers.{readAnswerOf};
 
 // What read gives as plain numbers: a job's terms, or zeros beside a refusal.
 pub struct Job {
@@ -38,7 +38,7 @@ fn job_of(a: ReadResult) -> Job
             flowed,
         },
         ReadResult::Refused { number, place } => {
-            let none = tape::fresh();
+            let none = records::tally::fresh();
             let terms = none.terms;
             let rounds = none.rounds;
             Job {

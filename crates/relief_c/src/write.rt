@@ -2,11 +2,11 @@
 
 use model::Rounds;
 use model::Terms;
-use tape::WriteResult;
-use tape::write;
+use tape_write::WriteResult;
+use tape_write::write;
 ghost use mathlib.Core.Path.{_≡_};
 ghost use Rattle.model.specs.Tape.{writeAnswer, writeOutput};
-ghost use Rattle.tape.specs.Answers.{writeAnswerOf};
+ghost use Rattle.tape_write.specs.Answers.{writeAnswerOf};
 ghost use Rattle.relief_c.specs.Plain.{termsOf, roundsOf};
 
 // What write gives as plain numbers.

@@ -7,7 +7,7 @@ use lib.Seq.{length-take-le}
 use Rattle.model.specs.Program.{answerText}
 use Rattle.calls.specs.Answers.{answerOf}
 use Rattle.output.proofs.Laid.{put-as}
-use Rattle.tape.specs.Answers.{readAnswerOf}
+use Rattle.tape_read.specs.Answers.{readAnswerOf}
 use Rattle.job.proofs.Texts.{Taken, taken, refused-text, refused-keeps, refused-flow, allowed, tables, enough, read-text, flow-left, image-left, work-left}
 use borrow.Author.Needs.{needs}
 use Rattle.job.proofs.clean.clean.Statement.{statement}

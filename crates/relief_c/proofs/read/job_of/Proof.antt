@@ -1,7 +1,7 @@
 -- `relief_c::read::job_of` meets its contract. Assumes nothing.
 use mathlib.Core.Path.{sym, ap, _∙_}
-use Rattle.tape.specs.declared.tally.Tally.{Tally}
-use Rattle.tape.specs.Answers.{readAnswerOf}
+use Rattle.records.specs.declared.tally.Tally.{Tally}
+use Rattle.tape_read.specs.Answers.{readAnswerOf}
 use Rattle.relief_c.proofs.Says.{parts}
 use borrow.Author.Needs.{needs}
 use Rattle.relief_c.proofs.read.job_of.Statement.{statement}

@@ -1,0 +1,47 @@
+-- The rows of a record, as the code goes down them. Assumes nothing.
+use mathlib.Core.Path.{_≡_, refl, ap, _∙_}
+use mathlib.Core.Bool.{Bool, true, false, not, cond}
+use mathlib.Core.List.{List}
+use Prim.Native.Nat.{ℕ, _≤_, _<_}
+use lib.ListN.{length, getD}
+use borrow.Author.Tests.{le-leb, lt-leb}
+use Rattle.model.specs.declared.Verdict.{Verdict}
+use Rattle.model.specs.Verdict.{firstRefusal}
+use Rattle.model.specs.Tape.{known, bodyLength, recordRows}
+use Rattle.model.proofs.Refusals.{refused, passed}
+use Rattle.records.specs.declared.record.Form.{Form}
+use Rattle.records.specs.Record.{formOf, bodyRows}
+
+-- what a form says of its kind
+pub form-unknown : (kind : ℕ) (ok : Bool) → formOf kind ok ≡ Form.Unknown → known kind ≡ false
+form-unknown kind ok h = go (known kind) h
+  where
+    go : (k : Bool) → cond k (Form.Body (bodyLength kind) ok) Form.Unknown ≡ Form.Unknown → k ≡ false
+    go true e = cc
+    go false e = refl
+
+pub form-known : (kind : ℕ) (ok : Bool) {b : ℕ} {a : Bool} → formOf kind ok ≡ Form.Body b a →
+    (known kind ≡ true) × (b ≡ bodyLength kind) × (a ≡ ok)
+form-known kind ok {b} {a} h = go (known kind) h
+  where
+    go : (k : Bool) → cond k (Form.Body (bodyLength kind) ok) Form.Unknown ≡ Form.Body b a →
+        (k ≡ true) × (b ≡ bodyLength kind) × (a ≡ ok)
+    go true e = (refl, cc, cc)
+    go false e = (cc, cc, cc)
+
+module _ (tape : List ℕ) (o : ℕ) (may : ℕ → Bool) where
+  -- the input ends where a record is due
+  pub ended : length tape ≤ o → firstRefusal (recordRows tape o may) ≡ Verdict.Refuse 13 (length tape)
+  unfolding recordRows
+  ended h = refused _ _ (le-leb (length tape) o h)
+
+  module _ (h : o < length tape) where
+    pub unknown-kind : known (getD tape o 0) ≡ false → firstRefusal (recordRows tape o may) ≡ Verdict.Refuse 12 o
+    unfolding recordRows
+    unknown-kind k = passed _ _ (lt-leb (length tape) o h) ∙ refused _ _ (ap not k)
+
+    pub known-kind : known (getD tape o 0) ≡ true →
+        firstRefusal (recordRows tape o may)
+        ≡ firstRefusal (bodyRows (length tape) o (getD tape o 0) (bodyLength (getD tape o 0)) (may (getD tape o 0)))
+    unfolding recordRows
+    known-kind k = passed _ _ (lt-leb (length tape) o h) ∙ passed _ _ (ap not k)

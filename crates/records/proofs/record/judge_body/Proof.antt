@@ -1,0 +1,55 @@
+-- `tape::record::judge_body` meets its contract: it goes down the rows. Assumes nothing.
+use mathlib.Core.Path.{_≡_, sym, _∙_}
+use mathlib.Core.Bool.{true, false}
+use Prim.Native.Nat.{_+_}
+use native.Mathlib.Omega.{arith}
+use borrow.Author.Needs.{needs}
+use borrow.Author.Tests.{lt-ltb, le-ltb}
+use lib.Dec.{ltb}
+use Rattle.model.proofs.Refusals.{accepted, refused, passed}
+use Rattle.records.proofs.record.judge_body.Statement.{statement}
+use Rattle.records.proofs.record.judge_body.Tie as tie
+
+add-next : tie.Need-add-next
+add-next c = search needs
+
+returns : tie.Need-returns
+returns c = sym (refused _ _ (c .if1 .taken))
+
+sub-if2 : tie.Need-sub-if2
+sub-if2 c = search needs
+
+short : (c : tie.Then2) → let a = c .before .before .args in ltb (a .len) (a .at + 1 + a .body) ≡ true
+short c = let a = c .before .before .args in lt-ltb (a .len) (a .at + 1 + a .body) (omega arith)
+
+returns-2 : tie.Need-returns-2
+returns-2 c = sym (passed _ _ (c .before .if1 .left) ∙ refused _ _ (short c))
+
+long : (c : tie.Else2) → let a = c .before .before .args in ltb (a .len) (a .at + 1 + a .body) ≡ false
+long c = let a = c .before .before .args in le-ltb (a .len) (a .at + 1 + a .body) (omega arith)
+
+returns-3 : tie.Need-returns-3
+returns-3 c =
+    sym
+    (passed _ _ (c .before .before .if1 .left)
+    ∙ passed _ _ (long (c .before))
+    ∙ refused _ _ (c .if3 .taken))
+
+returns-4 : tie.Need-returns-4
+returns-4 c =
+    sym
+    (passed _ _ (c .before .before .if1 .left)
+    ∙ passed _ _ (long (c .before))
+    ∙ passed _ _ (c .if3 .left)
+    ∙ accepted)
+
+pub judge-body-spec : {M : Type 1} → statement M
+judge-body-spec =
+    tie.close
+    (tie.spec
+    add-next
+    returns
+    sub-if2
+    returns-2
+    returns-3
+    returns-4)

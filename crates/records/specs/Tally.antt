@@ -1,0 +1,23 @@
+-- What has been read so far, as the code counts it: the model's progress with a number for each list.
+use mathlib.Core.Bool.{Bool}
+use Prim.Native.Nat.{ℕ}
+use lib.ListN.{length}
+use Rattle.model.specs.Calls.{pixelsOf, pairsOf}
+use Rattle.model.specs.Tape.{Progress, allowedAfter}
+use Rattle.records.specs.declared.tally.Tally.{Tally}
+
+abbrev pub tallyOf : Progress → Tally
+tallyOf p =
+    record {
+      header = p .header;
+      terms = p .terms;
+      rounds = p .rounds;
+      pixels = pixelsOf (p .terms);
+      pairs = pairsOf (p .terms);
+      samples = length (p .samples);
+      flows = length (p .flow);
+    }
+
+-- which kinds are allowed next
+abbrev pub may : Tally → ℕ → Bool
+may t = allowedAfter (t .header) (t .samples) (t .pixels) (t .flows) (t .pairs)

@@ -1,0 +1,152 @@
+// One record of the tape: its kind's form, its judgement, its numbers.
+
+use crate::bytes::four_at;
+use crate::bytes::two_at;
+use crate::tally::Tally;
+use model::Entry;
+use model::Verdict;
+ghost use mathlib.Core.Path.{_≡_};
+ghost use Prim.Native.Nat.{_+_, _≤_, _<_};
+ghost use lib.ListN.{length, getD};
+ghost use Rattle.model.specs.Verdict.{firstRefusal};
+ghost use Rattle.model.specs.Tape.{bodyLength, decoded};
+ghost use Rattle.records.specs.Tally.{may};
+ghost use Rattle.records.specs.Record.{formOf, bodyRows, wholeAt, gotAt};
+
+// What a kind byte gives: the length of the body, and whether the record is allowed here.
+pub enum Form {
+    Unknown,
+    Body { body: usize, allowed: bool },
+}
+
+// Order: 1, 2, 3, all samples, then all flow numbers or none, then 0.
+pub fn form_of(kind: u8, t: Tally) -> Form
+    ensures { λ r. ⌜ r ≡ formOf kind (may t kind) ⌝ }
+{
+    let sampled = (t.header == 3) & (t.samples == t.pixels);
+    match kind {
+        0 => Form::Body {
+            body: 0,
+            allowed: sampled & ((t.flows == 0) | (t.flows == t.pairs)),
+        },
+        1 => Form::Body {
+            body: 4,
+            allowed: t.header == 0,
+        },
+        2 => Form::Body {
+            body: 4,
+            allowed: t.header == 1,
+        },
+        3 => Form::Body {
+            body: 4,
+            allowed: t.header == 2,
+        },
+        4 => Form::Body {
+            body: 1,
+            allowed: (t.header == 3) & (t.samples < t.pixels),
+        },
+        5 => Form::Body {
+            body: 4,
+            allowed: sampled & (t.flows < t.pairs),
+        },
+        _ => Form::Unknown,
+    }
+}
+
+// The rows of a record whose kind is known: 14, 13, 15.
+fn judge_body(len: usize, at: usize, kind: u8, body: usize, allowed: bool) -> Verdict
+    requires { ⌜ at < len ⌝ }
+    ensures { λ r. ⌜ r ≡ firstRefusal (bodyRows len at kind body allowed) ⌝ }
+{
+    let next = at + 1;
+    if !allowed {
+        return Verdict::Refuse {
+            number: 14,
+            place: at,
+        };
+    }
+    if len - next < body {
+        return Verdict::Refuse {
+            number: 13,
+            place: len,
+        };
+    }
+    let followed = (kind == 0) & (next < len);
+    if followed {
+        return Verdict::Refuse {
+            number: 15,
+            place: next,
+        };
+    }
+    Verdict::Accept
+}
+
+// The numbers of the record at an offset, whose body is whole.
+pub fn decode(tape: &[u8], at: usize) -> Entry
+    requires { ⌜ at + 1 + bodyLength (getD (now tape) at 0) ≤ length (now tape) ⌝ }
+    ensures { λ r. ⌜ r ≡ decoded (getD (now (tape .entry)) at 0) (λ i. getD (now (tape .entry)) (at + 1 + i) 0) ⌝ }
+{
+    let kind = tape[at];
+    let body = at + 1;
+    match kind {
+        1 => Entry::Size {
+            width: two_at(tape, body),
+            height: two_at(tape, body + 2),
+        },
+        2 => Entry::WeightBox {
+            weight: two_at(tape, body),
+            low: tape[body + 2],
+            high: tape[body + 3],
+        },
+        3 => Entry::RoundLimits {
+            quick: two_at(tape, body),
+            allowance: two_at(tape, body + 2) as u16,
+        },
+        4 => Entry::Sample { code: tape[body] },
+        5 => Entry::Flow {
+            value: four_at(tape, body),
+        },
+        _ => Entry::End,
+    }
+}
+
+// Where the next record begins.
+pub struct Cursor {
+    pub at: usize,
+}
+
+// What reading a record gives: the record, with the cursor beside it; or a refusal with its offset.
+pub enum Got {
+    Record(Entry, Cursor),
+    Refused(u32, usize),
+}
+
+// The record at an offset, whose kind is known.
+fn whole_record(tape: &[u8], at: usize, body: usize, allowed: bool) -> Got
+    requires { ⌜ (at < length (now tape)) × (body ≡ bodyLength (getD (now tape) at 0)) ⌝ }
+    ensures { λ r. ⌜ r ≡ wholeAt (now (tape .entry)) at allowed ⌝ }
+{
+    let kind = tape[at];
+    let v = judge_body(tape.len(), at, kind, body, allowed);
+    match v {
+        Verdict::Refuse { number, place } => Got::Refused(number, place),
+        Verdict::Accept => {
+            let e = decode(tape, at);
+            Got::Record(e, Cursor { at: at + 1 + body })
+        }
+    }
+}
+
+// The record at an offset of the tape.
+pub fn next_record(tape: &[u8], at: usize, t: Tally) -> Got
+    ensures { λ r. ⌜ r ≡ gotAt (now (tape .entry)) at t ⌝ }
+{
+    if tape.len() <= at {
+        return Got::Refused(13, tape.len());
+    }
+    let f = form_of(tape[at], t);
+    match f {
+        Form::Unknown => Got::Refused(12, at),
+        Form::Body { body, allowed } => whole_record(tape, at, body, allowed),
+    }
+}

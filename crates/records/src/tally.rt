@@ -1,0 +1,45 @@
+// What has been read of a tape so far, in counts.
+
+use model::Rounds;
+use model::Terms;
+ghost use mathlib.Core.Path.{_≡_};
+ghost use Rattle.model.specs.Tape.{nothing};
+ghost use Rattle.records.specs.Tally.{tallyOf};
+
+// How many of the records 1, 2, 3 (the header), their numbers, the counts that the size gives,
+// and how many samples and flow numbers.
+pub struct Tally {
+    pub header: u32,
+    pub terms: Terms,
+    pub rounds: Rounds,
+    pub pixels: usize,
+    pub pairs: usize,
+    pub samples: usize,
+    pub flows: usize,
+}
+
+// Nothing has been read.
+pub fn fresh() -> Tally
+    ensures { λ r. ⌜ r ≡ tallyOf nothing ⌝ }
+{
+    let terms = Terms {
+        width: 0,
+        height: 0,
+        weight: 0,
+        low: 0,
+        high: 0,
+    };
+    let rounds = Rounds {
+        quick: 0,
+        allowance: 0,
+    };
+    Tally {
+        header: 0,
+        terms,
+        rounds,
+        pixels: 0,
+        pairs: 0,
+        samples: 0,
+        flows: 0,
+    }
+}

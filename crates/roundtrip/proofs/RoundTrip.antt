@@ -1,0 +1,253 @@
+-- Writing and reading undo each other. Assumes nothing.
+use mathlib.Core.Path.{_≡_, refl, sym, ap, ap₂, _∙_, subst}
+use mathlib.Core.Bool.{Bool, true, false, not, _&&_, _||_, cond, true≢false, or-true, and-false}
+use mathlib.Core.Logic.{_⊎_, inl, inr, ⊎-elim}
+use mathlib.Core.List.{List, []}
+use Prim.Native.Nat.{ℕ, zero, suc, _+_, _*_, _^_, _≤_, _<_}
+use native.Mathlib.Omega.{arith}
+use lib.Dec.{eqb, ltb}
+use lib.IntN.{ℤ, pos, negsuc, natAbs}
+use lib.ListN.{length, getD, take, drop}
+use lib.Seq.{length-take-le, take-suc, take-length, take-at, take-append-seam}
+use mir.Syntax.{w32}
+use mir.Val.{SFits}
+use borrow.Author.Tests.{lt-ltb, le-ltb, ltb-false, leb-true, eq-eqb, eqb-true, eqb-false}
+use Rattle.model.specs.declared.Terms.{Terms}
+use Rattle.model.specs.declared.Rounds.{Rounds}
+use Rattle.model.specs.declared.Verdict.{Verdict}
+use Rattle.model.specs.declared.Entry.the-variants.{End, Size, WeightBox, RoundLimits, Sample, Flow}
+use Rattle.model.specs.Lists.{at, overwritten}
+use Rattle.model.specs.Grid.{weightAllowed}
+use Rattle.model.specs.Verdict.{firstRefusal}
+use Rattle.model.specs.Calls.{pixelsOf, pairsOf, firstBeyond}
+use Rattle.model.specs.Tape.{Progress, nothing, allowedAfter, Parse, whole, parseFrom, ReadAnswer, readAnswer, readSamples, readFlow, tapeOf, writeRows, WriteAnswer, writeAnswer, writeOutput}
+use Rattle.model.proofs.Lists.{firstWhere-first}
+use Rattle.model.proofs.Refusals.{accepted, passed}
+use Rattle.terms.proofs.Size.{allowed-size}
+use Rattle.steps.specs.declared.Lent.{Lent}
+use Rattle.roundtrip.proofs.Offsets.{tape-length, sample-here, flow-here, end-here, header-here}
+use Rattle.roundtrip.proofs.WriteRows.{Writable, accepted-write, accepted-answer, written-answer, written-output}
+use Rattle.roundtrip.proofs.Accepted.{Job, accepted-job}
+use Rattle.roundtrip.proofs.Judged.{accepted-parse, passed-parse, whole-parse, answer-by, samples-by, flow-by}
+use Rattle.roundtrip.proofs.Walk.{walk-on, walk-end}
+
+-- the flow's length is 0, or one number a pair
+either : {m n : ℕ} → (not (eqb m 0) && not (eqb m n)) ≡ false → (m ≡ 0) ⊎ (m ≡ n)
+either {m} {n} h = go (eqb m 0) (eqb m n) refl refl h
+  where
+    go : (a b : Bool) → eqb m 0 ≡ a → eqb m n ≡ b → (not a && not b) ≡ false → (m ≡ 0) ⊎ (m ≡ n)
+    go true b e g k = inl (eqb-true m 0 e)
+    go false true e g k = inr (eqb-true m n g)
+    go false false e g k = absurd (true≢false k)
+
+small-fits : (z : ℤ) → natAbs z < 2 ^ 31 → SFits w32 z
+small-fits (pos n) h = record { sfits = h }
+small-fits (negsuc n) h = record { sfits = omega arith }
+
+-- ---- a job that write accepts reads back as that job
+
+module _ (t : Terms) (r : Rounds) (s : List ℕ) (f : List ℤ) (room : ℕ) (w : Writable t r s f room) (small : r .allowance < 65536)
+    (lent : Lent) (long : (pixelsOf t ≤ lent .samples) × (pairsOf t ≤ lent .flow)) where
+  abbrev tape : List ℕ
+  tape = tapeOf t r s f
+
+  -- what has been read after the header, some samples and some numbers
+  abbrev after : List ℕ → List ℤ → Progress
+  after read numbers = record { header = 3; terms = t; rounds = r; samples = read; flow = numbers }
+
+  abbrev from : ℕ → ℕ → Progress → Parse
+  from k o p = parseFrom k tape (lent .samples) (lent .flow) o p
+
+  header-read : (k : ℕ) → from (suc (suc (suc k))) 0 nothing ≡ from k 15 (after [] [])
+  unfolding allowedAfter weightAllowed
+  header-read k =
+      let here = header-here t r s f in
+      let size = allowed-size (w .terms .size) in
+      walk-on tape lent (suc (suc k)) 0 nothing (Size (t .width) (t .height)) _ (here .0) refl
+      (passed _ _ (ap not (w .terms .size)) ∙ passed _ _ (ap₂ _||_ (le-ltb _ _ (long .0)) (le-ltb _ _ (long .1))) ∙ accepted)
+      (omega (arith, size), omega (arith, size)) (λ z. absurd (omega arith))
+      ∙ walk-on tape lent (suc k) 5 _ (WeightBox (t .weight) (t .low) (t .high)) _ (here .1) refl
+      (passed _ _ (ap not (w .terms .weight)) ∙ passed _ _ (ap not (w .terms .box)) ∙ accepted)
+      (omega (arith, leb-true (t .weight) 65280 (w .terms .weight))) (λ z. absurd (omega arith))
+      ∙ walk-on tape lent k 10 _ (RoundLimits (r .quick) (r .allowance)) _ (here .2) refl
+      (passed _ _ (w .rounds) ∙ accepted)
+      (omega (arith, ltb-false 4096 (r .quick) (w .rounds)), small) (λ z. absurd (omega arith))
+
+  samples-read : (d i k : ℕ) → i + d ≡ length s → from (d + k) (15 + i * 2) (after (take i s) []) ≡ from k (15 + length s * 2) (after s [])
+  unfolding allowedAfter
+  samples-read zero i k e =
+      let n : i ≡ length s = omega arith in
+      ap₂ (λ (o : ℕ) (read : List ℕ). from (zero + k) o (after read [])) (ap (λ (j : ℕ). 15 + j * 2) n) (ap (λ (j : ℕ). take j s) n ∙ take-length s)
+      ∙ ap (λ (m : ℕ). from m (15 + length s * 2) (after s [])) (omega arith)
+  samples-read (suc d) i k e =
+      let l : i < length s = omega arith in
+      let (rest, here) = sample-here t r s f i l in
+      let n : length (take i s) ≡ i = length-take-le i s (omega arith) in
+      let less : ltb (length (take i s)) (pixelsOf t) ≡ true = lt-ltb (length (take i s)) (pixelsOf t) (omega (arith, w .samplesFit)) in
+      ap (λ (m : ℕ). from m (15 + i * 2) (after (take i s) [])) (omega arith)
+      ∙ walk-on tape lent (d + k) (15 + i * 2) (after (take i s) []) (Sample (getD s i 0)) rest here less accepted tt (λ z. absurd (omega arith))
+      ∙ ap₂ (λ (o : ℕ) (read : List ℕ). from (d + k) o (after read [])) (omega arith) (sym (take-suc s i 0 l))
+      ∙ samples-read d (suc i) k (omega arith)
+
+  numbers-fit : (j : ℕ) → j < length f → SFits w32 (at f j)
+  unfolding firstBeyond weightAllowed
+  numbers-fit j l =
+      let first = firstWhere-first (length f) (λ i. ltb (t .weight) (natAbs (at f i))) in
+      let not-beyond = first .before j (omega (arith, w .within)) in
+      small-fits (at f j)
+      (omega (arith, ltb-false (t .weight) (natAbs (at f j)) not-beyond, leb-true (t .weight) 65280 (w .terms .weight)))
+
+  all-sampled : (eqb (length s) (pixelsOf t)) ≡ true
+  all-sampled = eq-eqb (length s) (pixelsOf t) (w .samplesFit)
+
+  flow-read : (d j k : ℕ) → j + d ≡ length f →
+      from (d + k) (15 + (length s * 2 + j * 5)) (after s (take j f)) ≡ from k (15 + (length s * 2 + length f * 5)) (after s f)
+  unfolding allowedAfter
+  flow-read zero j k e =
+      let n : j ≡ length f = omega arith in
+      ap₂ (λ (o : ℕ) (numbers : List ℤ). from (zero + k) o (after s numbers)) (ap (λ (i : ℕ). 15 + (length s * 2 + i * 5)) n) (ap (λ (i : ℕ). take i f) n ∙ take-length f)
+      ∙ ap (λ (m : ℕ). from m (15 + (length s * 2 + length f * 5)) (after s f)) (omega arith)
+  flow-read (suc d) j k e =
+      let l : j < length f = omega arith in
+      let (rest, here) = flow-here t r s f j l in
+      let n : length (take j f) ≡ j = length-take-le j f (omega arith) in
+      let full : length f ≡ pairsOf t = ⊎-elim (λ (z : length f ≡ 0). absurd (omega arith)) (λ (g : length f ≡ pairsOf t). g) (either (w .flowFits)) in
+      let less : (eqb (length s) (pixelsOf t) && ltb (length (take j f)) (pairsOf t)) ≡ true =
+      ap₂ _&&_ all-sampled (lt-ltb (length (take j f)) (pairsOf t) (omega arith)) in
+      ap (λ (m : ℕ). from m (15 + (length s * 2 + j * 5)) (after s (take j f))) (omega arith)
+      ∙ walk-on tape lent (d + k) (15 + (length s * 2 + j * 5)) (after s (take j f)) (Flow (at f j)) rest here less accepted (numbers-fit j l) (λ z. absurd (omega arith))
+      ∙ ap₂ (λ (o : ℕ) (numbers : List ℤ). from (d + k) o (after s numbers)) (omega arith) (sym (take-suc f j (pos 0) l))
+      ∙ flow-read d (suc j) k (omega arith)
+
+  end-read : (k : ℕ) → from (suc k) (15 + (length s * 2 + length f * 5)) (after s f) ≡ whole (after s f)
+  unfolding allowedAfter
+  end-read k =
+      let o : ℕ = 15 + (length s * 2 + (length f * 5 + 0)) in
+      let may : (eqb (length s) (pixelsOf t) && (eqb (length f) 0 || eqb (length f) (pairsOf t))) ≡ true = ap₂ _&&_ all-sampled whole-flow in
+      ap (λ (n : ℕ). from (suc k) n (after s f)) (omega arith)
+      ∙ walk-end tape lent k o (after s f) End [] (end-here t r s f) may accepted tt refl refl
+    where
+      whole-flow : (eqb (length f) 0 || eqb (length f) (pairsOf t)) ≡ true
+      whole-flow =
+          ⊎-elim
+          (λ (z : length f ≡ 0). ap (λ (b : Bool). b || eqb (length f) (pairsOf t)) (eq-eqb (length f) 0 z))
+          (λ (g : length f ≡ pairsOf t). ap (λ (b : Bool). eqb (length f) 0 || b) (eq-eqb (length f) (pairsOf t) g) ∙ or-true (eqb (length f) 0))
+          (either (w .flowFits))
+
+  pub reads-back : parseFrom (suc (length tape)) tape (lent .samples) (lent .flow) 0 nothing ≡ whole (after s f)
+  reads-back =
+      let spare : ℕ = 13 + length s + 4 * length f in
+      let fuel : suc (length tape) ≡ suc (suc (suc (length s + (length f + suc spare)))) = omega (arith, tape-length t r s f) in
+      ap (λ (n : ℕ). from n 0 nothing) fuel
+      ∙ header-read (length s + (length f + suc spare))
+      ∙ samples-read (length s) 0 (length f + suc spare) (omega arith)
+      ∙ ap (λ (n : ℕ). from (length f + suc spare) n (after s [])) (omega arith)
+      ∙ flow-read (length f) 0 (suc spare) (omega arith)
+      ∙ end-read spare
+
+-- A job that write accepts reads back as that job, into buffers that are long enough. (The allowance is a number of 16 bits
+-- by its type.)
+pub written-reads-back : (t : Terms) (r : Rounds) (s : List ℕ) (f : List ℤ) (output : List ℕ) → r .allowance < 65536 →
+    writeAnswer t r s f output .number ≡ 0 →
+    (samples : List ℕ) (flow : List ℤ) → pixelsOf t ≤ length samples → pairsOf t ≤ length flow →
+    let tape : List ℕ = take (writeAnswer t r s f output .count) (writeOutput t r s f output) in
+    (readAnswer tape samples flow
+    ≡ record { number = 0; place = 0; terms = t; rounds = r; flowed = not (eqb (length f) 0) })
+    × (readSamples tape samples flow ≡ overwritten s samples)
+    × (readFlow tape samples flow ≡ overwritten f flow)
+written-reads-back t r s f output small answer samples flow long broad =
+    let v = accepted-answer t r s f output answer in
+    let w = accepted-write t r s f (length output) v in
+    let count = ap (λ (a : WriteAnswer). a .count) (written-answer t r s f output v) in
+    let same : tapeOf t r s f ≡ take (writeAnswer t r s f output .count) (writeOutput t r s f output) =
+    sym (ap₂ take count (written-output t r s f output v) ∙ take-append-seam (tapeOf t r s f) (drop (length (tapeOf t r s f)) output)) in
+    let lent : Lent = record { samples = length samples; flow = length flow } in
+    let p : Progress = record { header = 3; terms = t; rounds = r; samples = s; flow = f } in
+    let read = whole-parse (tapeOf t r s f) samples flow p (reads-back t r s f (length output) w small lent (long, broad)) (w .within) in
+    subst
+    (λ (tape : List ℕ).
+    (readAnswer tape samples flow ≡ record { number = 0; place = 0; terms = t; rounds = r; flowed = not (eqb (length f) 0) })
+    × (readSamples tape samples flow ≡ overwritten s samples)
+    × (readFlow tape samples flow ≡ overwritten f flow))
+    same
+    (answer-by (tapeOf t r s f) samples flow read, samples-by (tapeOf t r s f) samples flow read, flow-by (tapeOf t r s f) samples flow read)
+
+-- ---- an accepted tape, read and written again, gives its own bytes
+
+-- how many flow numbers an answer tells of
+abbrev pub flowCount : ReadAnswer → ℕ
+flowCount a = cond (a .flowed) (pairsOf (a .terms)) 0
+
+module _ (tape : List ℕ) (byte : (i : ℕ) → getD tape i 0 < 256) (lent : Lent) (p : Progress) (j : Job tape lent byte p)
+    (within : length (p .flow) ≤ firstBeyond (p .terms .weight) (p .flow)) where
+  flow-counted : cond (not (eqb (length (p .flow)) 0)) (pairsOf (p .terms)) 0 ≡ length (p .flow)
+  flow-counted = go (eqb (length (p .flow)) 0) refl (j .flow)
+    where
+      go : (b : Bool) → eqb (length (p .flow)) 0 ≡ b → (length (p .flow) ≡ 0) ⊎ (length (p .flow) ≡ pairsOf (p .terms)) →
+          cond (not b) (pairsOf (p .terms)) 0 ≡ length (p .flow)
+      go true e c = sym (eqb-true (length (p .flow)) 0 e)
+      go false e c =
+          ⊎-elim (λ (z : length (p .flow) ≡ 0). absurd (eqb-false (length (p .flow)) 0 e z)) (λ (g : length (p .flow) ≡ pairsOf (p .terms)). sym g) c
+
+  flow-accepted : (not (eqb (length (p .flow)) 0) && not (eqb (length (p .flow)) (pairsOf (p .terms)))) ≡ false
+  flow-accepted =
+      ⊎-elim
+      (λ (z : length (p .flow) ≡ 0). ap (λ (b : Bool). not b && not (eqb (length (p .flow)) (pairsOf (p .terms)))) (eq-eqb (length (p .flow)) 0 z))
+      (λ (g : length (p .flow) ≡ pairsOf (p .terms)). ap (λ (b : Bool). not (eqb (length (p .flow)) 0) && not b) (eq-eqb (length (p .flow)) (pairsOf (p .terms)) g) ∙ and-false (not (eqb (length (p .flow)) 0)))
+      (j .flow)
+
+  -- write accepts the job
+  writes : (room : ℕ) → length tape ≤ room → firstRefusal (writeRows (p .terms) (p .rounds) (p .samples) (p .flow) room) ≡ Verdict.Accept
+  writes room l =
+      let size = j .sound .size (omega (arith, j .complete)) in
+      let weight = j .sound .weight (omega (arith, j .complete)) in
+      let long : length (tapeOf (p .terms) (p .rounds) (p .samples) (p .flow)) ≤ room = omega (arith, ap length (j .bytes)) in
+      passed _ _ (ap not (size .0))
+      ∙ passed _ _ (ap not (weight .0))
+      ∙ passed _ _ (ap not (weight .1))
+      ∙ passed _ _ (j .sound .rounds (omega (arith, j .complete)))
+      ∙ passed _ _ (ap not (eq-eqb (length (p .samples)) (pixelsOf (p .terms)) (j .samples)))
+      ∙ passed _ _ flow-accepted
+      ∙ passed _ _ (le-ltb room (length (tapeOf (p .terms) (p .rounds) (p .samples) (p .flow))) long)
+      ∙ passed _ _ (le-ltb (firstBeyond (p .terms .weight) (p .flow)) (length (p .flow)) within)
+      ∙ accepted
+
+  pub rewritten : (output : List ℕ) → length tape ≤ length output →
+      (writeAnswer (p .terms) (p .rounds) (p .samples) (p .flow) output ≡ record { number = 0; place = 0; count = length tape })
+      × (writeOutput (p .terms) (p .rounds) (p .samples) (p .flow) output ≡ overwritten tape output)
+  rewritten output l =
+      let v = writes (length output) l in (
+        written-answer (p .terms) (p .rounds) (p .samples) (p .flow) output v
+            ∙ ap (λ (bytes : List ℕ). record { number = 0; place = 0; count = length bytes }) (sym (j .bytes)),
+        written-output (p .terms) (p .rounds) (p .samples) (p .flow) output v
+            ∙ ap (λ (bytes : List ℕ). overwritten bytes output) (sym (j .bytes)),
+      )
+
+-- A tape of bytes that read accepts is given back by write, for the terms, the samples and the flow as they were read, into
+-- an output that is long enough
+pub read-writes-back : (tape : List ℕ) → ((i : ℕ) → getD tape i 0 < 256) →
+    (samples : List ℕ) (flow : List ℤ) → readAnswer tape samples flow .number ≡ 0 →
+    (output : List ℕ) → length tape ≤ length output →
+    let a : ReadAnswer = readAnswer tape samples flow in
+    let s : List ℕ = take (pixelsOf (a .terms)) (readSamples tape samples flow) in
+    let f : List ℤ = take (flowCount a) (readFlow tape samples flow) in
+    (writeAnswer (a .terms) (a .rounds) s f output ≡ record { number = 0; place = 0; count = length tape })
+    × (writeOutput (a .terms) (a .rounds) s f output ≡ overwritten tape output)
+read-writes-back tape byte samples flow number output l =
+    let (p, e) = accepted-parse tape samples flow number in
+    let (all-read, within) = passed-parse tape samples flow p e in
+    let lent : Lent = record { samples = length samples; flow = length flow } in
+    let j : Job tape lent byte p = accepted-job tape lent byte p all-read in
+    let answer = answer-by tape samples flow e in
+    let codes : take (pixelsOf (readAnswer tape samples flow .terms)) (readSamples tape samples flow) ≡ p .samples =
+    ap₂ (λ (a : ReadAnswer) (b : List ℕ). take (pixelsOf (a .terms)) b) answer (samples-by tape samples flow e)
+    ∙ take-at (p .samples) (drop (length (p .samples)) samples) (pixelsOf (p .terms)) (j .samples) in
+    let numbers : take (flowCount (readAnswer tape samples flow)) (readFlow tape samples flow) ≡ p .flow =
+    ap₂ (λ (a : ReadAnswer) (b : List ℤ). take (flowCount a) b) answer (flow-by tape samples flow e)
+    ∙ take-at (p .flow) (drop (length (p .flow)) flow) _ (sym (flow-counted tape byte lent p j within)) in
+    let given = rewritten tape byte lent p j within output l in
+    (same writeAnswer answer codes numbers ∙ given .0, same writeOutput answer codes numbers ∙ given .1)
+  where
+    same : {A : Type 0} (g : Terms → Rounds → List ℕ → List ℤ → List ℕ → A) {a b : ReadAnswer} {s u : List ℕ} {f n : List ℤ} → a ≡ b → s ≡ u → f ≡ n →
+        g (a .terms) (a .rounds) s f output ≡ g (b .terms) (b .rounds) u n output
+    same g x y z = λ i. g (x i .terms) (x i .rounds) (y i) (z i) output

@@ -1,0 +1,92 @@
+-- Reading goes on over a record whose bytes stand at its offset. Assumes nothing.
+use mathlib.Core.Path.{_≡_, refl, sym, ap, ap₂, _∙_}
+use mathlib.Core.Bool.{Bool, true, false, not, _&&_}
+use mathlib.Core.List.{List, _++_}
+use Prim.Native.Nat.{ℕ, zero, suc, _+_, _≤_}
+use native.Mathlib.Omega.{arith}
+use lib.Dec.{eqb, ltb}
+use lib.ListN.{length, getD, drop, length-append, length-drop}
+use borrow.Author.Tests.{lt-leb, le-ltb, ne-eqb}
+use Rattle.model.specs.declared.Verdict.{Verdict}
+use Rattle.model.specs.declared.Entry.{Entry}
+use Rattle.model.specs.declared.Entry.the-variants.{End, Size, WeightBox, RoundLimits, Sample, Flow}
+use Rattle.model.specs.Verdict.{firstRefusal}
+use Rattle.model.specs.Tape.{known, bodyLength, encoded, Progress, allowed, absorbed, recordRows, entryRows, whole, parseFrom}
+use Rattle.model.proofs.Refusals.{accepted, passed}
+use Rattle.steps.specs.declared.Lent.{Lent}
+use Rattle.steps.proofs.Turns.{nextAt, termsVerdict, Passed, unrolled-on, unrolled-end}
+use Rattle.roundtrip.proofs.Entries.{Ranged, kindOf, kind-here, entry-here}
+
+-- the rows of a record accept it
+record-passes : (tape : List ℕ) (o : ℕ) (may : ℕ → Bool) → Passed tape o may → firstRefusal (recordRows tape o may) ≡ Verdict.Accept
+unfolding recordRows
+record-passes tape o may h =
+    passed _ _ (lt-leb (length tape) o (h .inside))
+    ∙ passed _ _ (ap not (h .isKnown))
+    ∙ passed _ _ (ap not (h .isAllowed))
+    ∙ passed _ _ (le-ltb (length tape) (nextAt tape o) (h .fits))
+    ∙ passed _ _ (after (getD tape o 0) (h .last))
+    ∙ accepted
+  where
+    after : (kind : ℕ) → (kind ≡ 0 → length tape ≤ o + 1) → (eqb kind 0 && ltb (o + 1) (length tape)) ≡ false
+    after zero l = le-ltb (o + 1) (length tape) (l refl)
+    after (suc k) l = ap (λ (t : Bool). t && ltb (o + 1) (length tape)) (ne-eqb (suc k) 0 (λ z. absurd (omega arith)))
+
+encoded-size : (e : Entry) → length (encoded e) ≡ suc (bodyLength (kindOf e))
+encoded-size End = refl
+encoded-size (Size w h) = refl
+encoded-size (WeightBox weight low high) = refl
+encoded-size (RoundLimits q a) = refl
+encoded-size (Sample s) = refl
+encoded-size (Flow f) = refl
+
+kind-known : (e : Entry) → known (kindOf e) ≡ true
+kind-known End = refl
+kind-known (Size w h) = refl
+kind-known (WeightBox weight low high) = refl
+kind-known (RoundLimits q a) = refl
+kind-known (Sample s) = refl
+kind-known (Flow f) = refl
+
+module _ (tape : List ℕ) (lent : Lent) (k o : ℕ) (p : Progress) (e : Entry) (rest : List ℕ) (here : drop o tape ≡ encoded e ++ rest)
+    (may : allowed p (kindOf e) ≡ true) (v : firstRefusal (entryRows o (lent .samples) (lent .flow) e) ≡ Verdict.Accept) where
+  kind : getD tape o 0 ≡ kindOf e
+  kind = kind-here tape o e rest here
+
+  next : nextAt tape o ≡ o + length (encoded e)
+  next =
+      let body : bodyLength (getD tape o 0) ≡ bodyLength (kindOf e) = ap bodyLength kind in
+      omega (arith, body, encoded-size e)
+
+  fills : length tape ≡ o + length (encoded e) + length rest
+  fills = omega (arith, length-drop o tape, ap length here, length-append (encoded e) rest, encoded-size e)
+
+  passes : (kindOf e ≡ 0 → length rest ≡ 0) → Passed tape o (allowed p)
+  passes last =
+      record {
+        inside = omega (arith, fills, encoded-size e);
+        isKnown = ap known kind ∙ kind-known e;
+        isAllowed = ap (allowed p) kind ∙ may;
+        fits = omega (arith, fills, next);
+        last = λ z. ends (sym kind ∙ z);
+      }
+    where
+      ends : kindOf e ≡ 0 → length tape ≤ o + 1
+      ends z =
+          let body : bodyLength (kindOf e) ≡ bodyLength 0 = ap bodyLength z in
+          omega (arith, fills, last z, encoded-size e, body)
+
+  module _ (r : Ranged e) where
+    judged : termsVerdict tape lent o ≡ Verdict.Accept
+    judged =
+        ap (λ (x : Entry). firstRefusal (entryRows o (lent .samples) (lent .flow) x)) (entry-here tape o e rest here r) ∙ v
+
+    pub walk-on : ¬ (kindOf e ≡ 0) →
+        parseFrom (suc k) tape (lent .samples) (lent .flow) o p
+        ≡ parseFrom k tape (lent .samples) (lent .flow) (o + length (encoded e)) (absorbed p e)
+    walk-on z =
+        unrolled-on tape lent k o p (record-passes tape o (allowed p) (passes (λ y. absurd (z y)))) judged (λ y. z (sym kind ∙ y))
+        ∙ ap₂ (λ (n : ℕ) (x : Entry). parseFrom k tape (lent .samples) (lent .flow) n (absorbed p x)) next (entry-here tape o e rest here r)
+
+    pub walk-end : kindOf e ≡ 0 → length rest ≡ 0 → parseFrom (suc k) tape (lent .samples) (lent .flow) o p ≡ whole p
+    walk-end z l = unrolled-end tape lent k o p (record-passes tape o (allowed p) (passes (λ _. l))) judged (kind ∙ z)

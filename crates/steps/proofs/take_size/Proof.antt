@@ -1,0 +1,64 @@
+-- `tape::step::take_size` meets its contract. Assumes nothing.
+use mathlib.Core.Path.{_≡_, sym, ap, ap₂, _∙_}
+use mathlib.Core.Bool.{true, not, _||_}
+use Prim.Native.Nat.{ℕ, _*_}
+use borrow.Author.Needs.{needs}
+use borrow.Author.Tests.{not-false}
+use lib.Dec.{ltb}
+use lib.ListN.{length}
+use Rattle.model.specs.declared.Entry.{Entry}
+use Rattle.model.specs.Grid.{sizeAllowed, gridPairs}
+use Rattle.model.specs.Tape.{sized}
+use Rattle.model.proofs.Refusals.{accepted, refused, passed}
+use Rattle.steps.specs.declared.Step.{Step}
+use Rattle.steps.proofs.Rows.{judged-entry}
+use Rattle.steps.proofs.take_size.Statement.{statement}
+use Rattle.steps.proofs.take_size.Tie as tie
+
+size-allowed-requires : tie.Need-size-allowed-requires
+size-allowed-requires c κs = search needs
+
+returns : tie.Need-returns
+returns c =
+    let a = c .before .before .args in
+    judged-entry (a .t) (Entry.Size (a .width) (a .height)) (a .next) (a .at) (a .lent)
+    (refused _ _ (sym (ap not (c .before .size-allowed .ensures)) ∙ c .if1 .taken))
+
+allowed : (c : tie.Else1) → sizeAllowed (c .before .before .args .width) (c .before .before .args .height) ≡ true
+allowed c = sym (c .before .size-allowed .ensures) ∙ not-false _ (c .if1 .left)
+
+pixels-requires : tie.Need-pixels-requires
+pixels-requires c κs = allowed c
+
+pairs-requires : tie.Need-pairs-requires
+pairs-requires c κs = allowed (c .before)
+
+-- whether a buffer is too short
+short : (c : tie.After-pairs) → let a = c .before .before .before .before .args in
+    (ltb (a .lent .samples) (c .before .pixels .result) || ltb (a .lent .flow) (c .pairs .result))
+    ≡ (ltb (a .lent .samples) (a .width * a .height) || ltb (a .lent .flow) (length (gridPairs (a .width) (a .height))))
+short c =
+    let a = c .before .before .before .before .args in
+    ap₂ (λ (m n : ℕ). ltb (a .lent .samples) m || ltb (a .lent .flow) n) (c .before .pixels .ensures) (c .pairs .ensures)
+
+returns-2 : tie.Need-returns-2
+returns-2 c =
+    let s = c .before .before .before in
+    let a = s .before .before .before .before .args in
+    judged-entry (a .t) (Entry.Size (a .width) (a .height)) (a .next) (a .at) (a .lent)
+    (passed _ _ (ap not (allowed (s .before .before))) ∙ refused _ _ (sym (short s) ∙ c .if2 .taken))
+
+returns-3 : tie.Need-returns-3
+returns-3 c =
+    let s = c .before .before .before in
+    let a = s .before .before .before .before .args in
+    ap₂ (λ (m n : ℕ). Step.More
+    (record { header = 1; terms = sized (a .width) (a .height); rounds = a .t .rounds; pixels = m; pairs = n; samples = a .t .samples; flows = a .t .flows })
+    (a .next)) (s .before .pixels .ensures) (s .pairs .ensures)
+    ∙ judged-entry (a .t) (Entry.Size (a .width) (a .height)) (a .next) (a .at) (a .lent)
+    (passed _ _ (ap not (allowed (s .before .before))) ∙ passed _ _ (sym (short s) ∙ c .if2 .left) ∙ accepted)
+
+pub take-size-spec : {M : Type 1} → statement M
+take-size-spec =
+    tie.close
+    (tie.spec size-allowed-requires returns pixels-requires pairs-requires returns-2 returns-3)

@@ -1,0 +1,2 @@
+-- One record taken into the tally.
+pub mod Step

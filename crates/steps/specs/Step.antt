@@ -1,0 +1,89 @@
+-- One record taken into the tally.
+use mathlib.Core.List.{List}
+use Prim.Native.Nat.{ℕ, _+_}
+use Rattle.model.specs.declared.Entry.{Entry}
+use Rattle.model.specs.declared.Entry.the-variants.{End, Size, WeightBox, RoundLimits, Sample, Flow}
+use Rattle.model.specs.Verdict.{firstRefusal, decided}
+use Rattle.model.specs.Calls.{pixelsOf, pairsOf}
+use Rattle.model.specs.Tape.{sized, weighted, entryRows}
+use Rattle.records.specs.declared.tally.Tally.{Tally}
+use Rattle.records.specs.declared.record.Cursor.{Cursor}
+use Rattle.records.specs.declared.record.Got.{Got}
+use Rattle.steps.specs.declared.Lent.{Lent}
+use Rattle.steps.specs.declared.Step.{Step}
+use Rattle.records.specs.Record.{gotAt}
+
+-- what has been read once this record has been, too
+abbrev pub tallied : Tally → Entry → Tally
+tallied t End = t
+tallied t (Size w h) =
+    record {
+      header = 1;
+      terms = sized w h;
+      rounds = t .rounds;
+      pixels = pixelsOf (sized w h);
+      pairs = pairsOf (sized w h);
+      samples = t .samples;
+      flows = t .flows;
+    }
+tallied t (WeightBox weight low high) =
+    record {
+      header = 2;
+      terms = weighted (t .terms) weight low high;
+      rounds = t .rounds;
+      pixels = t .pixels;
+      pairs = t .pairs;
+      samples = t .samples;
+      flows = t .flows;
+    }
+tallied t (RoundLimits q a) =
+    record {
+      header = 3;
+      terms = t .terms;
+      rounds = record { quick = q; allowance = a };
+      pixels = t .pixels;
+      pairs = t .pairs;
+      samples = t .samples;
+      flows = t .flows;
+    }
+tallied t (Sample s) =
+    record {
+      header = t .header;
+      terms = t .terms;
+      rounds = t .rounds;
+      pixels = t .pixels;
+      pairs = t .pairs;
+      samples = t .samples + 1;
+      flows = t .flows;
+    }
+tallied t (Flow f) =
+    record {
+      header = t .header;
+      terms = t .terms;
+      rounds = t .rounds;
+      pixels = t .pixels;
+      pairs = t .pairs;
+      samples = t .samples;
+      flows = t .flows + 1;
+    }
+
+-- the end ends the job; after any other record there is another
+abbrev pub continued : Tally → Entry → Cursor → Step
+continued t End next = Step.Done
+continued t (Size w h) next = Step.More (tallied t (Size w h)) next
+continued t (WeightBox weight low high) next = Step.More (tallied t (WeightBox weight low high)) next
+continued t (RoundLimits q a) next = Step.More (tallied t (RoundLimits q a)) next
+continued t (Sample s) next = Step.More (tallied t (Sample s)) next
+continued t (Flow f) next = Step.More (tallied t (Flow f)) next
+
+-- the record's terms judged, at offset o
+abbrev pub judgedEntry : Tally → Entry → Cursor → ℕ → Lent → Step
+judgedEntry t e next o lent = decided (firstRefusal (entryRows o (lent .samples) (lent .flow) e)) (continued t e next) Step.Refused
+
+abbrev pub taken : Got → ℕ → Tally → Lent → Step
+taken (Got.Refused number place) o t lent = Step.Refused number place
+taken (Got.Record e next) o t lent = judgedEntry t e next o lent
+
+-- the record at offset o
+unfoldable pub stepOf : List ℕ → ℕ → Tally → Lent → Step
+stepOf tape o t lent = taken (gotAt tape o t) o t lent

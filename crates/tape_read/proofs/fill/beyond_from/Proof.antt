@@ -1,0 +1,92 @@
+-- `tape::fill::beyond_from` meets its contract. The loop's invariant: no number before `j` is beyond the weight.
+-- Assumes nothing.
+use mathlib.Core.Path.{_≡_, sym, _∙_, ap}
+use mathlib.Core.Bool.{Bool}
+use mathlib.Core.List.{List}
+use Prim.Native.Nat.{ℕ, _+_, _*_, _-_}
+use native.Mathlib.Omega.{arith}
+use borrow.Author.Needs.{needs}
+use lib.Dec.{ltb}
+use lib.IntN.{ℤ, natAbs}
+use mir.Facts.{toZ-ofZ}
+use Rattle.terms.proofs.Search.{Searched, search-start, search-on, search-found, search-none}
+use Rattle.tape_read.specs.Places.{numberAt}
+use Rattle.tape_read.proofs.fill.beyond_from.Statement.{statement}
+use Rattle.tape_read.proofs.fill.beyond_from.Tie as tie
+
+abbrev test : List ℕ → ℕ → ℕ → ℕ → Bool
+test tape start weight j = ltb weight (natAbs (numberAt tape (start + 5 * j)))
+
+abbrev Inv-loop : tie.InvT-loop
+Inv-loop tape start count weight j₀ j = Searched count (test tape start weight) j
+
+abbrev μ-loop : tie.MeasureT-loop
+μ-loop tape start count weight j₀ j = count - j
+
+loop-holds : tie.Need-loop-holds Inv-loop μ-loop
+loop-holds c = search-start _ _
+
+mul-four-at : tie.Need-mul-four-at Inv-loop μ-loop
+mul-four-at c = omega arith
+
+add-four-at : tie.Need-add-four-at Inv-loop μ-loop
+add-four-at c = omega arith
+
+add-four-at-2 : tie.Need-add-four-at-2 Inv-loop μ-loop
+add-four-at-2 c = omega arith
+
+four-at-requires : tie.Need-four-at-requires Inv-loop μ-loop
+four-at-requires c κs = omega arith
+
+is-beyond-requires : tie.Need-is-beyond-requires Inv-loop μ-loop
+is-beyond-requires c κs = search needs
+
+-- what `is_beyond` answers at `j`
+answer : (c : tie.After-is-beyond Inv-loop μ-loop) → let s = c .before .before .before in let a = s .before .before .args in
+    c .is-beyond .result ≡ test (a .tape .now) (a .start) (a .weight) (s .loop .j)
+answer c =
+    c .is-beyond .ensures
+    ∙ ap (λ (z : ℤ). ltb (c .before .before .before .before .before .args .weight) (natAbs z))
+    (toZ-ofZ (record { sfits = c .before .four-at .ok }) ∙ c .before .four-at .ensures)
+
+returns : tie.Need-returns Inv-loop μ-loop
+returns c =
+    let s = c .before .before .before .before in
+    let a = s .before .before .args in
+    search-found _ (test (a .tape .now) (a .start) (a .weight)) _ (s .loop .inv) (sym (answer (c .before)) ∙ c .if1 .taken)
+
+add-j : tie.Need-add-j Inv-loop μ-loop
+add-j c = omega arith
+
+loop-less : tie.Need-loop-less Inv-loop μ-loop
+loop-less c = omega arith
+
+loop-again : tie.Need-loop-again Inv-loop μ-loop
+loop-again c =
+    let s = c .before .before .before .before in
+    let a = s .before .before .args in
+    search-on _ (test (a .tape .now) (a .start) (a .weight)) _ (s .loop .inv) (c .before .before .before .loop-test .taken)
+    (sym (answer (c .before)) ∙ c .if1 .left)
+
+returns-2 : tie.Need-returns-2 Inv-loop μ-loop
+returns-2 c =
+    let a = c .before .before .before .args in
+    search-none _ (test (a .tape .now) (a .start) (a .weight)) _ (c .before .loop .inv) (c .loop-test .left)
+
+pub beyond-from-spec : {M : Type 1} → statement M
+beyond-from-spec =
+    tie.close
+    (tie.spec
+    Inv-loop
+    μ-loop
+    loop-holds
+    mul-four-at
+    add-four-at
+    add-four-at-2
+    four-at-requires
+    is-beyond-requires
+    returns
+    add-j
+    loop-less
+    loop-again
+    returns-2)

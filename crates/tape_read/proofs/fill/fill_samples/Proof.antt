@@ -1,0 +1,86 @@
+-- `tape::fill::fill_samples` meets its contract. The loop's invariant: the first `i` samples have been laid down.
+-- Assumes nothing.
+use mathlib.Core.Path.{_≡_, refl, ap, _∙_}
+use mathlib.Core.List.{List}
+use Prim.Native.Nat.{ℕ, _+_, _*_, _-_, _≤_, zero-le}
+use native.Mathlib.Omega.{arith}
+use lib.ListN.{length, getD, set}
+use Rattle.model.specs.Lists.{table, overwritten}
+use Rattle.roundtrip.proofs.Sequences.{filled-none, filled-length, filled-more}
+use Rattle.tape_read.proofs.fill.fill_samples.Statement.{statement}
+use Rattle.tape_read.proofs.fill.fill_samples.Tie as tie
+
+abbrev codes : List ℕ → ℕ → ℕ → ℕ
+codes tape start i = getD tape (start + 2 * i + 1) 0
+
+abbrev Inv-loop : tie.InvT-loop
+Inv-loop tape start count samples₀ i₀ samples i =
+    (i ≤ count) × (samples ≡ overwritten (table i (codes tape start)) samples₀)
+
+abbrev μ-loop : tie.MeasureT-loop
+μ-loop tape start count samples₀ i₀ samples i = count - i
+
+loop-holds : tie.Need-loop-holds Inv-loop μ-loop
+loop-holds c = (zero-le, filled-none _ _)
+
+mul-samples : tie.Need-mul-samples Inv-loop μ-loop
+mul-samples c = omega arith
+
+add-samples : tie.Need-add-samples Inv-loop μ-loop
+add-samples c = omega arith
+
+add-samples-2 : tie.Need-add-samples-2 Inv-loop μ-loop
+add-samples-2 c = omega arith
+
+shared-slice-read-samples : tie.Need-shared-slice-read-samples Inv-loop μ-loop
+shared-slice-read-samples c = omega arith
+
+-- the buffer keeps its length
+long : (c : tie.At-loop Inv-loop μ-loop) → length (c .loop .samples) ≡ length (c .before .args .samples .now)
+long c = ap length (c .loop .inv .1) ∙ filled-length _ _ (c .loop .i) (omega (arith, c .before .pre, c .loop .inv .0))
+
+slice-write-samples : tie.Need-slice-write-samples Inv-loop μ-loop
+slice-write-samples c = omega (arith, long (c .before .before))
+
+add-i : tie.Need-add-i Inv-loop μ-loop
+add-i c = omega arith
+
+loop-less : tie.Need-loop-less Inv-loop μ-loop
+loop-less c = omega arith
+
+loop-again : tie.Need-loop-again Inv-loop μ-loop
+loop-again c =
+    let s = c .before .before in
+    let a = s .before .args in (
+      omega arith,
+      ap (λ (l : List ℕ). set l (s .loop .i) (codes (a .tape .now) (a .start) (s .loop .i))) (s .loop .inv .1)
+          ∙ filled-more (a .samples .now) (codes (a .tape .now) (a .start)) (s .loop .i) _ (omega arith) refl,
+    )
+
+same-length : tie.Need-same-length Inv-loop μ-loop
+same-length c = long (c .before)
+
+returns : tie.Need-returns Inv-loop μ-loop
+returns c =
+    let a = c .before .before .args in
+    let all : c .before .loop .i ≡ a .count = omega arith in
+    c .before .loop .inv .1
+    ∙ ap (λ (n : ℕ). overwritten (table n (codes (a .tape .now) (a .start))) (a .samples .now)) all
+
+pub fill-samples-spec : {M : Type 1} → statement M
+fill-samples-spec =
+    tie.close
+    (tie.spec
+    Inv-loop
+    μ-loop
+    loop-holds
+    mul-samples
+    add-samples
+    add-samples-2
+    shared-slice-read-samples
+    slice-write-samples
+    add-i
+    loop-less
+    loop-again
+    same-length
+    returns)

@@ -1,0 +1,71 @@
+// Read: the whole tape is judged before anything is written.
+
+use crate::fill::beyond_from;
+use crate::fill::fill_flow;
+use crate::fill::fill_samples;
+use crate::scan::Scanned;
+use crate::scan::scan_tape;
+use model::Rounds;
+use model::Terms;
+use records::tally::Tally;
+use steps::Lent;
+ghost use mathlib.Core.Path.{_≡_};
+ghost use Prim.Native.Nat.{suc};
+ghost use lib.ListN.{length};
+ghost use Rattle.model.specs.Tape.{parseFrom, nothing, readAnswer, readSamples, readFlow};
+ghost use Rattle.tape_read.specs.declared.scan.Scanned.{Scanned};
+ghost use Rattle.tape_read.specs.Scan.{scannedOf};
+ghost use Rattle.tape_read.specs.Answers.{readAnswerOf};
+
+// The job's terms and whether a flow was there (no, where there are no pairs), or a refusal.
+pub enum ReadResult {
+    Job {
+        terms: Terms,
+        rounds: Rounds,
+        flowed: bool,
+    },
+    Refused {
+        number: u32,
+        place: usize,
+    },
+}
+
+// The numbers of a tape that has passed: 8 is judged, and the buffers are filled.
+fn take_numbers(tape: &[u8], t: Tally, samples: &mut [u8], flow: &mut [i32]) -> ReadResult
+    requires { ⌜ scannedOf (parseFrom (suc (length (now tape))) (now tape) (length (now samples)) (length (now flow)) 0 nothing) ≡ Scanned.Whole t ⌝ }
+    ensures { λ r. ⌜ readAnswerOf r ≡ readAnswer (now (tape .entry)) (now (samples .entry)) (now (flow .entry)) ⌝ }
+    ensures { λ _. ⌜ now (samples .exit) ≡ readSamples (now (tape .entry)) (now (samples .entry)) (now (flow .entry)) ⌝ }
+    ensures { λ _. ⌜ now (flow .exit) ≡ readFlow (now (tape .entry)) (now (samples .entry)) (now (flow .entry)) ⌝ }
+{
+    let terms = t.terms;
+    let rounds = t.rounds;
+    let start = 15 + 2 * t.samples;
+    let place = beyond_from(tape, start, t.flows, terms.weight);
+    if place < t.flows {
+        return ReadResult::Refused { number: 8, place };
+    }
+    fill_samples(tape, 15, t.samples, samples);
+    fill_flow(tape, start, t.flows, flow);
+    ReadResult::Job {
+        terms,
+        rounds,
+        flowed: t.flows != 0,
+    }
+}
+
+// A tape is read into the front of the buffers. A refused one leaves both as they were.
+pub fn read(tape: &[u8], samples: &mut [u8], flow: &mut [i32]) -> ReadResult
+    ensures { λ r. ⌜ readAnswerOf r ≡ readAnswer (now (tape .entry)) (now (samples .entry)) (now (flow .entry)) ⌝ }
+    ensures { λ _. ⌜ now (samples .exit) ≡ readSamples (now (tape .entry)) (now (samples .entry)) (now (flow .entry)) ⌝ }
+    ensures { λ _. ⌜ now (flow .exit) ≡ readFlow (now (tape .entry)) (now (samples .entry)) (now (flow .entry)) ⌝ }
+{
+    let lent = Lent {
+        samples: samples.len(),
+        flow: flow.len(),
+    };
+    let scanned = scan_tape(tape, lent);
+    match scanned {
+        Scanned::Refused(number, place) => ReadResult::Refused { number, place },
+        Scanned::Whole(t) => take_numbers(tape, t, samples, flow),
+    }
+}

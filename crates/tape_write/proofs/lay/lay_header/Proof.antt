@@ -1,0 +1,27 @@
+-- `tape::lay::lay_header` meets its contract. Assumes nothing.
+use native.Mathlib.Omega.{arith}
+use Rattle.output.proofs.Laid.{put-then}
+use borrow.Author.Needs.{needs}
+use Rattle.tape_write.proofs.lay.lay_header.Statement.{statement}
+use Rattle.tape_write.proofs.lay.lay_header.Tie as tie
+
+put-record-requires : tie.Need-put-record-requires
+put-record-requires c κs = search needs
+
+put-record-requires-2 : tie.Need-put-record-requires-2
+put-record-requires-2 c κs = search needs
+
+put-record-requires-3 : tie.Need-put-record-requires-3
+put-record-requires-3 c κs = search needs
+
+same-length : tie.Need-same-length
+same-length c = search needs
+
+returns : tie.Need-returns
+returns c =
+    put-then (put-then (c .before .before .before .before .before .before .before .before .before .before .put-record .ensures) (c .before .before .before .before .before .before .put-record2 .ensures) (omega arith)) (c .before .before .put-record3 .ensures) (omega arith)
+
+pub lay-header-spec : {M : Type 1} → statement M
+lay-header-spec =
+    tie.close
+    (tie.spec put-record-requires put-record-requires-2 put-record-requires-3 same-length returns)

@@ -1,0 +1,47 @@
+-- `tape::writing::judge_write` meets its contract. Assumes nothing.
+use mathlib.Core.Path.{_≡_, sym, ap, _∙_}
+use mathlib.Core.List.{[], _∷_}
+use lib.ListN.{length}
+use Rattle.model.specs.declared.Verdict.{Verdict}
+use Rattle.model.specs.Verdict.{firstRefusal, decided}
+use Rattle.model.specs.Calls.{sizeRow, weightRow, boxRow}
+use Rattle.model.specs.Tape.{writeRows}
+use Rattle.terms.proofs.Accepted.{accepted-terms}
+use Rattle.tape_write.specs.Writing.{lowerRows}
+use Rattle.tape_write.proofs.Rows.{write-rows}
+use borrow.Author.Needs.{needs}
+use Rattle.tape_write.proofs.writing.judge_write.Statement.{statement}
+use Rattle.tape_write.proofs.writing.judge_write.Tie as tie
+
+-- the verdict on the terms decides, or the lower rows do
+rows : (c : tie.Start) {v : Verdict} → let a = c .args in
+    firstRefusal (sizeRow (a .t) 0 ∷ weightRow (a .t) 0 ∷ boxRow (a .t) 0 ∷ []) ≡ v →
+    firstRefusal (writeRows (a .t) (a .r) (a .samples .now) (a .flow .now) (a .room))
+    ≡ decided v (firstRefusal (lowerRows (a .t) (a .r) (length (a .samples .now)) (a .flow .now) (a .room))) Verdict.Refuse
+rows c h =
+    let a = c .args in
+    write-rows (a .t) (a .r) (a .samples .now) (a .flow .now) (a .room)
+    ∙ ap (λ (x : Verdict). decided x (firstRefusal (lowerRows (a .t) (a .r) (length (a .samples .now)) (a .flow .now) (a .room))) Verdict.Refuse) h
+
+judge-terms-requires : tie.Need-judge-terms-requires
+judge-terms-requires c κs = search needs
+
+enum-known-v : tie.Need-enum-known-v
+enum-known-v c = search needs
+
+enum-told : tie.Need-enum-told
+enum-told c = search needs
+
+judge-lower-requires : tie.Need-judge-lower-requires
+judge-lower-requires c κs = accepted-terms (c .before .before .before .before .args .t) (sym (c .before .before .judge-terms .ensures) ∙ c .enum-told .given .1) .size
+
+returns : tie.Need-returns
+returns c = sym (rows (c .before .before .before .before .before) (sym (c .before .before .before .judge-terms .ensures) ∙ c .before .v .given .1))
+
+returns-2 : tie.Need-returns-2
+returns-2 c = c .judge-lower .ensures ∙ sym (rows (c .before .before .before .before .before) (sym (c .before .before .before .judge-terms .ensures) ∙ c .before .enum-told .given .1))
+
+pub judge-write-spec : {M : Type 1} → statement M
+judge-write-spec =
+    tie.close
+    (tie.spec judge-terms-requires enum-known-v enum-told judge-lower-requires returns returns-2)

@@ -1,0 +1,51 @@
+-- `tape::writing::write` meets its contract. Assumes nothing.
+use mathlib.Core.Path.{sym, ap, _∙_}
+use Prim.Native.Nat.{ℕ}
+use Rattle.roundtrip.proofs.WriteRows.{accepted-write, written-answer, written-output}
+use borrow.Author.Needs.{needs}
+use Rattle.tape_write.proofs.writing.write.Statement.{statement}
+use Rattle.tape_write.proofs.writing.write.Tie as tie
+
+judge-write-requires : tie.Need-judge-write-requires
+judge-write-requires c κs = search needs
+
+enum-known-v : tie.Need-enum-known-v
+enum-known-v c = search needs
+
+enum-told : tie.Need-enum-told
+enum-told c = search needs
+
+lay-tape-requires : tie.Need-lay-tape-requires
+lay-tape-requires c κs = accepted-write _ _ _ _ _ (sym (c .before .before .before .judge-write .ensures) ∙ c .before .enum-told .given .1) .fits
+
+returns : tie.Need-returns
+returns c =
+    let a = c .before .before .before .before .before .before .args in
+    let v = sym (c .before .before .before .judge-write .ensures) ∙ c .before .v .given .1 in (
+      sym (written-answer (a .t) (a .r) (a .samples .now) (a .flow .now) (a .output .now) v),
+      sym (written-output (a .t) (a .r) (a .samples .now) (a .flow .now) (a .output .now) v),
+    )
+
+same-length : tie.Need-same-length
+same-length c = search needs
+
+returns-2 : tie.Need-returns-2
+returns-2 c =
+    let a = c .before .before .before .before .before .before .before .before .before .args in
+    let v = sym (c .before .before .before .before .before .before .judge-write .ensures) ∙ c .before .before .before .before .enum-told .given .1 in (
+      ap (λ (n : ℕ). record { number = 0; place = 0; count = n }) (c .before .before .lay-tape .ensures .0)
+          ∙ sym (written-answer (a .t) (a .r) (a .samples .now) (a .flow .now) (a .output .now) v),
+      c .before .before .lay-tape .ensures .1 ∙ sym (written-output (a .t) (a .r) (a .samples .now) (a .flow .now) (a .output .now) v),
+    )
+
+pub write-spec : {M : Type 1} → statement M
+write-spec =
+    tie.close
+    (tie.spec
+    judge-write-requires
+    enum-known-v
+    enum-told
+    lay-tape-requires
+    returns
+    same-length
+    returns-2)
