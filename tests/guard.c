@@ -155,7 +155,7 @@ static struct job job(uint32_t width, uint32_t height)
     };
 }
 
-/* Of the group at hand, and of those before it. */
+/* Counts of the group at hand, and of all groups that have ended. */
 static int calls, failures, all_calls, all_failures;
 
 static void fail(const char *call, const char *input, const char *how)
@@ -203,18 +203,31 @@ static bool same(struct answer a, struct answer b)
         && a.price == b.price && a.floor == b.floor && a.slack == b.slack && a.count == b.count;
 }
 
+/* An answer's numbers as text, in the order of its fields. */
+struct text {
+    char chars[160];
+};
+
+static struct text text_of(struct answer a)
+{
+    struct text text;
+    snprintf(
+        text.chars, sizeof text.chars,
+        "%" PRIu32 " at %" PRIu64 " with %" PRIu32 " %" PRIu32 " %" PRIu64 " %" PRId64 " %" PRIu64
+        " %" PRIu64,
+        a.number, a.place, a.outcome, a.moved, a.price, a.floor, a.slack, a.count);
+    return text;
+}
+
 static void expect(
     const struct call *call, const struct job *j, const char *input, struct answer expected)
 {
     struct answer a;
     if (!made(call, j, input, &a) || same(a, expected))
         return;
-    char how[200];
-    snprintf(
-        how, sizeof how,
-        "number %" PRIu32 " at %" PRIu64 " with %" PRIu32 " %" PRIu32 " %" PRIu64 " %" PRId64
-        " %" PRIu64 " %" PRIu64 ", not number %" PRIu32,
-        a.number, a.place, a.outcome, a.moved, a.price, a.floor, a.slack, a.count, expected.number);
+    struct text is = text_of(a), due = text_of(expected);
+    char how[400];
+    snprintf(how, sizeof how, "answers %s, not %s", is.chars, due.chars);
     fail(call->name, input, how);
 }
 
@@ -281,8 +294,8 @@ static void expect_values(
 /* Document 01's job of 2 by 1 pixels. */
 static void two_by_one(void)
 {
-    static const uint8_t tape[] = {1, 2, 0, 1, 0, 2, 0, 1, 0, 255, 3, 0, 0,
-                                   100, 0, 4, 0, 4, 2, 5, 0, 255, 255, 255, 0};
+    static const uint8_t tape[] = {
+        1, 2, 0, 1, 0, 2, 0, 1, 0, 255, 3, 0, 0, 100, 0, 4, 0, 4, 2, 5, 0, 255, 255, 255, 0};
     struct job j = job(2, 1);
     lend(&j, ALL);
     j.samples[1] = 2;
@@ -295,6 +308,7 @@ static void two_by_one(void)
     expect(&WRITE, &j, "flow -256", (struct answer){.count = sizeof tape});
     if (memcmp(j.output, tape, sizeof tape) != 0)
         fail("write", "flow -256", "another tape");
+    j.work[0] = j.work[1] = -1;
     expect(
         &RUN, &j, "allowance 100",
         (struct answer){
