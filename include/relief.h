@@ -26,6 +26,9 @@
  * relief_read and for relief_write's output. Pointers are never null, also where the length is 0;
  * what a call writes to overlaps nothing else that it is lent. Nothing is kept after a call.
  *
+ * Contents are read only after terms and lengths have passed: price, check, run and write touch no
+ * buffer when they are refused with 1 to 7, 10 or 16.
+ *
  * ANSWERS
  *
  * Each call returns the number of its refusal, or 0 when it is accepted.
@@ -88,8 +91,10 @@ enum relief_outcome {
  *
  * samples  one for each pixel
  * image    one value for each pixel, in sub-units, each within the box
+ * *outcome, *moved   RELIEF_CHECKED and 0
  * *price   the sum of (value - 256 * sample)^2 over pixels, plus 2 * weight * the sum of |fall|
  *          over pairs
+ * *floor, *slack   0: no flow is given
  *
  * Refusals: 1, 2, 3; 4, 6; 9.
  */
@@ -97,7 +102,8 @@ uint32_t relief_price(
     uint32_t width, uint32_t height, uint32_t weight, uint8_t low, uint8_t high,
     const uint8_t *samples, size_t samples_len,
     const int32_t *image, size_t image_len,
-    uint64_t *place, uint64_t *price);
+    uint64_t *place, uint32_t *outcome, uint32_t *moved,
+    uint64_t *price, int64_t *floor, uint64_t *slack);
 
 /*
  * Check judges a given flow and fills the image.
@@ -105,6 +111,7 @@ uint32_t relief_price(
  * samples  one for each pixel
  * flow     one number for each pair, each from -weight to weight
  * image    one value for each pixel; filled with the flow's image, in sub-units
+ * *outcome, *moved   RELIEF_CHECKED and 0
  * *price   the price of that image, as relief_price gives it
  * *floor   the sum of (value - 256 * sample)^2 over pixels of that image, plus 2 * the sum of
  *          flow * fall over pairs. No image of the box has a lower price. It may be negative
@@ -118,7 +125,8 @@ uint32_t relief_check(
     const uint8_t *samples, size_t samples_len,
     const int32_t *flow, size_t flow_len,
     int32_t *image, size_t image_len,
-    uint64_t *place, uint64_t *price, int64_t *floor, uint64_t *slack);
+    uint64_t *place, uint32_t *outcome, uint32_t *moved,
+    uint64_t *price, int64_t *floor, uint64_t *slack);
 
 /*
  * Run does the quick rounds from flow 0, then steady rounds until no pair would move or the

@@ -14,6 +14,58 @@ pub mod run;
 pub mod tape;
 
 use crate::Refusal;
+#[cfg(any(feature = "judge", feature = "run"))]
+use crate::{Figures, Outcome};
+
+/// The numbers that price, check and run set.
+#[cfg(any(feature = "judge", feature = "run"))]
+struct Answer {
+    place: u64,
+    outcome: u32,
+    moved: u32,
+    price: u64,
+    floor: i64,
+    slack: u64,
+}
+
+#[cfg(any(feature = "judge", feature = "run"))]
+impl Answer {
+    /// No number is set yet.
+    const UNSET: Answer = Answer {
+        place: u64::MAX,
+        outcome: u32::MAX,
+        moved: u32::MAX,
+        price: u64::MAX,
+        floor: i64::MAX,
+        slack: u64::MAX,
+    };
+
+    /// The figures of a call that returned `number`, or its refusal.
+    fn figures(self, number: u32) -> Result<Figures, Refusal> {
+        let Answer {
+            place,
+            outcome,
+            moved,
+            price,
+            floor,
+            slack,
+        } = self;
+        let zeros = (outcome, moved, price, floor, slack) == (0, 0, 0, 0, 0);
+        verdict(number, place, zeros)?;
+        Ok(Figures {
+            outcome: match outcome {
+                1 => Outcome::Checked,
+                2 => Outcome::Settled,
+                3 => Outcome::Spent,
+                _ => panic!("accepted with outcome {outcome}"),
+            },
+            moved,
+            price,
+            floor,
+            slack,
+        })
+    }
+}
 
 /// What a call returned, once it is seen that an accepted one gives place 0, and a refused
 /// one `zeros` for all other numbers.

@@ -1,7 +1,7 @@
 //! The calls price and check.
 
-use super::verdict;
-use crate::{Figures, Outcome, Refusal, Terms};
+use super::Answer;
+use crate::{Figures, Refusal, Terms};
 
 unsafe extern "C" {
     fn relief_price(
@@ -15,7 +15,11 @@ unsafe extern "C" {
         image: *const i32,
         image_len: usize,
         place: *mut u64,
+        outcome: *mut u32,
+        moved: *mut u32,
         price: *mut u64,
+        floor: *mut i64,
+        slack: *mut u64,
     ) -> u32;
 
     fn relief_check(
@@ -31,6 +35,8 @@ unsafe extern "C" {
         image: *mut i32,
         image_len: usize,
         place: *mut u64,
+        outcome: *mut u32,
+        moved: *mut u32,
         price: *mut u64,
         floor: *mut i64,
         slack: *mut u64,
@@ -39,7 +45,7 @@ unsafe extern "C" {
 
 /// Judges a given image.
 pub fn price(terms: &Terms, samples: &[u8], image: &[i32]) -> Result<Figures, Refusal> {
-    let (mut place, mut price) = (u64::MAX, u64::MAX);
+    let mut answer = Answer::UNSET;
     // SAFETY: each buffer comes with its own length, and the numbers are locals.
     let number = unsafe {
         relief_price(
@@ -52,18 +58,15 @@ pub fn price(terms: &Terms, samples: &[u8], image: &[i32]) -> Result<Figures, Re
             samples.len(),
             image.as_ptr(),
             image.len(),
-            &mut place,
-            &mut price,
+            &mut answer.place,
+            &mut answer.outcome,
+            &mut answer.moved,
+            &mut answer.price,
+            &mut answer.floor,
+            &mut answer.slack,
         )
     };
-    verdict(number, place, price == 0)?;
-    Ok(Figures {
-        outcome: Outcome::Checked,
-        moved: 0,
-        price,
-        floor: 0,
-        slack: 0,
-    })
+    answer.figures(number)
 }
 
 /// Judges a given flow and fills `image` with its image.
@@ -73,7 +76,7 @@ pub fn check(
     flow: &[i32],
     image: &mut [i32],
 ) -> Result<Figures, Refusal> {
-    let (mut place, mut price, mut floor, mut slack) = (u64::MAX, u64::MAX, i64::MAX, u64::MAX);
+    let mut answer = Answer::UNSET;
     // SAFETY: as in `price`; `image` overlaps nothing, since it is borrowed mutably.
     let number = unsafe {
         relief_check(
@@ -88,18 +91,13 @@ pub fn check(
             flow.len(),
             image.as_mut_ptr(),
             image.len(),
-            &mut place,
-            &mut price,
-            &mut floor,
-            &mut slack,
+            &mut answer.place,
+            &mut answer.outcome,
+            &mut answer.moved,
+            &mut answer.price,
+            &mut answer.floor,
+            &mut answer.slack,
         )
     };
-    verdict(number, place, (price, floor, slack) == (0, 0, 0))?;
-    Ok(Figures {
-        outcome: Outcome::Checked,
-        moved: 0,
-        price,
-        floor,
-        slack,
-    })
+    answer.figures(number)
 }

@@ -1,7 +1,7 @@
 //! The call run.
 
-use super::verdict;
-use crate::{Figures, Outcome, Refusal, Rounds, Terms};
+use super::Answer;
+use crate::{Figures, Refusal, Rounds, Terms};
 
 unsafe extern "C" {
     fn relief_run(
@@ -39,8 +39,7 @@ pub fn run(
     image: &mut [i32],
     work: &mut [i32],
 ) -> Result<Figures, Refusal> {
-    let (mut place, mut outcome, mut moved) = (u64::MAX, u32::MAX, u32::MAX);
-    let (mut price, mut floor, mut slack) = (u64::MAX, i64::MAX, u64::MAX);
+    let mut answer = Answer::UNSET;
     // SAFETY: each buffer comes with its own length, those that are filled overlap nothing,
     // since they are borrowed mutably, and the numbers are locals.
     let number = unsafe {
@@ -60,26 +59,13 @@ pub fn run(
             image.len(),
             work.as_mut_ptr(),
             work.len(),
-            &mut place,
-            &mut outcome,
-            &mut moved,
-            &mut price,
-            &mut floor,
-            &mut slack,
+            &mut answer.place,
+            &mut answer.outcome,
+            &mut answer.moved,
+            &mut answer.price,
+            &mut answer.floor,
+            &mut answer.slack,
         )
     };
-    let zeros = (outcome, moved, price, floor, slack) == (0, 0, 0, 0, 0);
-    verdict(number, place, zeros)?;
-    let outcome = match outcome {
-        2 => Outcome::Settled,
-        3 => Outcome::Spent,
-        _ => panic!("a run ended with outcome {outcome}"),
-    };
-    Ok(Figures {
-        outcome,
-        moved,
-        price,
-        floor,
-        slack,
-    })
+    answer.figures(number)
 }
