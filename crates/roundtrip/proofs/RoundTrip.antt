@@ -25,6 +25,7 @@ use Rattle.model.proofs.Lists.{firstWhere-first}
 use Rattle.model.proofs.Refusals.{accepted, passed}
 use Rattle.terms.proofs.Size.{allowed-size}
 use Rattle.steps.specs.declared.Lent.{Lent}
+use Rattle.roundtrip.specs.RoundTrip.{Reads, ReadsBack, WritesBack, flowCount}
 use Rattle.roundtrip.proofs.Offsets.{tape-length, sample-here, flow-here, end-here, header-here}
 use Rattle.roundtrip.proofs.WriteRows.{Writable, accepted-write, accepted-answer, written-answer, written-output}
 use Rattle.roundtrip.proofs.Accepted.{Job, accepted-job}
@@ -145,16 +146,10 @@ module _ (t : Terms) (r : Rounds) (s : List ℕ) (f : List ℤ) (room : ℕ) (w 
       ∙ flow-read (length f) 0 (suc spare) (omega arith)
       ∙ end-read spare
 
--- A job that write accepts reads back as that job, into buffers that are long enough. (The allowance is a number of 16 bits
--- by its type.)
+-- A job that write accepts reads back from what write leaves. (The allowance is a number of 16 bits by its type.)
 pub written-reads-back : (t : Terms) (r : Rounds) (s : List ℕ) (f : List ℤ) (output : List ℕ) → r .allowance < 65536 →
     writeAnswer t r s f output .number ≡ 0 →
-    (samples : List ℕ) (flow : List ℤ) → pixelsOf t ≤ length samples → pairsOf t ≤ length flow →
-    let tape : List ℕ = take (writeAnswer t r s f output .count) (writeOutput t r s f output) in
-    (readAnswer tape samples flow
-    ≡ record { number = 0; place = 0; terms = t; rounds = r; flowed = not (eqb (length f) 0) })
-    × (readSamples tape samples flow ≡ overwritten s samples)
-    × (readFlow tape samples flow ≡ overwritten f flow)
+    ReadsBack t r s f (take (writeAnswer t r s f output .count) (writeOutput t r s f output))
 written-reads-back t r s f output small answer samples flow long broad =
     let v = accepted-answer t r s f output answer in
     let w = accepted-write t r s f (length output) v in
@@ -164,19 +159,21 @@ written-reads-back t r s f output small answer samples flow long broad =
     let lent : Lent = record { samples = length samples; flow = length flow } in
     let p : Progress = record { header = 3; terms = t; rounds = r; samples = s; flow = f } in
     let read = whole-parse (tapeOf t r s f) samples flow p (reads-back t r s f (length output) w small lent (long, broad)) (w .within) in
-    subst
-    (λ (tape : List ℕ).
-    (readAnswer tape samples flow ≡ record { number = 0; place = 0; terms = t; rounds = r; flowed = not (eqb (length f) 0) })
-    × (readSamples tape samples flow ≡ overwritten s samples)
-    × (readFlow tape samples flow ≡ overwritten f flow))
-    same
-    (answer-by (tapeOf t r s f) samples flow read, samples-by (tapeOf t r s f) samples flow read, flow-by (tapeOf t r s f) samples flow read)
+    subst (λ (tape : List ℕ). Reads t r s f tape samples flow) same
+    (record {
+      answer = answer-by (tapeOf t r s f) samples flow read;
+      samplesLeft = samples-by (tapeOf t r s f) samples flow read;
+      flowLeft = flow-by (tapeOf t r s f) samples flow read;
+    })
+
+-- the same of what a call gave and left
+pub left-reads-back : (t : Terms) (r : Rounds) (s : List ℕ) (f : List ℤ) (output : List ℕ) {left : List ℕ} {a : WriteAnswer} → r .allowance < 65536 →
+    a ≡ writeAnswer t r s f output → left ≡ writeOutput t r s f output → a .number ≡ 0 → ReadsBack t r s f (take (a .count) left)
+left-reads-back t r s f output small e h z =
+    subst (λ (tape : List ℕ). ReadsBack t r s f tape) (sym (ap₂ take (ap (λ (a : WriteAnswer). a .count) e) h))
+    (written-reads-back t r s f output small (sym (ap (λ (a : WriteAnswer). a .number) e) ∙ z))
 
 -- ---- an accepted tape, read and written again, gives its own bytes
-
--- how many flow numbers an answer tells of
-abbrev pub flowCount : ReadAnswer → ℕ
-flowCount a = cond (a .flowed) (pairsOf (a .terms)) 0
 
 module _ (tape : List ℕ) (byte : (i : ℕ) → getD tape i 0 < 256) (lent : Lent) (p : Progress) (j : Job tape lent byte p)
     (within : length (p .flow) ≤ firstBeyond (p .terms .weight) (p .flow)) where
@@ -212,28 +209,22 @@ module _ (tape : List ℕ) (byte : (i : ℕ) → getD tape i 0 < 256) (lent : Le
       ∙ passed _ _ (le-ltb (firstBeyond (p .terms .weight) (p .flow)) (length (p .flow)) within)
       ∙ accepted
 
-  pub rewritten : (output : List ℕ) → length tape ≤ length output →
-      (writeAnswer (p .terms) (p .rounds) (p .samples) (p .flow) output ≡ record { number = 0; place = 0; count = length tape })
-      × (writeOutput (p .terms) (p .rounds) (p .samples) (p .flow) output ≡ overwritten tape output)
+  pub rewritten : WritesBack (p .terms) (p .rounds) (p .samples) (p .flow) tape
   rewritten output l =
-      let v = writes (length output) l in (
-        written-answer (p .terms) (p .rounds) (p .samples) (p .flow) output v
-            ∙ ap (λ (bytes : List ℕ). record { number = 0; place = 0; count = length bytes }) (sym (j .bytes)),
-        written-output (p .terms) (p .rounds) (p .samples) (p .flow) output v
-            ∙ ap (λ (bytes : List ℕ). overwritten bytes output) (sym (j .bytes)),
-      )
+      let v = writes (length output) l in
+      record {
+        answer = written-answer (p .terms) (p .rounds) (p .samples) (p .flow) output v
+            ∙ ap (λ (bytes : List ℕ). record { number = 0; place = 0; count = length bytes }) (sym (j .bytes));
+        outputLeft = written-output (p .terms) (p .rounds) (p .samples) (p .flow) output v
+            ∙ ap (λ (bytes : List ℕ). overwritten bytes output) (sym (j .bytes));
+      }
 
--- A tape of bytes that read accepts is given back by write, for the terms, the samples and the flow as they were read, into
--- an output that is long enough
+-- A tape of bytes that read accepts is given back by write, for the terms, the samples and the flow as they were read
 pub read-writes-back : (tape : List ℕ) → ((i : ℕ) → getD tape i 0 < 256) →
     (samples : List ℕ) (flow : List ℤ) → readAnswer tape samples flow .number ≡ 0 →
-    (output : List ℕ) → length tape ≤ length output →
     let a : ReadAnswer = readAnswer tape samples flow in
-    let s : List ℕ = take (pixelsOf (a .terms)) (readSamples tape samples flow) in
-    let f : List ℤ = take (flowCount a) (readFlow tape samples flow) in
-    (writeAnswer (a .terms) (a .rounds) s f output ≡ record { number = 0; place = 0; count = length tape })
-    × (writeOutput (a .terms) (a .rounds) s f output ≡ overwritten tape output)
-read-writes-back tape byte samples flow number output l =
+    WritesBack (a .terms) (a .rounds) (take (pixelsOf (a .terms)) (readSamples tape samples flow)) (take (flowCount a) (readFlow tape samples flow)) tape
+read-writes-back tape byte samples flow number =
     let (p, e) = accepted-parse tape samples flow number in
     let (all-read, within) = passed-parse tape samples flow p e in
     let lent : Lent = record { samples = length samples; flow = length flow } in
@@ -245,9 +236,16 @@ read-writes-back tape byte samples flow number output l =
     let numbers : take (flowCount (readAnswer tape samples flow)) (readFlow tape samples flow) ≡ p .flow =
     ap₂ (λ (a : ReadAnswer) (b : List ℤ). take (flowCount a) b) answer (flow-by tape samples flow e)
     ∙ take-at (p .flow) (drop (length (p .flow)) flow) _ (sym (flow-counted tape byte lent p j within)) in
-    let given = rewritten tape byte lent p j within output l in
-    (same writeAnswer answer codes numbers ∙ given .0, same writeOutput answer codes numbers ∙ given .1)
+    same (sym answer) (sym codes) (sym numbers) (rewritten tape byte lent p j within)
   where
-    same : {A : Type 0} (g : Terms → Rounds → List ℕ → List ℤ → List ℕ → A) {a b : ReadAnswer} {s u : List ℕ} {f n : List ℤ} → a ≡ b → s ≡ u → f ≡ n →
-        g (a .terms) (a .rounds) s f output ≡ g (b .terms) (b .rounds) u n output
-    same g x y z = λ i. g (x i .terms) (x i .rounds) (y i) (z i) output
+    same : {a b : ReadAnswer} {s u : List ℕ} {f n : List ℤ} → a ≡ b → s ≡ u → f ≡ n →
+        WritesBack (a .terms) (a .rounds) s f tape → WritesBack (b .terms) (b .rounds) u n tape
+    same x y z = subst (λ (h : Type 0). h) (λ i. WritesBack (x i .terms) (x i .rounds) (y i) (z i) tape)
+
+-- the same of what a call gave and left
+pub left-writes-back : (tape samples : List ℕ) (flow : List ℤ) {codes : List ℕ} {numbers : List ℤ} {a : ReadAnswer} → ((i : ℕ) → getD tape i 0 < 256) →
+    a ≡ readAnswer tape samples flow → codes ≡ readSamples tape samples flow → numbers ≡ readFlow tape samples flow → a .number ≡ 0 →
+    WritesBack (a .terms) (a .rounds) (take (pixelsOf (a .terms)) codes) (take (flowCount a) numbers) tape
+left-writes-back tape samples flow byte e h k z =
+    subst (λ (x : Type 0). x) (λ i. WritesBack (sym e i .terms) (sym e i .rounds) (take (pixelsOf (sym e i .terms)) (sym h i)) (take (flowCount (sym e i)) (sym k i)) tape)
+    (read-writes-back tape byte samples flow (sym (ap (λ (a : ReadAnswer). a .number) e) ∙ z))

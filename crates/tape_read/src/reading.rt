@@ -11,8 +11,10 @@ use records::tally::Tally;
 use steps::Lent;
 ghost use mathlib.Core.Path.{_≡_};
 ghost use Prim.Native.Nat.{suc};
-ghost use lib.ListN.{length};
+ghost use lib.ListN.{length, take};
 ghost use Rattle.model.specs.Tape.{parseFrom, nothing, readAnswer, readSamples, readFlow};
+ghost use Rattle.model.specs.Calls.{pixelsOf};
+ghost use Rattle.roundtrip.specs.RoundTrip.{WritesBack, flowCount};
 ghost use Rattle.tape_read.specs.declared.scan.Scanned.{Scanned};
 ghost use Rattle.tape_read.specs.Scan.{scannedOf};
 ghost use Rattle.tape_read.specs.Answers.{readAnswerOf};
@@ -36,6 +38,7 @@ fn take_numbers(tape: &[u8], t: Tally, samples: &mut [u8], flow: &mut [i32]) -> 
     ensures { λ r. ⌜ readAnswerOf r ≡ readAnswer (now (tape .entry)) (now (samples .entry)) (now (flow .entry)) ⌝ }
     ensures { λ _. ⌜ now (samples .exit) ≡ readSamples (now (tape .entry)) (now (samples .entry)) (now (flow .entry)) ⌝ }
     ensures { λ _. ⌜ now (flow .exit) ≡ readFlow (now (tape .entry)) (now (samples .entry)) (now (flow .entry)) ⌝ }
+    ensures { λ r. ⌜ (readAnswerOf r .number ≡ 0 → WritesBack (readAnswerOf r .terms) (readAnswerOf r .rounds) (take (pixelsOf (readAnswerOf r .terms)) (now (samples .exit))) (take (flowCount (readAnswerOf r)) (now (flow .exit))) (now (tape .entry))) ⌝ }
 {
     let terms = t.terms;
     let rounds = t.rounds;
@@ -58,6 +61,7 @@ pub fn read(tape: &[u8], samples: &mut [u8], flow: &mut [i32]) -> ReadResult
     ensures { λ r. ⌜ readAnswerOf r ≡ readAnswer (now (tape .entry)) (now (samples .entry)) (now (flow .entry)) ⌝ }
     ensures { λ _. ⌜ now (samples .exit) ≡ readSamples (now (tape .entry)) (now (samples .entry)) (now (flow .entry)) ⌝ }
     ensures { λ _. ⌜ now (flow .exit) ≡ readFlow (now (tape .entry)) (now (samples .entry)) (now (flow .entry)) ⌝ }
+    ensures { λ r. ⌜ (readAnswerOf r .number ≡ 0 → WritesBack (readAnswerOf r .terms) (readAnswerOf r .rounds) (take (pixelsOf (readAnswerOf r .terms)) (now (samples .exit))) (take (flowCount (readAnswerOf r)) (now (flow .exit))) (now (tape .entry))) ⌝ }
 {
     let lent = Lent {
         samples: samples.len(),

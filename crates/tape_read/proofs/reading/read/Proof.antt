@@ -1,5 +1,7 @@
--- `tape::reading::read` meets its contract. Assumes nothing.
+-- `tape_read::reading::read` meets its contract. Assumes nothing.
 use mathlib.Core.Path.{sym, _∙_}
+use native.Mathlib.Omega.{arith}
+use Rattle.tape_read.proofs.Promised.{promised}
 use Rattle.tape_read.proofs.Scanned.{scanned-refused}
 use Rattle.roundtrip.proofs.Judged.{refused-parse, answer-by, samples-by, flow-by}
 use borrow.Author.Needs.{needs}
@@ -21,11 +23,13 @@ take-numbers-requires c κs =
 
 returns : tie.Need-returns
 returns c =
-    let a = c .before .before .before .before .before .before .args in
-    let r = refused-parse (a .tape .now) (a .samples .now) (a .flow .now) (scanned-refused _ (sym (c .before .before .before .scan-tape .ensures) ∙ c .before .scanned .given .1)) in (
-      sym (answer-by (a .tape .now) (a .samples .now) (a .flow .now) r),
-      (sym (samples-by (a .tape .now) (a .samples .now) (a .flow .now) r), sym (flow-by (a .tape .now) (a .samples .now) (a .flow .now) r)),
-    )
+    let k = c .before .before .before .before .before in
+    let a = k .before .args in
+    let r = refused-parse (a .tape .now) (a .samples .now) (a .flow .now) (scanned-refused _ (sym (c .before .before .before .scan-tape .ensures) ∙ c .before .scanned .given .1)) in
+    promised (a .tape .now) (a .samples .now) (a .flow .now) (λ i. omega (arith, k .shared-slice-known .given i))
+    (sym (answer-by (a .tape .now) (a .samples .now) (a .flow .now) r))
+    (sym (samples-by (a .tape .now) (a .samples .now) (a .flow .now) r))
+    (sym (flow-by (a .tape .now) (a .samples .now) (a .flow .now) r))
 
 same-length : tie.Need-same-length
 same-length c = search needs

@@ -1,0 +1,2 @@
+-- What the round trip says.
+pub mod RoundTrip

@@ -1,0 +1,18 @@
+-- What a call gave and left is the definition's, and so the job that it left is written back. Assumes nothing.
+use mathlib.Core.Path.{_≡_}
+use mathlib.Core.List.{List}
+use Prim.Native.Nat.{ℕ, _<_}
+use lib.IntN.{ℤ}
+use lib.ListN.{getD, take}
+use Rattle.model.specs.Calls.{pixelsOf}
+use Rattle.model.specs.Tape.{ReadAnswer, readAnswer, readSamples, readFlow}
+use Rattle.roundtrip.specs.RoundTrip.{WritesBack, flowCount}
+use Rattle.roundtrip.proofs.RoundTrip.{left-writes-back}
+
+pub promised : (tape samples : List ℕ) (flow : List ℤ) → ((i : ℕ) → getD tape i 0 < 256) → {codes : List ℕ} {numbers : List ℤ} {a : ReadAnswer} →
+    a ≡ readAnswer tape samples flow → codes ≡ readSamples tape samples flow → numbers ≡ readFlow tape samples flow →
+    (a ≡ readAnswer tape samples flow)
+    × ((codes ≡ readSamples tape samples flow)
+    × ((numbers ≡ readFlow tape samples flow)
+    × (a .number ≡ 0 → WritesBack (a .terms) (a .rounds) (take (pixelsOf (a .terms)) codes) (take (flowCount a) numbers) tape)))
+promised tape samples flow byte e h k = (e, (h, (k, left-writes-back tape samples flow byte e h k)))
