@@ -9,3 +9,4 @@ pub mod Rounding
 pub mod Step
 pub mod Steady
 pub mod Grid
+pub mod Counterexamples

@@ -1,0 +1,227 @@
+-- Demand 3 altered: each row of the table has one of its statements at a job and, beside it, the statement altered. One
+-- theorem, `counterexamples` of proofs/Counterexamples.antt, says that in every row the first holds and the second fails,
+-- and that the bounds listed last are met exactly.
+--
+-- What holds, and so has no row: 29 for 28; in the distance law, the slack taken before the clamp (a fall is no larger
+-- after the clamp, so neither is the slack); and 9 to 14 for 8: a round that moves one pair raises the floor by 16 − 2 at
+-- least, one that moves more by 8 for each of them (by hand, not proved here). So 8 × moved meets the starting slack only
+-- where both are 0, and 8 × (allowance + 1) of a spent run never does.
+use mathlib.Core.Bool.{Bool, not, _&&_, _||_}
+use mathlib.Core.List.{List, [], _∷_, _++_}
+use Prim.Native.Nat.{ℕ, _+_, _*_}
+use lib.IntN.{ℤ, pos, negℤ, _+ℤ_, _*ℤ_}
+use lib.ListN.{getD}
+use lib.Signed.{leZ, ltZ, shrZ}
+use Rattle.integers.specs.Whole.{quotient, sameZ}
+use Rattle.model.specs.Lists.{at}
+use Rattle.model.specs.Problem.{Problem, price, image, floor, slack, distance, divided, times}
+use Rattle.model.specs.Grid.{gridPairs, grid}
+use Rattle.model.specs.Rounds.{eighth, quickRounds, Steady, steadyRounds}
+use Rattle.model.specs.Values.{one, pair}
+
+-- A statement and the same altered, each as a test that computes
+pub record Row : Type 0 where
+  pub statement : Bool
+  pub altered : Bool
+
+abbrev pub row : Bool → Bool → Row
+row s a = record { statement = s; altered = a }
+
+-- ---- Runs
+
+-- The flow P that quick rounds leave, the R ahead of it, and how a run ends whose steps add this share of a fall
+abbrev pub start : (ℤ → ℤ) → Problem → ℕ → ℕ → ℤ
+start share p quick = at (quickRounds share p quick .iterate)
+
+abbrev pub ahead : (ℤ → ℤ) → Problem → ℕ → ℕ → ℤ
+ahead share p quick = at (quickRounds share p quick .extrapolated)
+
+abbrev pub run : (ℤ → ℤ) → Problem → ℕ → ℕ → Steady
+run share p quick allowance = steadyRounds share p allowance (quickRounds share p quick .iterate)
+
+-- d / 8 rounded down
+abbrev pub eighthDown : ℤ → ℤ
+eighthDown d = shrZ d 8
+
+-- ---- Demand 3's statements as tests
+
+-- The distance law for an image x against y, s standing for the slack: price + squared distance ≤ other price + slack
+unfoldable pub close : ℤ → Problem → (ℕ → ℤ) → (ℕ → ℤ) → Bool
+close s p x y = leZ (price p x +ℤ distance p x y) (price p y +ℤ s)
+
+-- .. for a flow's image, with the slack of the flow
+unfoldable pub certified : Problem → (ℕ → ℤ) → (ℕ → ℤ) → Bool
+certified p f y = close (slack p f) p (image p f) y
+
+-- The flow's image equals y exactly when their prices are equal ..
+unfoldable pub alike : Problem → (ℕ → ℤ) → (ℕ → ℤ) → Bool
+alike p f y =
+    let prices : Bool = sameZ (price p (image p f)) (price p y) in
+    let images : Bool = sameZ (distance p (image p f) y) (pos 0) in
+    prices && images || not prices && not images
+
+-- .. where the slack is 0
+unfoldable pub alikeAtZero : Problem → (ℕ → ℤ) → (ℕ → ℤ) → Bool
+alikeAtZero p f y = not (sameZ (slack p f) (pos 0)) || alike p f y
+
+-- A number on a whole division is c times the one on the grid
+abbrev pub timesAsLarge : ℕ → ℤ → ℤ → Bool
+timesAsLarge c there here = sameZ there (pos c *ℤ here)
+
+-- The slack of a settled run is at most the bound
+unfoldable pub settledWithin : ℕ → Problem → Steady → Bool
+settledWithin bound p e = not (e .settled) || leZ (slack p (at (e .flow))) (pos bound)
+
+-- r × moved is at most the slack of the flow f
+unfoldable pub movedWithin : ℕ → Problem → (ℕ → ℤ) → Steady → Bool
+movedWithin r p f e = leZ (pos (r * e .moved)) (slack p f)
+
+-- A run settles whenever r × (allowance + 1) exceeds the slack of the flow that its quick rounds leave
+unfoldable pub settlesWhen : ℕ → (ℤ → ℤ) → Problem → ℕ → ℕ → Bool
+settlesWhen r share p quick allowance =
+    not (ltZ (slack p (start share p quick)) (pos (r * (allowance + 1)))) || run share p quick allowance .settled
+
+-- ---- Jobs, flows and images
+
+-- 2 by 1, samples 0 and 2, with a weight and a box
+abbrev pub twoByOne : ℕ → ℕ → ℕ → Problem
+twoByOne weight low high =
+    grid (record { width = 2; height = 1; weight = weight; low = low; high = high }) (0 ∷ 2 ∷ [])
+
+-- 2 by 2: two such rows, which fall alike
+abbrev pub twoByTwo : ℕ → ℕ → ℕ → Problem
+twoByTwo weight low high =
+    grid (record { width = 2; height = 2; weight = weight; low = low; high = high }) (0 ∷ 2 ∷ 0 ∷ 2 ∷ [])
+
+-- 3 by 1, samples 0, 0 and 2, weight 1
+abbrev pub threeByOne : Problem
+threeByOne = grid (record { width = 3; height = 1; weight = 1; low = 0; high = 255 }) (0 ∷ 0 ∷ 2 ∷ [])
+
+-- 3 by 2, samples 0 1 0 above 2 1 2, weight 3
+abbrev pub threeByTwo : Problem
+threeByTwo =
+    grid (record { width = 3; height = 2; weight = 3; low = 0; high = 255 }) (0 ∷ 1 ∷ 0 ∷ 2 ∷ 1 ∷ 2 ∷ [])
+
+-- 4 by 1, weight 1, readings 22, 14, 7 and 0: no sample stands for these, but the laws are of any readings
+abbrev pub fourByOne : Problem
+fourByOne =
+    record {
+      pixels = 4;
+      reading = λ i. pos (getD (22 ∷ 14 ∷ 7 ∷ 0 ∷ []) i 0);
+      low = pos 0;
+      high = pos 65280;
+      pairs = gridPairs 4 1;
+      weight = λ _. 1;
+    }
+
+-- the flow of a 2 by 1 job, and the other image
+abbrev pub flow : ℤ → ℕ → ℤ
+flow f = at (one f)
+
+abbrev pub other : ℕ → ℕ → ℕ → ℤ
+other a b = at (pair a b)
+
+-- ---- The table
+
+unfoldable pub distanceRows : List Row
+distanceRows =
+    let p : Problem = twoByOne 256 0 255 in
+    let narrow : Problem = twoByOne 7 1 1 in
+    let light : Problem = twoByOne 70 0 255 in
+    let f : ℕ → ℤ = flow (pos 0) in
+    let g : ℕ → ℤ = flow (negℤ (pos 252)) in
+    -- half the slack
+    row (certified p f (other 256 256)) (close (quotient (slack p f) (pos 2)) p (image p f) (other 256 256))
+    -- the image before the clamp: 0 512, as in the wider box, for 256 256
+    ∷ row (certified narrow f (other 256 256)) (close (slack narrow f) narrow (image p f) (other 256 256))
+    -- an image outside the box
+    ∷ row (certified narrow f (other 256 256)) (certified narrow f (other 0 512))
+    -- R certified: P is −70 with slack 0, R is −71 with slack −740
+    ∷ row (certified light (start eighth light 2) (other 70 442)) (certified light (ahead eighth light 2) (other 70 442))
+    -- the weight left out of price and slack: 64 at weight 256, −4016 at weight 1
+    ∷ row (certified p g (other 252 260)) (certified (twoByOne 1 0 255) g (other 252 260))
+    -- a slack above 0: the image 0 512 has the price of 0 0
+    ∷ row (alikeAtZero p f (other 0 0)) (alike p f (other 0 0))
+    ∷ []
+
+-- On division 2, the flow −252 with price 131104, floor 131040 and slack 64
+unfoldable pub divisionRows : List Row
+divisionRows =
+    let p : Problem = twoByOne 256 0 255 in
+    let q : Problem = divided 2 p in
+    let f : ℕ → ℤ = flow (negℤ (pos 252)) in
+    let g : ℕ → ℤ = times 2 f in
+    -- k for k²
+    row (timesAsLarge 4 (price q (image q g)) (price p (image p f)))
+    (timesAsLarge 2 (price q (image q g)) (price p (image p f)))
+    ∷ row (timesAsLarge 4 (floor q g) (floor p f)) (timesAsLarge 2 (floor q g) (floor p f))
+    ∷ row (timesAsLarge 4 (slack q g) (slack p f)) (timesAsLarge 2 (slack q g) (slack p f))
+    -- the slack of the grid itself, against the image 512 512
+    ∷ row (certified q g (other 512 512)) (close (slack p f) q (image q g) (other 512 512))
+    ∷ []
+
+-- A settled slack is at most 28 × weight × pairs
+unfoldable pub settledRows : List Row
+settledRows =
+    let p : Problem = twoByOne 256 0 255 in
+    let q : Problem = twoByOne 263 0 1 in
+    let two : Problem = twoByTwo 263 0 1 in
+    let narrow : Problem = twoByOne 256 1 1 in
+    -- 27 for 28: twelve quick rounds leave the flow −263 and the image 256 249, whose fall of 7 does not move it back
+    row (settledWithin (28 * (263 * 1)) q (run eighth q 12 0)) (settledWithin (27 * (263 * 1)) q (run eighth q 12 0))
+    -- the weight left out: document 01's run, which settles with slack 36
+    ∷ row (settledWithin (28 * (256 * 1)) p (run eighth p 0 17)) (settledWithin (28 * 1) p (run eighth p 0 17))
+    -- the pairs left out: two of the four have the fall of 7
+    ∷ row (settledWithin (28 * (263 * 4)) two (run eighth two 12 0)) (settledWithin (28 * 263) two (run eighth two 12 0))
+    -- the slack before the clamp: settled at flow 0 with slack 0, but 262144 in the wider box
+    ∷ row (settledWithin (28 * (256 * 1)) narrow (run eighth narrow 0 0))
+    (settledWithin (28 * (256 * 1)) p (run eighth narrow 0 0))
+    ∷ []
+
+-- 8 × moved is at most the slack of the flow that the quick rounds leave
+unfoldable pub movedRows : List Row
+movedRows =
+    let p : Problem = twoByOne 125 0 255 in
+    let q : Problem = threeByTwo in
+    let r : Problem = fourByOne in
+    -- the slack of R: P is −112 with slack 7488, R is −125 with slack 0, and one round moves
+    row (movedWithin 8 p (start eighth p 2) (run eighth p 2 1)) (movedWithin 8 p (ahead eighth p 2) (run eighth p 2 1))
+    -- 17 for 8: three quick rounds leave slack 16, and one round moves
+    ∷ row (movedWithin 8 q (start eighth q 3) (run eighth q 3 1)) (movedWithin 17 q (start eighth q 3) (run eighth q 3 1))
+    -- 15 for 8, of the law for any readings (a search found no run of a job below 16): slack 44, and three rounds move a
+    -- pair each
+    ∷ row (movedWithin 8 r (start eighth r 0) (run eighth r 0 3)) (movedWithin 15 r (start eighth r 0) (run eighth r 0 3))
+    ∷ []
+
+-- A run settles whenever 8 × (allowance + 1) exceeds that slack
+unfoldable pub settlesRows : List Row
+settlesRows =
+    let p : Problem = threeByOne in
+    let q : Problem = threeByTwo in
+    let r : Problem = fourByOne in
+    -- d / 8 rounded down: one quick round leaves the flow 0 −1 either way, with slack 2 and a fall of −1, which moves then
+    row (settlesWhen 8 eighth p 1 0) (settlesWhen 8 eighthDown p 1 0)
+    -- 17 and 15 for 8: the runs above, with one round fewer
+    ∷ row (settlesWhen 8 eighth q 3 0) (settlesWhen 17 eighth q 3 0)
+    ∷ row (settlesWhen 8 eighth r 0 2) (settlesWhen 15 eighth r 0 2)
+    ∷ []
+
+unfoldable pub rows : List Row
+rows = distanceRows ++ divisionRows ++ settledRows ++ movedRows ++ settlesRows
+
+-- Bounds met exactly
+unfoldable pub metExactly : List Bool
+metExactly =
+    let p : Problem = twoByOne 256 0 255 in
+    let q : Problem = twoByOne 263 0 1 in
+    let f : ℕ → ℤ = flow (pos 0) in
+    let g : ℕ → ℤ = flow (negℤ (pos 256)) in
+    -- price + squared distance = other price + slack, 393216
+    sameZ (price p (image p f) +ℤ distance p (image p f) (other 256 256)) (price p (other 256 256) +ℤ slack p f)
+    -- slack 0, equal prices and equal images
+    ∷ sameZ (slack p g) (pos 0)
+    ∷ sameZ (price p (image p g)) (price p (other 256 256))
+    ∷ sameZ (distance p (image p g) (other 256 256)) (pos 0)
+    -- the slack of a settled run = 28 × weight × pairs, 7364
+    ∷ sameZ (slack q (at (run eighth q 12 0 .flow))) (pos (28 * (263 * 1)))
+    ∷ []
