@@ -13,7 +13,9 @@ ghost use mathlib.Core.List.{_++_};
 ghost use lib.ListN.{length, drop};
 ghost use Rattle.model.specs.Grid.{grid};
 ghost use Rattle.model.specs.Rounds.{eighth, quickRound, quickRounds};
+ghost use Rattle.model.specs.Calls.{imageOf};
 ghost use Rattle.rounds.specs.Ready.{QuickReady, held, QuickJob};
+ghost use Rattle.rounds.specs.Left.{quickWork, quickImage};
 
 // One quick round on the flow, which holds P, and the numbers ahead, which are R: from the image of R.
 // Gives the next T.
@@ -29,6 +31,7 @@ fn advance(
     ensures { λ _. ⌜ now (flow .exit) ≡ quickRound eighth (grid t (now (samples .entry))) (held (now (flow .entry)) (now (ahead .entry)) momentum) .iterate ⌝ }
     ensures { λ _. ⌜ now (ahead .exit) ≡ quickRound eighth (grid t (now (samples .entry))) (held (now (flow .entry)) (now (ahead .entry)) momentum) .extrapolated ⌝ }
     ensures { λ r. ⌜ r ≡ quickRound eighth (grid t (now (samples .entry))) (held (now (flow .entry)) (now (ahead .entry)) momentum) .momentum ⌝ }
+    ensures { λ _. ⌜ now (image .exit) ≡ imageOf t (now (samples .entry)) (now (ahead .entry)) ⌝ }
 {
     let w = t.width as usize;
     let h = t.height as usize;
@@ -61,13 +64,15 @@ fn quick_round(
     ensures { λ _. ⌜ now (flow .exit) ≡ quickRound eighth (grid t (now (samples .entry))) (held (now (flow .entry)) (drop (length (now (flow .entry))) (now (work .entry))) momentum) .iterate ⌝ }
     ensures { λ _. ⌜ now (work .exit) ≡ now (flow .entry) ++ quickRound eighth (grid t (now (samples .entry))) (held (now (flow .entry)) (drop (length (now (flow .entry))) (now (work .entry))) momentum) .extrapolated ⌝ }
     ensures { λ r. ⌜ r ≡ quickRound eighth (grid t (now (samples .entry))) (held (now (flow .entry)) (drop (length (now (flow .entry))) (now (work .entry))) momentum) .momentum ⌝ }
+    ensures { λ _. ⌜ now (image .exit) ≡ imageOf t (now (samples .entry)) (drop (length (now (flow .entry))) (now (work .entry))) ⌝ }
 {
     let m = flow.len();
     buffers::copy(&mut work[..m], flow);
     advance(t, samples, flow, &mut work[m..], image, momentum)
 }
 
-// Quick rounds from the start, P = R = 0 and T = 65,536: the flow gets P.
+// Quick rounds from the start, P = R = 0 and T = 65,536: the flow gets P, the work buffer the earlier P
+// and the R ahead.
 pub fn quick_rounds(
     t: Terms,
     quick: u32,
@@ -78,6 +83,8 @@ pub fn quick_rounds(
 )
     requires { ⌜ QuickJob t quick (now samples) (now flow) (now image) (now work) ⌝ }
     ensures { λ _. ⌜ now (flow .exit) ≡ quickRounds eighth (grid t (now (samples .entry))) quick .iterate ⌝ }
+    ensures { λ _. ⌜ now (image .exit) ≡ quickImage t (now (samples .entry)) quick (now (image .entry)) ⌝ }
+    ensures { λ _. ⌜ now (work .exit) ≡ quickWork (grid t (now (samples .entry))) quick ⌝ }
 {
     buffers::clear(flow);
     buffers::clear(work);

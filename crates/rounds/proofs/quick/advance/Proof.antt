@@ -109,7 +109,7 @@ returns c =
         rw (read w32 (n .natural .ok), n .natural .ensures, p .lengths .flow-length) at (g .advance-grid .ensures .1)
             ∙ ahead-is (a .t) (a .samples .now) (a .flow .now) (a .ahead .now) (a .momentum) e _ (p .limits .weight-most) (p .flow-most)
             (p .momentum-least) (p .momentum-most) (by-next n),
-        unfold quickRound in n .before .before .before .before .before .next-momentum .ensures,
+        (unfold quickRound in n .before .before .before .before .before .next-momentum .ensures, e),
       ),
     )
 

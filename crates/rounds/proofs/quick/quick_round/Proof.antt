@@ -66,7 +66,7 @@ returns c =
       (
         second-back (k .copy .last .0) (s .args .work .now) size _
             ∙ ap₂ (λ (l r : List ℤ). l ++ r) (k .copy .ensures) (rw half at (a .advance .ensures .1 .0)),
-        rw half at (a .advance .ensures .1 .1),
+        (rw half at (a .advance .ensures .1 .1 .0), rw half at (a .advance .ensures .1 .1 .1)),
       ),
     )
 

@@ -3,12 +3,12 @@ use mathlib.Core.Path.{_≡_, sym, ap, _∙_}
 use Prim.Native.Nat.{ℕ, _-_, _*_}
 use native.Mathlib.Omega.{arith}
 use borrow.Author.Needs.{needs}
-use Rattle.rounds.proofs.Turns.{Turned, turned-none, turned-ready, turned-more, turned-length}
+use Rattle.rounds.proofs.Turns.{Turned, turned-none, turned-ready, turned-more, turned-length, turned-work}
 use Rattle.rounds.proofs.quick.quick_rounds.Statement.{statement}
 use Rattle.rounds.proofs.quick.quick_rounds.Tie as tie
 
 abbrev Inv-loop : tie.InvT-loop
-Inv-loop t quick samples flow₀ image₀ work₀ momentum₀ k₀ flow image work momentum k = Turned t quick samples k flow image work momentum
+Inv-loop t quick samples flow₀ image₀ work₀ momentum₀ k₀ flow image work momentum k = Turned t quick samples image₀ k flow image work momentum
 
 abbrev μ-loop : tie.MeasureT-loop
 μ-loop t quick samples flow₀ image₀ work₀ momentum₀ k₀ flow image work momentum k = quick - k
@@ -28,7 +28,7 @@ quick-round-requires : tie.Need-quick-round-requires Inv-loop μ-loop
 quick-round-requires c κs =
     let i = c .before .before .before .before in
     let s = i .before .before .before .before .before .before .before .before in
-    (i .loop .inv .work-length, turned-ready (i .loop .inv) (s .pre) (omega arith))
+    (turned-work (i .loop .inv), turned-ready (i .loop .inv) (s .pre) (omega arith))
 
 add-k : tie.Need-add-k Inv-loop μ-loop
 add-k c = search needs
@@ -40,7 +40,7 @@ loop-again : tie.Need-loop-again Inv-loop μ-loop
 loop-again c =
     let q = c .before .before .before in
     let i = q .before .before .before .before .before in
-    turned-more (i .loop .inv) (omega arith) (c .before .image .given) (q .quick-round .ensures .0) (q .quick-round .ensures .1 .0) (q .quick-round .ensures .1 .1)
+    turned-more (i .loop .inv) (omega arith) (c .before .image .given) (q .quick-round .ensures .0) (q .quick-round .ensures .1 .0) (q .quick-round .ensures .1 .1 .0) (q .quick-round .ensures .1 .1 .1)
 
 same-length : tie.Need-same-length Inv-loop μ-loop
 same-length c =
@@ -58,14 +58,15 @@ same-length-3 : tie.Need-same-length-3 Inv-loop μ-loop
 same-length-3 c =
     let i = c .before in
     let s = i .before .before .before .before .before .before .before .before in
-    i .loop .inv .work-length ∙ ap (λ (n : ℕ). 2 * n) (same-length c) ∙ sym (s .pre .work-length)
+    turned-work (i .loop .inv) ∙ ap (λ (n : ℕ). 2 * n) (same-length c) ∙ sym (s .pre .work-length)
 
 returns : tie.Need-returns Inv-loop μ-loop
 returns c =
     let i = c .before in
     let s = i .before .before .before .before .before .before .before .before in
     let k : i .loop .k ≡ s .args .quick = omega (arith, i .loop .inv .round-most) in
-    rw k at (i .loop .inv .flow-is)
+    let v = i .loop .inv in
+    (rw k at (v .flow-is), (rw k at (v .image-is), rw k at (v .work-is)))
 
 pub quick-rounds-spec : {M : Type 1} → statement M
 quick-rounds-spec =
