@@ -50,6 +50,14 @@ module _ (upper lower : List Row) where
   pub joined : {v a b : Verdict} → v ≡ decided a b Refuse → a ≡ firstRefusal upper → b ≡ firstRefusal lower → v ≡ firstRefusal (upper ++ lower)
   joined e f g = e ∙ ap₂ (λ (x y : Verdict). decided x y Refuse) f g ∙ sym (firstRefusal-append upper lower)
 
+  -- the upper rows refuse, and those below are not looked at
+  pub stopped : {v : Verdict} {number place : ℕ} → v ≡ firstRefusal upper → v ≡ Refuse number place → v ≡ firstRefusal (upper ++ lower)
+  stopped {v} f e = joined (e ∙ sym (ap (λ (x : Verdict). decided x (firstRefusal lower) Refuse) e)) f refl
+
+  -- they accept: those below decide
+  pub went-on : {a v : Verdict} → a ≡ firstRefusal upper → a ≡ Accept → v ≡ firstRefusal lower → v ≡ firstRefusal (upper ++ lower)
+  went-on {a} {v} f e g = joined (sym (ap (λ (x : Verdict). decided x v Refuse) e)) f g
+
 -- ---- no row has the number 0, so a refusal is never taken for an acceptance
 
 abbrev pub Numbered : List Row → Type 0
