@@ -45,6 +45,15 @@ accepted-row r rows h = split (r .applies) refl h
     split true e k = let z : _≡_ {A = Bool} true false = cc in (e ∙ z, cc)
     split false e k = (e, k)
 
+-- no row of an accepted table applies
+abbrev pub NoneApply : List Row → Type 0
+NoneApply [] = Unit {0}
+NoneApply (r ∷ rows) = (r .applies ≡ false) × NoneApply rows
+
+pub accepted-rows : (rows : List Row) → firstRefusal rows ≡ Accept → NoneApply rows
+accepted-rows [] h = tt
+accepted-rows (r ∷ rows) h = let a = accepted-row r rows h in (a .0, accepted-rows rows (a .1))
+
 -- the first of two verdicts that refuses is that of their rows, one after the other
 module _ (upper lower : List Row) where
   pub joined : {v a b : Verdict} → v ≡ decided a b Refuse → a ≡ firstRefusal upper → b ≡ firstRefusal lower → v ≡ firstRefusal (upper ++ lower)
