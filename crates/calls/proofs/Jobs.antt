@@ -4,8 +4,6 @@ use mathlib.Core.List.{List}
 use Prim.Native.Nat.{ℕ, _^_, _≤_, _<_}
 use native.Mathlib.Nat.{le-trans}
 use native.Mathlib.Omega.{arith}
-use mathlib.Core.Bool.{true}
-use borrow.Author.Tests.{leb-true}
 use lib.IntN.{ℤ, pos, natAbs}
 use lib.ListN.{length, getD}
 use lib.Signed.{_≤ℤ_}
@@ -14,26 +12,24 @@ use Rattle.integers.proofs.Absolute.{bounds→natAbs}
 use Rattle.model.specs.declared.Terms.{Terms}
 use Rattle.model.specs.Lists.{at}
 use Rattle.model.specs.Problem.{Feasible, image, InBox}
-use Rattle.model.specs.Grid.{weightAllowed, grid}
+use Rattle.model.specs.Grid.{grid}
 use Rattle.model.specs.Calls.{pixelsOf, pairsOf, imageOf}
+use Rattle.model.specs.Accepted.{TermsAllowed}
 use Rattle.model.proofs.Lists.{length-table}
 use Rattle.model.proofs.Bounds as Bounds
-use Rattle.model.proofs.Bounds.{size-limits, value-least, value-most, image-inside}
+use Rattle.model.proofs.Bounds.{value-least, value-most, image-inside}
 use Rattle.runs.specs.Limits.{Within, MisfitLimits}
 use Rattle.raster.specs.Whole.{RasterLimits, WorkLimits}
 use Rattle.runs.proofs.Elements.{within-below}
 use Rattle.raster.proofs.Model.{value-at}
-use Rattle.calls.specs.Ready.{Allowed}
 
 module _ (t : Terms) (samples : List ℕ) where
-  pub with-bytes : Allowed t → t .high < 256 → ((i : ℕ) → getD samples i 0 < 256) → Bounds.Allowed t samples
-  with-bytes a high bytes =
-      record { size = a .size; weight = a .weight; box = a .box; high-byte = omega arith; bytes = λ i. omega (arith, bytes i) }
+  pub with-bytes : TermsAllowed t → t .high < 256 → ((i : ℕ) → getD samples i 0 < 256) → Bounds.Allowed t samples
+  with-bytes a high bytes = record { terms = a; high-byte = omega arith; bytes = λ i. omega (arith, bytes i) }
 
   -- a flow within the weight
-  pub flow-most : (flow : List ℤ) → length flow ≡ pairsOf t → weightAllowed (t .weight) ≡ true → Feasible (grid t samples) (at flow) → Within (2 ^ 20) flow
-  unfolding weightAllowed
-  flow-most flow n h within = within-below flow (λ j l. omega (arith, within j (rw n at l), leb-true (t .weight) 65280 h))
+  pub flow-most : (flow : List ℤ) → length flow ≡ pairsOf t → t .weight ≤ 65280 → Feasible (grid t samples) (at flow) → Within (2 ^ 20) flow
+  flow-most flow n h within = within-below flow (λ j l. omega (arith, within j (rw n at l)))
 
   module _ (ok : Bounds.Allowed t samples) where
     -- an image of the box
@@ -47,11 +43,10 @@ module _ (t : Terms) (samples : List ℕ) where
 
       pub raster-limits : RasterLimits (t .width) (t .height) values
       raster-limits =
-          let s = size-limits (t .width) (t .height) (ok .size) in
           record {
-            width-least = s .width-least;
-            height-least = s .height-least;
-            pixels-most = s .pixels-most;
+            width-least = ok .terms .width-least;
+            height-least = ok .terms .height-least;
+            pixels-most = ok .terms .pixels-most;
             image-length = n;
             image-most = image-most;
           }
@@ -60,7 +55,7 @@ module _ (t : Terms) (samples : List ℕ) where
       misfit-limits m =
           record {
             same-count = n ∙ sym m;
-            count-most = rw n (size-limits (t .width) (t .height) (ok .size) .pixels-most);
+            count-most = rw n (ok .terms .pixels-most);
             image-most = image-most;
           }
 
@@ -77,4 +72,4 @@ module _ (t : Terms) (samples : List ℕ) where
             (image-inside t samples ok (at flow) i l)
 
         pub work-limits : WorkLimits (t .width) (t .height) (pairsOf t) flow values
-        work-limits = record { raster = raster-limits values image-size image-inside-box; flow-length = n; flow-most = flow-most flow n (ok .weight) within }
+        work-limits = record { raster = raster-limits values image-size image-inside-box; flow-length = n; flow-most = flow-most flow n (ok .terms .weight-most) within }

@@ -1,6 +1,5 @@
 -- What the passes under the calls ask: an allowed job, its lengths, and an image of its box or of its flow.
 use mathlib.Core.Path.{_≡_}
-use mathlib.Core.Bool.{true}
 use mathlib.Core.List.{List}
 use Prim.Native.Nat.{ℕ}
 use lib.IntN.{ℤ}
@@ -8,25 +7,20 @@ use lib.ListN.{length}
 use Rattle.model.specs.declared.Terms.{Terms}
 use Rattle.model.specs.Lists.{at}
 use Rattle.model.specs.Problem.{Feasible, InBox}
-use Rattle.model.specs.Grid.{sizeAllowed, weightAllowed, boxAllowed, grid}
+use Rattle.model.specs.Grid.{grid}
 use Rattle.model.specs.Calls.{pixelsOf, pairsOf, imageOf}
-
--- allowed terms
-pub record Allowed (t : Terms) : Type 0 where
-  pub size : sizeAllowed (t .width) (t .height) ≡ true
-  pub weight : weightAllowed (t .weight) ≡ true
-  pub box : boxAllowed (t .low) (t .high) ≡ true
+use Rattle.model.specs.Accepted.{TermsAllowed}
 
 -- price: an image of the box
 pub record PriceReady (t : Terms) (samples : List ℕ) (values : List ℤ) : Type 0 where
-  pub allowed : Allowed t
+  pub terms : TermsAllowed t
   pub samples-length : length samples ≡ pixelsOf t
   pub image-length : length values ≡ pixelsOf t
   pub inside : InBox (grid t samples) (at values)
 
 -- check and run: a flow within the weight, and its image
 pub record FlowReady (t : Terms) (samples : List ℕ) (flow values : List ℤ) : Type 0 where
-  pub allowed : Allowed t
+  pub terms : TermsAllowed t
   pub samples-length : length samples ≡ pixelsOf t
   pub flow-length : length flow ≡ pairsOf t
   pub feasible : Feasible (grid t samples) (at flow)

@@ -81,13 +81,19 @@ fn judge_flow(flow: &[i32], weight: u32) -> Verdict
     }
 }
 
-// Check: 1, 2, 3; 4, 5, 6; 8. Of the image only its length counts.
+// Check: 1, 2, 3; 4, 5, 6; 8. Of the image only its length counts, and the flow is read only where
+// terms and lengths have passed.
 pub fn judge_check(t: Terms, samples: usize, flow: &[i32], image: usize) -> Verdict
     ensures { λ r. ⌜ r ≡ firstRefusal (sizeRow t 0 ∷ weightRow t 0 ∷ boxRow t 0 ∷ row (not (eqb samples (pixelsOf t))) 4 0 ∷ row (not (eqb (length (now (flow .entry))) (pairsOf t))) 5 0 ∷ row (not (eqb image (pixelsOf t))) 6 0 ∷ flowRow (t .weight) (now (flow .entry)) ∷ []) ⌝ }
 {
-    let lengths = judge_lengths(t, samples, flow.len(), image);
-    let contents = judge_flow(flow, t.weight);
-    first(terms::judge_terms(t), first(lengths, contents))
+    let upper = first(
+        terms::judge_terms(t),
+        judge_lengths(t, samples, flow.len(), image),
+    );
+    let Verdict::Accept = upper else {
+        return upper;
+    };
+    judge_flow(flow, t.weight)
 }
 
 // 9: an image value outside the box, at the first index.
@@ -102,14 +108,17 @@ fn judge_image(image: &[i32], t: Terms) -> Verdict
     }
 }
 
-// Price: 1, 2, 3; 4, 6; 9.
+// Price: 1, 2, 3; 4, 6; 9. The image is read only where terms and lengths have passed.
 pub fn judge_price(t: Terms, samples: usize, image: &[i32]) -> Verdict
     ensures { λ r. ⌜ r ≡ firstRefusal (sizeRow t 0 ∷ weightRow t 0 ∷ boxRow t 0 ∷ row (not (eqb samples (pixelsOf t))) 4 0 ∷ row (not (eqb (length (now (image .entry))) (pixelsOf t))) 6 0 ∷ imageRow t (now (image .entry)) ∷ []) ⌝ }
 {
     let n = lengths_due(t).pixels;
     let lengths = first(exact(samples, n, 4), exact(image.len(), n, 6));
-    let contents = judge_image(image, t);
-    first(terms::judge_terms(t), first(lengths, contents))
+    let upper = first(terms::judge_terms(t), lengths);
+    let Verdict::Accept = upper else {
+        return upper;
+    };
+    judge_image(image, t)
 }
 
 // 10: quick rounds over 4,096.

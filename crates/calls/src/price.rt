@@ -6,11 +6,14 @@ use crate::judge;
 use model::Terms;
 use model::Verdict;
 ghost use mathlib.Core.Path.{_≡_};
+ghost use mathlib.Core.Logic.{_↔_};
 ghost use Rattle.model.specs.Calls.{priceAnswer};
+ghost use Rattle.model.specs.Accepted.{PriceAllowed};
 ghost use Rattle.calls.specs.Answers.{answerOf};
 
 pub fn price(t: Terms, samples: &[u8], image: &[i32]) -> Answer
     ensures { λ r. ⌜ answerOf r ≡ priceAnswer t (now (samples .entry)) (now (image .entry)) ⌝ }
+    ensures { λ r. ⌜ ((answerOf r .number ≡ 0) ↔ PriceAllowed t (now (samples .entry)) (now (image .entry))) ⌝ }
 {
     let verdict = judge::judge_price(t, samples.len(), image);
     if let Verdict::Refuse { number, place } = verdict {

@@ -1,10 +1,8 @@
 -- Demand 3 at document 01's grid. Assumes nothing.
 use mathlib.Core.Path.{_≡_, sym, ap, _∙_, subst}
-use mathlib.Core.Bool.{true}
 use mathlib.Core.List.{List}
 use Prim.Native.Nat.{ℕ, zero, suc, _*_, _≤_, _<_, zero-le}
 use native.Mathlib.Omega.{arith}
-use borrow.Author.Tests.{leb-true}
 use lib.IntN.{ℤ, pos, natAbs, _+ℤ_, _*ℤ_}
 use lib.ListN.{length, length-replicate, getD-replicate}
 use lib.Signed.{_≤ℤ_}
@@ -14,7 +12,7 @@ use Rattle.model.specs.Lists.{at}
 use Rattle.model.specs.Problem.{Problem, pairCount, Feasible, slack}
 use Rattle.model.specs.declared.Terms.{Terms}
 use Rattle.model.specs.declared.Rounds.{Rounds}
-use Rattle.model.specs.Grid.{boxAllowed, lowEnd, highEnd, grid}
+use Rattle.model.specs.Grid.{lowEnd, highEnd, grid}
 use Rattle.model.specs.Rounds.{eighth, quickStart, quickRound, quickRounds}
 use Rattle.model.specs.Calls.{quickFlow, ending}
 use Rattle.model.proofs.Pairs.{neighbours, first-inside, second-inside}
@@ -26,17 +24,17 @@ use Rattle.certificate.proofs.Rounding.{eighth-rounding}
 use Rattle.certificate.proofs.Steady.{step-length, step-feasible, steady-ends, moved-bound, settled-bound, settles}
 
 -- the grid is a sound pair system
-pub grid-sound : (t : Terms) (samples : List ℕ) → boxAllowed (t .low) (t .high) ≡ true → Sound (grid t samples)
-unfolding boxAllowed lowEnd highEnd
+pub grid-sound : (t : Terms) (samples : List ℕ) → t .low ≤ t .high → Sound (grid t samples)
+unfolding lowEnd highEnd
 grid-sound t samples box =
     record {
-      box = ≤→pos (omega (arith, leb-true (t .low) (t .high) box));
+      box = ≤→pos (omega arith);
       first-in = λ j l. first-inside (t .width) (t .height) _ (neighbours (t .width) (t .height) j _ l);
       second-in = λ j l. second-inside (t .width) (t .height) _ (neighbours (t .width) (t .height) j _ l);
     }
 
 -- Check: whatever flow within the weight it was sent
-pub check-demand : (t : Terms) (samples : List ℕ) → boxAllowed (t .low) (t .high) ≡ true → (flow : List ℤ) →
+pub check-demand : (t : Terms) (samples : List ℕ) → t .low ≤ t .high → (flow : List ℤ) →
     Feasible (grid t samples) (at flow) → CheckDemand t samples flow
 check-demand t samples box flow within = certificate (grid t samples) (grid-sound t samples box) (at flow) within
 
@@ -59,7 +57,7 @@ constant zero w = ap pos (omega arith)
 constant (suc m) w = ap (λ (s : ℤ). s +ℤ pos w) (constant m w) ∙ ap pos (omega arith)
 
 -- a run ends with a flow within the weights
-pub ending-flow : (t : Terms) (r : Rounds) (samples : List ℕ) → boxAllowed (t .low) (t .high) ≡ true →
+pub ending-flow : (t : Terms) (r : Rounds) (samples : List ℕ) → t .low ≤ t .high →
     (length (ending t r samples .flow) ≡ pairCount (grid t samples)) × Feasible (grid t samples) (at (ending t r samples .flow))
 unfolding ending quickFlow
 ending-flow t r samples box =
@@ -71,7 +69,7 @@ ending-flow t r samples box =
     (e .size, e .feasible)
 
 -- Run: whatever the scan and the rounds
-pub run-demand : (t : Terms) (r : Rounds) (samples : List ℕ) → boxAllowed (t .low) (t .high) ≡ true → RunDemand t r samples
+pub run-demand : (t : Terms) (r : Rounds) (samples : List ℕ) → t .low ≤ t .high → RunDemand t r samples
 unfolding ending quickFlow
 run-demand t r samples box =
     let p : Problem = grid t samples in

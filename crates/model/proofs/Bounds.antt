@@ -18,7 +18,8 @@ use Rattle.integers.proofs.Absolute.{natAbs-product, natAbs-sum, natAbs-differe
 use Rattle.integers.proofs.Clamp.{clamp-≥, clamp-≤}
 use Rattle.integers.proofs.Total.{natAbs-total}
 use Rattle.model.specs.Problem.{pairCount, firstOf, secondOf, fall, misfit, price, Feasible, pull, image, floor, slack, InBox}
-use Rattle.model.specs.Grid.{Terms, sizeAllowed, weightAllowed, boxAllowed, readingOf, lowEnd, highEnd, gridPairs, grid}
+use Rattle.model.specs.Grid.{Terms, sizeAllowed, readingOf, lowEnd, highEnd, gridPairs, grid}
+use Rattle.model.specs.Accepted.{TermsAllowed}
 use Rattle.model.proofs.Pairs.{pair-count, neighbours, first-inside, second-inside}
 
 -- ---- what the tests of the terms say
@@ -71,11 +72,9 @@ two-sums : (n m : ℕ) (s c : ℤ) → natAbs s ≤ n * (most * most) → natAbs
     natAbs (s +ℤ pos 2 *ℤ c) ≤ largest
 two-sums n m s c u v h k = omega (arith, natAbs-sum s (pos 2 *ℤ c), natAbs-product (pos 2) c)
 
--- An allowed job: the size and the weight pass their tests, the box and the samples are bytes
+-- An allowed job: allowed terms, and the box and the samples are bytes
 pub record Allowed (t : Terms) (samples : List ℕ) : Type 0 where
-  pub size : sizeAllowed (t .width) (t .height) ≡ true
-  pub weight : weightAllowed (t .weight) ≡ true
-  pub box : boxAllowed (t .low) (t .high) ≡ true
+  pub terms : TermsAllowed t
   pub high-byte : t .high ≤ 255
   pub bytes : (i : ℕ) → getD samples i 0 ≤ 255
 
@@ -92,10 +91,6 @@ module _ (t : Terms) (samples : List ℕ) (ok : Allowed t samples) where
   reading-bounds : (i : ℕ) → (pos 0 ≤ℤ readingOf (getD samples i 0)) × (readingOf (getD samples i 0) ≤ℤ pos most)
   unfolding readingOf
   reading-bounds i = (0≤pos (256 * getD samples i 0), ≤→pos (omega (arith, ok .bytes i)))
-
-  pub weight-most : t .weight ≤ most
-  unfolding weightAllowed
-  weight-most = leb-true (t .weight) most (ok .weight)
 
   module _ (x : ℕ → ℤ) (inside : InBox (grid t samples) x) where
     misfit-bound : natAbs (misfit (grid t samples) x) ≤ t .width * t .height * (most * most)
@@ -123,20 +118,20 @@ module _ (t : Terms) (samples : List ℕ) (ok : Allowed t samples) where
     objective-bound c each =
         two-sums (t .width * t .height) (pairCount (grid t samples)) (misfit (grid t samples) x)
         (total (pairCount (grid t samples)) c) misfit-bound (natAbs-total (pairCount (grid t samples)) c each)
-        (size-limits (t .width) (t .height) (ok .size) .pixels-most)
+        (ok .terms .pixels-most)
         (pairs-most (t .width) (t .height))
 
     pub price-bound : natAbs (price (grid t samples) x) ≤ largest
     unfolding price
     price-bound = objective-bound _ (λ j l.
         subst (λ (n : ℕ). n ≤ most * most) (sym (natAbs-product (pos (t .weight)) (abs (fall (grid t samples) x j))))
-        (mul-le-mul weight-most (fall-bound j l)))
+        (mul-le-mul (ok .terms .weight-most) (fall-bound j l)))
 
   pub image-inside : (f : ℕ → ℤ) → InBox (grid t samples) (image (grid t samples) f)
-  unfolding image lowEnd highEnd boxAllowed
+  unfolding image lowEnd highEnd
   image-inside f i l =
       let z : ℤ = readingOf (getD samples i 0) -ℤ pull (grid t samples) f i in
-      let o : pos (256 * t .low) ≤ℤ pos (256 * t .high) = ≤→pos (omega (arith, leb-true (t .low) (t .high) (ok .box))) in
+      let o : pos (256 * t .low) ≤ℤ pos (256 * t .high) = ≤→pos (omega (arith, ok .terms .box)) in
       (clamp-≥ (pos (256 * t .low)) (pos (256 * t .high)) z o, clamp-≤ (pos (256 * t .low)) (pos (256 * t .high)) z o)
 
   module _ (f : ℕ → ℤ) (within : Feasible (grid t samples) f) where
@@ -144,7 +139,7 @@ module _ (t : Terms) (samples : List ℕ) (ok : Allowed t samples) where
     unfolding floor
     floor-bound = objective-bound (image (grid t samples) f) (image-inside f) _ (λ j l.
         subst (λ (n : ℕ). n ≤ most * most) (sym (natAbs-product (f j) (fall (grid t samples) (image (grid t samples) f) j)))
-        (mul-le-mul (le-trans (within j l) weight-most)
+        (mul-le-mul (le-trans (within j l) (ok .terms .weight-most))
         (fall-bound (image (grid t samples) f) (image-inside f) j l)))
 
     pub slack-bound : natAbs (slack (grid t samples) f) ≤ 2 * largest

@@ -45,10 +45,27 @@ accepted-row r rows h = split (r .applies) refl h
     split true e k = let z : _≡_ {A = Bool} true false = cc in (e ∙ z, cc)
     split false e k = (e, k)
 
+-- no row of an accepted table applies
+abbrev pub NoneApply : List Row → Type 0
+NoneApply [] = Unit {0}
+NoneApply (r ∷ rows) = (r .applies ≡ false) × NoneApply rows
+
+pub accepted-rows : (rows : List Row) → firstRefusal rows ≡ Accept → NoneApply rows
+accepted-rows [] h = tt
+accepted-rows (r ∷ rows) h = let a = accepted-row r rows h in (a .0, accepted-rows rows (a .1))
+
 -- the first of two verdicts that refuses is that of their rows, one after the other
 module _ (upper lower : List Row) where
   pub joined : {v a b : Verdict} → v ≡ decided a b Refuse → a ≡ firstRefusal upper → b ≡ firstRefusal lower → v ≡ firstRefusal (upper ++ lower)
   joined e f g = e ∙ ap₂ (λ (x y : Verdict). decided x y Refuse) f g ∙ sym (firstRefusal-append upper lower)
+
+  -- the upper rows refuse, and those below are not looked at
+  pub stopped : {v : Verdict} {number place : ℕ} → v ≡ firstRefusal upper → v ≡ Refuse number place → v ≡ firstRefusal (upper ++ lower)
+  stopped {v} f e = joined (e ∙ sym (ap (λ (x : Verdict). decided x (firstRefusal lower) Refuse) e)) f refl
+
+  -- they accept: those below decide
+  pub went-on : {a v : Verdict} → a ≡ firstRefusal upper → a ≡ Accept → v ≡ firstRefusal lower → v ≡ firstRefusal (upper ++ lower)
+  went-on {a} {v} f e g = joined (sym (ap (λ (x : Verdict). decided x v Refuse) e)) f g
 
 -- ---- no row has the number 0, so a refusal is never taken for an acceptance
 

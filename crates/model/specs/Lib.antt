@@ -7,6 +7,7 @@
 --     Rounds      the step, quick rounds, steady rounds
 --     Verdict     refusals: the first row of a table that applies
 --     Calls       check, price and run: their refusals, answers and buffers
+--     Accepted    what the accepted calls have been lent: terms, lengths and contents
 --     Tape        the job tape: records, reading, writing
 --     Text        numbers and words as ASCII
 --     Program     the cleaning program's output
@@ -18,6 +19,7 @@ pub mod Root
 pub mod Rounds
 pub mod Verdict
 pub mod Calls
+pub mod Accepted
 pub mod Tape
 pub mod Text
 pub mod Program

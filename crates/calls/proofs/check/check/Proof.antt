@@ -6,15 +6,18 @@ use lib.IntN.{ℤ}
 use mir.Syntax.{w32, w64}
 use Rattle.integers.proofs.Machine.{read}
 use Rattle.model.specs.declared.Verdict.{Verdict}
-use Rattle.model.specs.Lists.{table}
+use Rattle.model.specs.Lists.{at, table}
+use Rattle.model.specs.Problem.{Feasible}
+use Rattle.model.specs.Grid.{grid}
 use Rattle.model.specs.Calls.{checked, checkVerdict, imageOf}
-use Rattle.model.proofs.Bounds.{size-limits}
+use Rattle.model.specs.Accepted.{CheckAllowed}
+use Rattle.model.proofs.Accepted.{check-feasible, check-accepted, check-number}
 use Rattle.model.proofs.Pairs.{grid-count}
 use Rattle.certificate.proofs.Grid.{check-demand}
 use Rattle.raster.specs.Image.{imageValue}
 use Rattle.raster.proofs.Model.{image-is}
 use Rattle.calls.proofs.Jobs.{flow-most}
-use Rattle.calls.proofs.Verdicts.{not-both, figured, CheckAccepted, check-accepts, check-answers, check-fills, check-refuses, check-keeps}
+use Rattle.calls.proofs.Verdicts.{not-both, told, figured, check-answers, check-fills, check-refuses, check-keeps}
 use Rattle.calls.proofs.check.check.Statement.{statement}
 use Rattle.calls.proofs.check.check.Tie as tie
 
@@ -33,7 +36,8 @@ returns c =
     let b = s .args .samples .now in
     let f = s .args .flow .now in
     let x = s .args .image .now in
-    (check-refuses t b f x h, (check-keeps t b f x h, λ g. not-both h g))
+    let e = check-refuses t b f x h in
+    (e, (check-keeps t b f x h, (told e (check-number t b f x), λ g. not-both h g)))
 
 enum-told : tie.Need-enum-told
 enum-told c = search needs
@@ -45,8 +49,14 @@ unfolding checkVerdict
 accepted c = sym (c .before .before .judge-check .ensures) ∙ c .enum-told .given .1
 
 facts : (c : tie.After-enum-told) → let s = c .before .before .before .before in
-    CheckAccepted (s .args .t) (s .args .samples .now) (s .args .flow .now) (s .args .image .now)
-facts c = let s = c .before .before .before .before in check-accepts (s .args .t) (s .args .samples .now) (s .args .flow .now) (s .args .image .now) (accepted c)
+    CheckAllowed (s .args .t) (s .args .samples .now) (s .args .flow .now) (s .args .image .now)
+facts c = let s = c .before .before .before .before in check-accepted (s .args .t) (s .args .samples .now) (s .args .flow .now) (s .args .image .now) .0 (accepted c)
+
+feasible : (c : tie.After-enum-told) → let s = c .before .before .before .before in
+    Feasible (grid (s .args .t) (s .args .samples .now)) (at (s .args .flow .now))
+feasible c =
+    let s = c .before .before .before .before in
+    check-feasible (s .args .t) (s .args .samples .now) (s .args .flow .now) (s .args .image .now) (facts c)
 
 low-end-requires : tie.Need-low-end-requires
 low-end-requires c κs = search needs
@@ -66,14 +76,13 @@ fill-image-requires c κs =
     let s = e .before .before .before .before in
     let a = facts e in
     let t = s .args .t in
-    let z = size-limits (t .width) (t .height) (a .terms .size) in
     record {
-      width-least = z .width-least;
-      height-least = z .height-least;
+      width-least = a .terms .width-least;
+      height-least = a .terms .height-least;
       image-count = a .image-length;
       sample-count = a .samples-length;
       flow-count = a .flow-length ∙ grid-count (t .width) (t .height);
-      flow-most = flow-most t (s .args .samples .now) (s .args .flow .now) (a .flow-length) (a .terms .weight) (a .feasible);
+      flow-most = flow-most t (s .args .samples .now) (s .args .flow .now) (a .flow-length) (a .terms .weight-most) (feasible e);
     }
 
 -- the image is the flow's
@@ -96,10 +105,10 @@ of-flow-requires c κs =
     let e = i .before .before .before .before .before .before in
     let a = facts e in
     record {
-      allowed = record { size = a .terms .size; weight = a .terms .weight; box = a .terms .box };
+      terms = a .terms;
       samples-length = a .samples-length;
       flow-length = a .flow-length;
-      feasible = a .feasible;
+      feasible = feasible e;
       image = filled i;
     }
 
@@ -115,10 +124,12 @@ returns-2 c =
     let t = s .args .t in
     let b = s .args .samples .now in
     let f = s .args .flow .now in
-    let x = s .args .image .now in (
-      figured checked 0 t b f (r .of-flow .ensures .0) (read w64 (r .of-flow .ok .1 .1 .1 .0 .1) ∙ r .of-flow .ensures .1 .0) (r .of-flow .ensures .1 .1) ∙ check-answers t b f x (accepted e),
-      (filled i ∙ check-fills t b f x (accepted e), λ h. check-demand t b (facts e .terms .box) f (facts e .feasible)),
-    )
+    let x = s .args .image .now in
+    let k =
+    figured checked 0 t b f (r .of-flow .ensures .0) (read w64 (r .of-flow .ok .1 .1 .1 .0 .1) ∙ r .of-flow .ensures .1 .0) (r .of-flow .ensures .1 .1)
+    ∙ check-answers t b f x (accepted e)
+    in
+    (k, (filled i ∙ check-fills t b f x (accepted e), (told k (check-number t b f x), λ h. check-demand t b (facts e .terms .box) f (feasible e))))
 
 pub check-spec : {M : Type 1} → statement M
 check-spec =

@@ -22,7 +22,7 @@ cast-total-variation-grid-2 : tie.Need-cast-total-variation-grid-2
 cast-total-variation-grid-2 c = search needs
 
 allowed : (c : tie.After-struct-known) → Bounds.Allowed (c .before .before .args .t) (c .before .before .args .samples .now)
-allowed c = with-bytes _ _ (c .before .before .pre .allowed) (c .struct-known .given .1 .1 .1 .1 .0 .fits) (λ i. omega (arith, c .before .shared-slice-known .given i))
+allowed c = with-bytes _ _ (c .before .before .pre .terms) (c .struct-known .given .1 .1 .1 .1 .0 .fits) (λ i. omega (arith, c .before .shared-slice-known .given i))
 
 total-variation-grid-requires : tie.Need-total-variation-grid-requires
 total-variation-grid-requires c κs =

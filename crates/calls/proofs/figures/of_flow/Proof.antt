@@ -30,7 +30,7 @@ cast-h : tie.Need-cast-h
 cast-h c = search needs
 
 allowed : (c : tie.After-struct-known) → Bounds.Allowed (c .before .before .args .t) (c .before .before .args .samples .now)
-allowed c = with-bytes _ _ (c .before .before .pre .allowed) (c .struct-known .given .1 .1 .1 .1 .0 .fits) (λ i. omega (arith, c .before .shared-slice-known .given i))
+allowed c = with-bytes _ _ (c .before .before .pre .terms) (c .struct-known .given .1 .1 .1 .1 .0 .fits) (λ i. omega (arith, c .before .shared-slice-known .given i))
 
 misfit-requires : tie.Need-misfit-requires
 misfit-requires c κs =
@@ -128,7 +128,7 @@ gap-requires c κs =
     let f = at (s .args .flow .now) in
     rw (dual c) (
       omega (arith, largest-fits, o .objective .ensures, priced (o .before), floor-bound (s .args .t) (s .args .samples .now) ok f (s .pre .feasible)),
-      rw (primal o) (floor-below p (grid-sound (s .args .t) (s .args .samples .now) (ok .box)) f (s .pre .feasible) (image p f) (image-inside (s .args .t) (s .args .samples .now) ok f)),
+      rw (primal o) (floor-below p (grid-sound (s .args .t) (s .args .samples .now) (ok .terms .box)) f (s .pre .feasible) (image p f) (image-inside (s .args .t) (s .args .samples .now) ok f)),
     )
 
 returns : tie.Need-returns

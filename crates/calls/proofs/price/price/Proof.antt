@@ -3,7 +3,8 @@ use mathlib.Core.Path.{_≡_, sym, _∙_}
 use borrow.Author.Needs.{needs}
 use Rattle.model.specs.declared.Verdict.{Verdict}
 use Rattle.model.specs.Calls.{priceVerdict}
-use Rattle.calls.proofs.Verdicts.{price-accepts, price-answers, price-refuses}
+use Rattle.model.proofs.Accepted.{price-inside, price-accepted, price-number}
+use Rattle.calls.proofs.Verdicts.{told, price-answers, price-refuses}
 use Rattle.calls.proofs.price.price.Statement.{statement}
 use Rattle.calls.proofs.price.price.Tie as tie
 
@@ -17,7 +18,8 @@ returns : tie.Need-returns
 unfolding priceVerdict
 returns c =
     let s = c .before .before .before .before .before in
-    price-refuses (s .args .t) (s .args .samples .now) (s .args .image .now) (sym (c .before .before .before .judge-price .ensures) ∙ c .before .verdict .given .1)
+    let e = price-refuses (s .args .t) (s .args .samples .now) (s .args .image .now) (sym (c .before .before .before .judge-price .ensures) ∙ c .before .verdict .given .1) in
+    (e, told e (price-number (s .args .t) (s .args .samples .now) (s .args .image .now)))
 
 enum-told : tie.Need-enum-told
 enum-told c = search needs
@@ -31,18 +33,19 @@ accepted c = sym (c .before .before .judge-price .ensures) ∙ c .enum-told .giv
 image-price-requires : tie.Need-image-price-requires
 image-price-requires c κs =
     let s = c .before .before .before .before in
-    let a = price-accepts (s .args .t) (s .args .samples .now) (s .args .image .now) (accepted c) in
+    let a = price-accepted (s .args .t) (s .args .samples .now) (s .args .image .now) .0 (accepted c) in
     record {
-      allowed = record { size = a .terms .size; weight = a .terms .weight; box = a .terms .box };
+      terms = a .terms;
       samples-length = a .samples-length;
       image-length = a .image-length;
-      inside = a .inside;
+      inside = price-inside (s .args .t) (s .args .samples .now) (s .args .image .now) a;
     }
 
 returns-2 : tie.Need-returns-2
 returns-2 c =
     let s = c .before .before .before .before .before in
-    price-answers (s .args .t) (s .args .samples .now) (s .args .image .now) (accepted (c .before)) (c .image-price .ensures)
+    let e = price-answers (s .args .t) (s .args .samples .now) (s .args .image .now) (accepted (c .before)) (c .image-price .ensures) in
+    (e, told e (price-number (s .args .t) (s .args .samples .now) (s .args .image .now)))
 
 pub price-spec : {M : Type 1} → statement M
 price-spec =

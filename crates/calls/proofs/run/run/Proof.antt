@@ -1,10 +1,10 @@
 -- `calls::run::run` meets its contract. Assumes nothing.
 use mathlib.Core.Path.{_≡_, sym, ap, ap₂, _∙_, subst}
 use mathlib.Core.List.{List}
+use mathlib.Core.Logic.{_↔_}
 use mathlib.Core.Bool.{Bool, cond}
 use Prim.Native.Nat.{ℕ, _*_}
 use borrow.Author.Needs.{needs}
-use borrow.Author.Tests.{leb-true}
 use lib.IntN.{ℤ, pos}
 use lib.ListN.{length, replicate}
 use mir.Syntax.{w64}
@@ -14,17 +14,17 @@ use Rattle.model.specs.declared.Terms.{Terms}
 use Rattle.model.specs.declared.Verdict.{Verdict}
 use Rattle.model.specs.Lists.{at}
 use Rattle.model.specs.Problem.{Feasible}
-use Rattle.model.specs.Grid.{weightAllowed, grid}
+use Rattle.model.specs.Grid.{grid}
 use Rattle.model.specs.Rounds.{eighth, steadyRounds}
 use Rattle.model.specs.Calls.{Outcome, figures, settled, spent, imageOf, figuresOf, quickFlow, ending, runVerdict, runAnswer, runFlow, runImage, runWork}
-use Rattle.model.proofs.Bounds.{size-limits}
+use Rattle.model.specs.Accepted.{TermsAllowed, RunAllowed}
+use Rattle.model.proofs.Accepted.{run-accepted, run-number}
 use Rattle.certificate.specs.Demand.{RunDemand}
 use Rattle.certificate.proofs.Grid.{run-demand, ending-flow}
 use Rattle.runs.specs.Limits.{Within}
 use Rattle.rounds.specs.Ready.{JobLimits}
 use Rattle.rounds.proofs.Kept.{iterate-size, iterate-within}
-use Rattle.terms.proofs.Accepted.{AllowedTerms}
-use Rattle.calls.proofs.Verdicts.{not-both, figured, RunAccepted, run-accepts, run-answers, run-flows, run-fills, run-clears, run-refuses, run-keeps}
+use Rattle.calls.proofs.Verdicts.{not-both, told, figured, run-answers, run-flows, run-fills, run-clears, run-refuses, run-keeps}
 use Rattle.calls.proofs.run.run.Statement.{statement}
 use Rattle.calls.proofs.run.run.Tie as tie
 
@@ -45,7 +45,8 @@ returns c =
     let x = s .args .image .now in
     let w = s .args .work .now in
     let k = run-keeps t (s .args .r) b f x w h in
-    (run-refuses t (s .args .r) b f x w h, (k .0, (k .1, (k .2, λ g. not-both h g))))
+    let e = run-refuses t (s .args .r) b f x w h in
+    (e, (k .0, (k .1, (k .2, (told e (run-number t (s .args .r) b f x w), λ g. not-both h g)))))
 
 enum-told : tie.Need-enum-told
 enum-told c = search needs
@@ -57,16 +58,13 @@ unfolding runVerdict
 accepted c = sym (c .before .before .judge-run .ensures) ∙ c .enum-told .given .1
 
 facts : (c : tie.After-enum-told) → let s = c .before .before .before .before in
-    RunAccepted (s .args .t) (s .args .r) (s .args .samples .now) (s .args .flow .now) (s .args .image .now) (s .args .work .now)
+    RunAllowed (s .args .t) (s .args .r) (s .args .samples .now) (s .args .flow .now) (s .args .image .now) (s .args .work .now)
 facts c =
     let s = c .before .before .before .before in
-    run-accepts (s .args .t) (s .args .r) (s .args .samples .now) (s .args .flow .now) (s .args .image .now) (s .args .work .now) (accepted c)
+    run-accepted (s .args .t) (s .args .r) (s .args .samples .now) (s .args .flow .now) (s .args .image .now) (s .args .work .now) .0 (accepted c)
 
-limits : (t : Terms) → AllowedTerms t → JobLimits t
-unfolding weightAllowed
-limits t a =
-    let z = size-limits (t .width) (t .height) (a .size) in
-    record { width-least = z .width-least; height-least = z .height-least; pixels-most = z .pixels-most; weight-most = leb-true (t .weight) 65280 (a .weight) }
+limits : (t : Terms) → TermsAllowed t → JobLimits t
+limits t a = record { width-least = a .width-least; height-least = a .height-least; pixels-most = a .pixels-most; weight-most = a .weight-most }
 
 quick-rounds-requires : tie.Need-quick-rounds-requires
 quick-rounds-requires c κs =
@@ -85,7 +83,7 @@ clear-requires c κs = search needs
 iterate : (c : tie.After-quick-rounds) → let s = c .before .before .before .before .before .before .before .before in
     c .quick-rounds .last .1 .1 .1 .0 ≡ quickFlow (s .args .t) (s .args .r) (s .args .samples .now)
 unfolding quickFlow
-iterate c = c .quick-rounds .ensures
+iterate c = c .quick-rounds .ensures .0
 
 steady-rounds-requires : tie.Need-steady-rounds-requires
 unfolding quickFlow
@@ -133,7 +131,7 @@ of-flow-requires c κs =
     let f = last l .0 in
     let g = ending-flow t (s .args .r) b (a .terms .box) in
     record {
-      allowed = record { size = a .terms .size; weight = a .terms .weight; box = a .terms .box };
+      terms = a .terms;
       samples-length = a .samples-length;
       flow-length = ap length f ∙ g .0;
       feasible = subst (λ (h : List ℤ). Feasible (grid t b) (at h)) (sym f) (g .1);
@@ -156,7 +154,8 @@ ran : (c : tie.After-of-flow) → let l = c .before .before .before .before .bef
     × ((l .steady-rounds .last .1 .1 .1 .0 ≡ runFlow t r b f x w)
     × ((l .steady-rounds .last .1 .1 .1 .1 .0 ≡ runImage t r b f x w)
     × ((l .before .before .before .before .clear .last .0 ≡ runWork t r b f x w)
-    × (runVerdict t r b f x w ≡ Verdict.Accept → RunDemand t r b))))
+    × (((figures o (l .steady-rounds .result .moved) (pos (c .of-flow .result .price)) (toZ w64 (ofZ w64 (c .of-flow .result .floor))) (pos (c .of-flow .result .slack)) .number ≡ 0) ↔ RunAllowed t r b f x w)
+    × (runVerdict t r b f x w ≡ Verdict.Accept → RunDemand t r b)))))
 ran c o h =
     let l = c .before .before .before .before .before in
     let e = l .before .before .before .before .before .before .before .before .before .before .before .before .before in
@@ -170,17 +169,20 @@ ran c o h =
     let yes = accepted e in
     let g = c .of-flow .ensures in
     let n = last l in
-    let cleared = l .before .before .before .before in (
-      figured o (l .steady-rounds .result .moved) t b (l .steady-rounds .last .1 .1 .1 .0) (g .0) (read w64 (c .of-flow .ok .1 .1 .1 .0 .1) ∙ g .1 .0) (g .1 .1)
-          ∙ ap₂ (λ (m : ℕ) (z : List ℤ). figuresOf o m t b z) (n .2) (n .0)
-          ∙ run-answers t r b f x w yes (ap (λ (z : Bool). cond z settled spent) (sym (n .3)) ∙ h),
+    let cleared = l .before .before .before .before in
+    let k =
+    figured o (l .steady-rounds .result .moved) t b (l .steady-rounds .last .1 .1 .1 .0) (g .0) (read w64 (c .of-flow .ok .1 .1 .1 .0 .1) ∙ g .1 .0) (g .1 .1)
+    ∙ ap₂ (λ (m : ℕ) (z : List ℤ). figuresOf o m t b z) (n .2) (n .0)
+    ∙ run-answers t r b f x w yes (ap (λ (z : Bool). cond z settled spent) (sym (n .3)) ∙ h)
+    in (
+      k,
       (
         n .0 ∙ run-flows t r b f x w yes,
         (
           n .1 ∙ run-fills t r b f x w yes,
           (
-            cleared .clear .ensures ∙ ap (λ (k : ℕ). replicate k (pos 0)) (cleared .before .before .work .given ∙ facts e .work-length) ∙ run-clears t r b f x w yes,
-            λ _. run-demand t r b (facts e .terms .box),
+            cleared .clear .ensures ∙ ap (λ (i : ℕ). replicate i (pos 0)) (cleared .before .before .work .given ∙ facts e .work-length) ∙ run-clears t r b f x w yes,
+            (told k (run-number t r b f x w), λ _. run-demand t r b (facts e .terms .box)),
           ),
         ),
       ),

@@ -1,0 +1,258 @@
+-- Check, price and run are accepted exactly when terms, lengths and contents are allowed: row by row, then each call, by
+-- its verdict and by the number that it gives. Assumes nothing.
+use mathlib.Core.Path.{_≡_, refl, sym, ap, ap₂, _∙_}
+use mathlib.Core.Bool.{Bool, true, false, not, _&&_, _||_, true≢false}
+use mathlib.Core.List.{List, [], _∷_}
+use mathlib.Core.Logic.{_↔_}
+use Prim.Native.Nat.{ℕ, _*_, _≤_, _<_}
+use native.Mathlib.Omega.{arith}
+use borrow.Author.Tests.{not-false, leb-true, eqb-true, ltb-false, ltb-true, le-leb, eq-eqb, le-ltb}
+use lib.Dec.{ltb}
+use lib.IntN.{ℤ, natAbs}
+use lib.ListN.{length}
+use lib.Signed.{ltZ, _≤ℤ_}
+use Rattle.integers.proofs.Order.{ltZ-false, false-ltZ}
+use Rattle.model.specs.Lists.{at, firstWhere}
+use Rattle.model.specs.Problem.{Feasible, InBox}
+use Rattle.model.specs.Grid.{Terms, sizeAllowed, weightAllowed, boxAllowed, lowEnd, highEnd, grid}
+use Rattle.model.specs.Verdict.{Verdict, Accept, Refuse, Row, firstRefusal, decided}
+use Rattle.model.specs.Calls.{
+  Rounds,
+  Answer,
+  refusal,
+  pixelsOf,
+  pairsOf,
+  sizeRow,
+  weightRow,
+  boxRow,
+  roundsRow,
+  lengthRow,
+  flowRow,
+  imageRow,
+  firstBeyond,
+  firstOutside,
+  figuresOf,
+  checkVerdict,
+  checkAnswer,
+  priceVerdict,
+  priceAnswer,
+  runVerdict,
+  runAnswer,
+}
+use Rattle.model.specs.Accepted.{TermsAllowed, CheckAllowed, PriceAllowed, RunAllowed}
+use Rattle.model.proofs.Lists.{firstWhere-first}
+use Rattle.model.proofs.Refusals.{accepted, passed, accepted-rows, Numbered, refused-number}
+use Rattle.model.proofs.Bounds.{SizeLimits, size-limits}
+
+-- ---- the rows
+
+module _ (t : Terms) (place : ℕ) where
+  pub size-passes : (sizeRow t place .applies ≡ false) ↔ SizeLimits (t .width) (t .height)
+  size-passes = (λ h. size-limits (t .width) (t .height) (not-false _ h), λ z. ap not (allowed z))
+    where
+      allowed : SizeLimits (t .width) (t .height) → sizeAllowed (t .width) (t .height) ≡ true
+      allowed z =
+          unfold sizeAllowed in
+          ap₂ _&&_
+          (ap₂ _&&_ (ap₂ _&&_ (le-leb 1 (t .width) (z .width-least)) (le-leb (t .width) 4096 (z .width-most)))
+          (ap₂ _&&_ (le-leb 1 (t .height) (z .height-least)) (le-leb (t .height) 4096 (z .height-most))))
+          (le-leb (t .width * t .height) 1048576 (z .pixels-most))
+
+  pub weight-passes : (weightRow t place .applies ≡ false) ↔ (t .weight ≤ 65280)
+  unfolding weightAllowed
+  weight-passes = (λ h. leb-true (t .weight) 65280 (not-false _ h), λ k. ap not (le-leb (t .weight) 65280 k))
+
+  pub box-passes : (boxRow t place .applies ≡ false) ↔ (t .low ≤ t .high)
+  unfolding boxAllowed
+  box-passes = (λ h. leb-true (t .low) (t .high) (not-false _ h), λ k. ap not (le-leb (t .low) (t .high) k))
+
+  -- the three rows of the terms
+  pub terms-pass :
+      ((sizeRow t place .applies ≡ false) × (weightRow t place .applies ≡ false) × (boxRow t place .applies ≡ false)) ↔ TermsAllowed t
+  terms-pass = (
+    λ n.
+        let z = size-passes .0 (n .0) in
+        record {
+          width-least = z .width-least;
+          width-most = z .width-most;
+          height-least = z .height-least;
+          height-most = z .height-most;
+          pixels-most = z .pixels-most;
+          weight-most = weight-passes .0 (n .1);
+          box = box-passes .0 (n .2);
+        },
+    λ a. (
+      size-passes .1
+          (record {
+            width-least = a .width-least;
+            width-most = a .width-most;
+            height-least = a .height-least;
+            height-most = a .height-most;
+            pixels-most = a .pixels-most;
+          }),
+      weight-passes .1 (a .weight-most),
+      box-passes .1 (a .box),
+    ),
+  )
+
+pub rounds-pass : (r : Rounds) (place : ℕ) → (roundsRow r place .applies ≡ false) ↔ (r .quick ≤ 4096)
+rounds-pass r place = (ltb-false 4096 (r .quick), le-ltb 4096 (r .quick))
+
+pub length-passes : {A : Type 0} (number : ℕ) (buffer : List A) (due : ℕ) →
+    (lengthRow number buffer due .applies ≡ false) ↔ (length buffer ≡ due)
+length-passes number buffer due =
+    (λ h. eqb-true (length buffer) due (not-false _ h), λ e. ap not (eq-eqb (length buffer) due e))
+
+-- a search finds nothing exactly when the test holds nowhere
+none-found : (n : ℕ) (test : ℕ → Bool) → (ltb (firstWhere n test) n ≡ false) ↔ ((i : ℕ) → i < n → test i ≡ false)
+none-found n test =
+    let first = firstWhere-first n test in (
+      λ h i l. first .before i (omega (arith, ltb-false (firstWhere n test) n h)),
+      λ none. go none (ltb (firstWhere n test) n) refl,
+    )
+  where
+    go : ((i : ℕ) → i < n → test i ≡ false) → (b : Bool) → ltb (firstWhere n test) n ≡ b → b ≡ false
+    go none true h =
+        let l = ltb-true (firstWhere n test) n h in
+        absurd (true≢false (sym (firstWhere-first n test .found l) ∙ none (firstWhere n test) l))
+    go none false h = refl
+
+pub flow-passes : (weight : ℕ) (flow : List ℤ) →
+    (flowRow weight flow .applies ≡ false) ↔ ((j : ℕ) → j < length flow → natAbs (at flow j) ≤ weight)
+unfolding firstBeyond
+flow-passes weight flow =
+    let none = none-found (length flow) (λ j. ltb weight (natAbs (at flow j))) in (
+      λ h j l. ltb-false weight (natAbs (at flow j)) (none .0 h j l),
+      λ k. none .1 (λ j l. le-ltb weight (natAbs (at flow j)) (k j l)),
+    )
+
+-- neither of two tests holds
+neither : (a b : Bool) → ((a || b) ≡ false) ↔ ((a ≡ false) × (b ≡ false))
+neither true b = (λ h. absurd (true≢false h), λ k. k .0)
+neither false b = (λ h. (refl, h), λ k. k .1)
+
+pub image-passes : (t : Terms) (values : List ℤ) → (imageRow t values .applies ≡ false)
+    ↔ ((i : ℕ) → i < length values → (lowEnd (t .low) ≤ℤ at values i) × (at values i ≤ℤ highEnd (t .high)))
+unfolding firstOutside
+image-passes t values =
+    let low : ℕ → Bool = λ i. ltZ (at values i) (lowEnd (t .low)) in
+    let high : ℕ → Bool = λ i. ltZ (highEnd (t .high)) (at values i) in
+    let none = none-found (length values) (λ i. low i || high i) in (
+      λ h i l. let k = neither (low i) (high i) .0 (none .0 h i l) in (ltZ-false (k .0), ltZ-false (k .1)),
+      λ k. none .1 (λ i l. neither (low i) (high i) .1 (false-ltZ (k i l .0), false-ltZ (k i l .1))),
+    )
+
+-- ---- the calls
+
+-- the contents, said of the job's grid
+pub check-feasible : (t : Terms) (samples : List ℕ) (flow values : List ℤ) → CheckAllowed t samples flow values → Feasible (grid t samples) (at flow)
+check-feasible t samples flow values a j l = a .contents j (rw (a .flow-length) l)
+
+pub price-inside : (t : Terms) (samples : List ℕ) (values : List ℤ) → PriceAllowed t samples values → InBox (grid t samples) (at values)
+price-inside t samples values a i l = a .contents i (rw (a .image-length) l)
+
+-- a call's number is 0 exactly when its rows accept, so exactly when what they ask holds
+number-allowed : (rows : List Row) → Numbered rows → (a : Answer) → a .number ≡ 0 → {A : Type 0} → ((firstRefusal rows ≡ Accept) ↔ A) →
+    (decided (firstRefusal rows) a refusal .number ≡ 0) ↔ A
+number-allowed rows numbered a zero {A} asked = go (firstRefusal rows) refl
+  where
+    go : (v : Verdict) → firstRefusal rows ≡ v → (decided v a refusal .number ≡ 0) ↔ A
+    go Accept e = (λ _. asked .0 e, λ _. zero)
+    go (Refuse n p) e =
+        let n0 : 0 < n = refused-number rows numbered e in (
+          λ z. absurd (omega arith),
+          λ k.
+              let y : Refuse n p ≡ Accept = sym e ∙ asked .1 k in
+              let z : _≡_ {A = ℕ} 0 1 = cc in
+              absurd (omega arith),
+        )
+
+-- Check: allowed terms and lengths, and no value of the flow exceeds the weight in size
+module _ (t : Terms) (samples : List ℕ) (flow values : List ℤ) where
+  pub check-accepted : (checkVerdict t samples flow values ≡ Accept) ↔ CheckAllowed t samples flow values
+  unfolding checkVerdict
+  check-accepted = (
+    λ h.
+        let n = accepted-rows _ h in
+        record {
+          terms = terms-pass t 0 .0 (n .0, n .1 .0, n .1 .1 .0);
+          samples-length = length-passes 4 samples (pixelsOf t) .0 (n .1 .1 .1 .0);
+          flow-length = length-passes 5 flow (pairsOf t) .0 (n .1 .1 .1 .1 .0);
+          image-length = length-passes 6 values (pixelsOf t) .0 (n .1 .1 .1 .1 .1 .0);
+          contents = flow-passes (t .weight) flow .0 (n .1 .1 .1 .1 .1 .1 .0);
+        },
+    λ k.
+        let a = terms-pass t 0 .1 (k .terms) in
+        passed _ _ (a .0)
+        ∙ passed _ _ (a .1)
+        ∙ passed _ _ (a .2)
+        ∙ passed _ _ (length-passes 4 samples (pixelsOf t) .1 (k .samples-length))
+        ∙ passed _ _ (length-passes 5 flow (pairsOf t) .1 (k .flow-length))
+        ∙ passed _ _ (length-passes 6 values (pixelsOf t) .1 (k .image-length))
+        ∙ passed _ _ (flow-passes (t .weight) flow .1 (k .contents))
+        ∙ accepted,
+  )
+
+  pub check-number : (checkAnswer t samples flow values .number ≡ 0) ↔ CheckAllowed t samples flow values
+  unfolding checkAnswer checkVerdict figuresOf
+  check-number = number-allowed _ (omega arith) _ refl check-accepted
+
+-- Price: allowed terms and lengths, and every value of the image lies within the box
+module _ (t : Terms) (samples : List ℕ) (values : List ℤ) where
+  pub price-accepted : (priceVerdict t samples values ≡ Accept) ↔ PriceAllowed t samples values
+  unfolding priceVerdict
+  price-accepted = (
+    λ h.
+        let n = accepted-rows _ h in
+        record {
+          terms = terms-pass t 0 .0 (n .0, n .1 .0, n .1 .1 .0);
+          samples-length = length-passes 4 samples (pixelsOf t) .0 (n .1 .1 .1 .0);
+          image-length = length-passes 6 values (pixelsOf t) .0 (n .1 .1 .1 .1 .0);
+          contents = image-passes t values .0 (n .1 .1 .1 .1 .1 .0);
+        },
+    λ k.
+        let a = terms-pass t 0 .1 (k .terms) in
+        passed _ _ (a .0)
+        ∙ passed _ _ (a .1)
+        ∙ passed _ _ (a .2)
+        ∙ passed _ _ (length-passes 4 samples (pixelsOf t) .1 (k .samples-length))
+        ∙ passed _ _ (length-passes 6 values (pixelsOf t) .1 (k .image-length))
+        ∙ passed _ _ (image-passes t values .1 (k .contents))
+        ∙ accepted,
+  )
+
+  pub price-number : (priceAnswer t samples values .number ≡ 0) ↔ PriceAllowed t samples values
+  unfolding priceAnswer priceVerdict
+  price-number = number-allowed _ (omega arith) _ refl price-accepted
+
+-- Run: allowed terms, number of quick rounds and lengths
+module _ (t : Terms) (r : Rounds) (samples : List ℕ) (flow values work : List ℤ) where
+  pub run-accepted : (runVerdict t r samples flow values work ≡ Accept) ↔ RunAllowed t r samples flow values work
+  unfolding runVerdict
+  run-accepted = (
+    λ h.
+        let n = accepted-rows _ h in
+        record {
+          terms = terms-pass t 0 .0 (n .0, n .1 .0, n .1 .1 .0);
+          quick-most = rounds-pass r 0 .0 (n .1 .1 .1 .0);
+          samples-length = length-passes 4 samples (pixelsOf t) .0 (n .1 .1 .1 .1 .0);
+          flow-length = length-passes 5 flow (pairsOf t) .0 (n .1 .1 .1 .1 .1 .0);
+          image-length = length-passes 6 values (pixelsOf t) .0 (n .1 .1 .1 .1 .1 .1 .0);
+          work-length = length-passes 7 work (2 * pairsOf t) .0 (n .1 .1 .1 .1 .1 .1 .1 .0);
+        },
+    λ k.
+        let a = terms-pass t 0 .1 (k .terms) in
+        passed _ _ (a .0)
+        ∙ passed _ _ (a .1)
+        ∙ passed _ _ (a .2)
+        ∙ passed _ _ (rounds-pass r 0 .1 (k .quick-most))
+        ∙ passed _ _ (length-passes 4 samples (pixelsOf t) .1 (k .samples-length))
+        ∙ passed _ _ (length-passes 5 flow (pairsOf t) .1 (k .flow-length))
+        ∙ passed _ _ (length-passes 6 values (pixelsOf t) .1 (k .image-length))
+        ∙ passed _ _ (length-passes 7 work (2 * pairsOf t) .1 (k .work-length))
+        ∙ accepted,
+  )
+
+  pub run-number : (runAnswer t r samples flow values work .number ≡ 0) ↔ RunAllowed t r samples flow values work
+  unfolding runAnswer runVerdict figuresOf
+  run-number = number-allowed _ (omega arith) _ refl run-accepted
