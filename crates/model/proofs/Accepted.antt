@@ -1,13 +1,13 @@
--- Check, price and run are accepted exactly when terms, lengths and contents are allowed: row by row, then each call, by
+-- Check, price, run and write are accepted exactly when terms, lengths and contents are allowed: row by row, then each call, by
 -- its verdict and by the number that it gives. Assumes nothing.
 use mathlib.Core.Path.{_≡_, refl, sym, ap, ap₂, _∙_}
-use mathlib.Core.Bool.{Bool, true, false, not, _&&_, _||_, true≢false}
+use mathlib.Core.Bool.{Bool, true, false, not, _&&_, _||_, true≢false, and-false}
 use mathlib.Core.List.{List, [], _∷_}
-use mathlib.Core.Logic.{_↔_}
+use mathlib.Core.Logic.{_↔_, _⊎_, inl, inr, ⊎-elim}
 use Prim.Native.Nat.{ℕ, _*_, _≤_, _<_}
 use native.Mathlib.Omega.{arith}
 use borrow.Author.Tests.{not-false, leb-true, eqb-true, ltb-false, ltb-true, le-leb, eq-eqb, le-ltb}
-use lib.Dec.{ltb}
+use lib.Dec.{eqb, ltb}
 use lib.IntN.{ℤ, natAbs}
 use lib.ListN.{length}
 use lib.Signed.{ltZ, _≤ℤ_}
@@ -39,7 +39,8 @@ use Rattle.model.specs.Calls.{
   runVerdict,
   runAnswer,
 }
-use Rattle.model.specs.Accepted.{TermsAllowed, CheckAllowed, PriceAllowed, RunAllowed}
+use Rattle.model.specs.Tape.{tapeOf, writeRows, writeVerdict, writeOf, writeAnswer}
+use Rattle.model.specs.Accepted.{TermsAllowed, CheckAllowed, PriceAllowed, RunAllowed, JobAllowed, WriteAllowed}
 use Rattle.model.proofs.Lists.{firstWhere-first}
 use Rattle.model.proofs.Refusals.{accepted, passed, accepted-rows, Numbered, refused-number}
 use Rattle.model.proofs.Bounds.{SizeLimits, size-limits}
@@ -102,6 +103,19 @@ pub length-passes : {A : Type 0} (number : ℕ) (buffer : List A) (due : ℕ) �
     (lengthRow number buffer due .applies ≡ false) ↔ (length buffer ≡ due)
 length-passes number buffer due =
     (λ h. eqb-true (length buffer) due (not-false _ h), λ e. ap not (eq-eqb (length buffer) due e))
+
+-- a length that is 0, which is none, or all pairs
+pub listed-passes : (n pairs : ℕ) → ((not (eqb n 0) && not (eqb n pairs)) ≡ false) ↔ ((n ≡ 0) ⊎ (n ≡ pairs))
+listed-passes n pairs = (
+  λ h. either (eqb n 0) (eqb n pairs) refl refl h,
+  ⊎-elim (λ (z : n ≡ 0). ap (λ (b : Bool). not b && not (eqb n pairs)) (eq-eqb n 0 z))
+      (λ (g : n ≡ pairs). ap (λ (b : Bool). not (eqb n 0) && not b) (eq-eqb n pairs g) ∙ and-false (not (eqb n 0))),
+)
+  where
+    either : (a b : Bool) → eqb n 0 ≡ a → eqb n pairs ≡ b → (not a && not b) ≡ false → (n ≡ 0) ⊎ (n ≡ pairs)
+    either true b e g k = inl (eqb-true n 0 e)
+    either false true e g k = inr (eqb-true n pairs g)
+    either false false e g k = absurd (true≢false k)
 
 -- a search finds nothing exactly when the test holds nowhere
 none-found : (n : ℕ) (test : ℕ → Bool) → (ltb (firstWhere n test) n ≡ false) ↔ ((i : ℕ) → i < n → test i ≡ false)
@@ -256,3 +270,33 @@ module _ (t : Terms) (r : Rounds) (samples : List ℕ) (flow values work : List 
   pub run-number : (runAnswer t r samples flow values work .number ≡ 0) ↔ RunAllowed t r samples flow values work
   unfolding runAnswer runVerdict figuresOf
   run-number = number-allowed _ (omega arith) _ refl run-accepted
+
+-- Write: an allowed job, and an output that holds its tape
+module _ (t : Terms) (r : Rounds) (samples : List ℕ) (numbers : List ℤ) (output : List ℕ) where
+  pub write-accepted : (firstRefusal (writeRows t r samples numbers (length output)) ≡ Accept) ↔ WriteAllowed t r samples numbers output
+  write-accepted = (
+    λ h.
+        let n = accepted-rows _ h in
+        record {
+          job =
+              record {
+                terms = terms-pass t 0 .0 (n .0, n .1 .0, n .1 .1 .0);
+                quick-most = rounds-pass r 0 .0 (n .1 .1 .1 .0);
+                samples-length = length-passes 4 samples (pixelsOf t) .0 (n .1 .1 .1 .1 .0);
+                flow-length = listed-passes (length numbers) (pairsOf t) .0 (n .1 .1 .1 .1 .1 .0);
+                contents = flow-passes (t .weight) numbers .0 (n .1 .1 .1 .1 .1 .1 .1 .0);
+              };
+          output-length = ltb-false (length output) (length (tapeOf t r samples numbers)) (n .1 .1 .1 .1 .1 .1 .0);
+        },
+    λ k.
+        let a = terms-pass t 0 .1 (k .job .terms) in
+        passed _ _ (a .0)
+        ∙ passed _ _ (a .1)
+        ∙ passed _ _ (a .2)
+        ∙ passed _ _ (rounds-pass r 0 .1 (k .job .quick-most))
+        ∙ passed _ _ (length-passes 4 samples (pixelsOf t) .1 (k .job .samples-length))
+        ∙ passed _ _ (listed-passes (length numbers) (pairsOf t) .1 (k .job .flow-length))
+        ∙ passed _ _ (le-ltb (length output) (length (tapeOf t r samples numbers)) (k .output-length))
+        ∙ passed _ _ (flow-passes (t .weight) numbers .1 (k .job .contents))
+        ∙ accepted,
+  )

@@ -1,6 +1,7 @@
 -- What an accepted call has been lent: allowed terms, exact lengths and allowed contents, in the words of demand 2. That
 -- a call is accepted exactly when this holds is proved in proofs/Accepted.antt, and stands in the calls' promises.
 use mathlib.Core.List.{List}
+use mathlib.Core.Logic.{_⊎_}
 use mathlib.Core.Path.{_≡_}
 use Prim.Native.Nat.{ℕ, _*_, _≤_, _<_}
 use lib.IntN.{ℤ, natAbs}
@@ -9,6 +10,7 @@ use lib.Signed.{_≤ℤ_}
 use Rattle.model.specs.Lists.{at}
 use Rattle.model.specs.Grid.{Terms, lowEnd, highEnd}
 use Rattle.model.specs.Calls.{Rounds, pixelsOf, pairsOf}
+use Rattle.model.specs.Tape.{tapeOf}
 
 -- Terms: width and height each 1 to 4,096, their product at most 1,048,576; weight 0 to 65,280; low at most high
 pub record TermsAllowed (t : Terms) : Type 0 where
@@ -44,3 +46,28 @@ pub record RunAllowed (t : Terms) (r : Rounds) (samples : List ℕ) (flow values
   pub flow-length : length flow ≡ pairsOf t
   pub image-length : length values ≡ pixelsOf t
   pub work-length : length work ≡ 2 * pairsOf t
+
+-- A job to be written: a sample for each pixel, and a number for each pair or none, no value of which exceeds the weight in size
+pub record JobAllowed (t : Terms) (r : Rounds) (samples : List ℕ) (numbers : List ℤ) : Type 0 where
+  pub terms : TermsAllowed t
+  pub quick-most : r .quick ≤ 4096
+  pub samples-length : length samples ≡ pixelsOf t
+  pub flow-length : (length numbers ≡ 0) ⊎ (length numbers ≡ pairsOf t)
+  pub contents : (j : ℕ) → j < length numbers → natAbs (at numbers j) ≤ t .weight
+
+-- Write: such a job, and an output that holds its tape
+pub record WriteAllowed (t : Terms) (r : Rounds) (samples : List ℕ) (numbers : List ℤ) (output : List ℕ) : Type 0 where
+  pub job : JobAllowed t r samples numbers
+  pub output-length : length (tapeOf t r samples numbers) ≤ length output
+
+-- Read: the tape of such a job, and buffers that hold all its samples and a number for each pair
+pub record ReadAllowed (tape samples : List ℕ) (flow : List ℤ) : Type 0 where
+  pub terms : Terms
+  pub rounds : Rounds
+  pub codes : List ℕ
+  pub numbers : List ℤ
+  pub bytes : tape ≡ tapeOf terms rounds codes numbers
+  pub job : JobAllowed terms rounds codes numbers
+  pub allowance-most : rounds .allowance ≤ 65535
+  pub samples-length : pixelsOf terms ≤ length samples
+  pub flow-length : pairsOf terms ≤ length flow

@@ -66,6 +66,7 @@ pub record Sound (lent : Lent) (p : Progress) : Type 0 where
   pub size : 1 ≤ p .header → (sizeAllowed (p .terms .width) (p .terms .height) ≡ true) × (pixelsOf (p .terms) ≤ lent .samples) × (pairsOf (p .terms) ≤ lent .flow)
   pub weight : 2 ≤ p .header → (weightAllowed (p .terms .weight) ≡ true) × (boxAllowed (p .terms .low) (p .terms .high) ≡ true)
   pub rounds : 3 ≤ p .header → ltb 4096 (p .rounds .quick) ≡ false
+  pub allowance : p .rounds .allowance < 65536
   pub ranged : (j : ℕ) → j < length (p .flow) → SFits w32 (at (p .flow) j)
 
 none-ranged : {fs : List ℤ} → fs ≡ [] → (j : ℕ) → j < length fs → SFits w32 (at fs j)
@@ -110,6 +111,7 @@ module _ (lent : Lent) (p : Progress) (s : Sound lent p) (o : ℕ) where
           size = λ _. (not-false _ (a .0), ltb-false (lent .samples) _ (b .0), ltb-false (lent .flow) _ (b .1));
           weight = λ l. absurd (omega arith);
           rounds = λ l. absurd (omega arith);
+          allowance = s .allowance;
           ranged = none-ranged (empty .1);
         },
         header-grows (absorbed p (Size w h)) (Size w h) empty refl refl z refl,
@@ -129,15 +131,16 @@ module _ (lent : Lent) (p : Progress) (s : Sound lent p) (o : ℕ) where
           size = λ _. s .size (omega arith);
           weight = λ _. (not-false _ (a .0), not-false _ (b .0));
           rounds = λ l. absurd (omega arith);
+          allowance = s .allowance;
           ranged = none-ranged (empty .1);
         },
         header-grows (absorbed p (WeightBox weight low high)) (WeightBox weight low high) empty refl refl z refl,
       )
 
-  grown-rounds : (q a : ℕ) → p .header ≡ 2 → firstRefusal (entryRows o (lent .samples) (lent .flow) (RoundLimits q a)) ≡ Verdict.Accept →
+  grown-rounds : (q a : ℕ) → p .header ≡ 2 → firstRefusal (entryRows o (lent .samples) (lent .flow) (RoundLimits q a)) ≡ Verdict.Accept → a < 65536 →
       Grown (RoundLimits q a)
   unfolding headerBytes
-  grown-rounds q a z v =
+  grown-rounds q a z v small =
       let empty = s .early (omega arith) in (
         record {
           header = omega arith;
@@ -146,6 +149,7 @@ module _ (lent : Lent) (p : Progress) (s : Sound lent p) (o : ℕ) where
           size = λ _. s .size (omega arith);
           weight = λ _. s .weight (omega arith);
           rounds = λ _. accepted-row _ _ v .0;
+          allowance = small;
           ranged = none-ranged (empty .1);
         },
         header-grows (absorbed p (RoundLimits q a)) (RoundLimits q a) empty refl refl z refl,
@@ -165,6 +169,7 @@ module _ (lent : Lent) (p : Progress) (s : Sound lent p) (o : ℕ) where
           size = s .size;
           weight = s .weight;
           rounds = s .rounds;
+          allowance = s .allowance;
           ranged = s .ranged;
         },
         ap (λ (n : List ℤ). upToHeader ++ sampleBytes (p .samples ++ (code ∷ [])) ++ flowBytes n) none
@@ -186,6 +191,7 @@ module _ (lent : Lent) (p : Progress) (s : Sound lent p) (o : ℕ) where
       size = s .size;
       weight = s .weight;
       rounds = s .rounds;
+      allowance = s .allowance;
       ranged = λ j l. ⊎-elim (before j) (here j) (last j (length (p .flow)) (omega (arith, length-append (p .flow) (f ∷ []))));
     },
     ap (λ (b : List ℕ). upToHeader ++ sampleBytes (p .samples) ++ b) (listed-snoc (λ x. encoded (Flow x)) (pos 0) (p .flow) f)
@@ -205,7 +211,7 @@ module _ (lent : Lent) (p : Progress) (s : Sound lent p) (o : ℕ) where
   grown zero b k a z v h = absurd (z refl)
   grown (suc zero) b k a z v h = grown-size _ _ (eqb-true _ 0 a) v
   grown (suc (suc zero)) b k a z v h = grown-weight _ _ _ (eqb-true _ 1 a) v
-  grown (suc (suc (suc zero))) b k a z v h = grown-rounds _ _ (eqb-true _ 2 a) v
+  grown (suc (suc (suc zero))) b k a z v h = grown-rounds _ _ (eqb-true _ 2 a) v (omega (arith, h 2, h 3))
   grown (suc (suc (suc (suc zero)))) b k a z v h =
       let c = both-true (eqb (p .header) 3) _ a in
       grown-sample (b 0) (eqb-true _ 3 (c .0)) (ltb-true _ _ (c .1))
@@ -293,5 +299,6 @@ module _ (tape : List ℕ) (lent : Lent) (byte : (i : ℕ) → getD tape i 0 < 2
             size = λ l. absurd (omega arith);
             weight = λ l. absurd (omega arith);
             rounds = λ l. absurd (omega arith);
+            allowance = omega arith;
             ranged = λ j l. absurd (omega arith);
           }

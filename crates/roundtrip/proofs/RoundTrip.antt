@@ -1,7 +1,7 @@
 -- Writing and reading undo each other. Assumes nothing.
 use mathlib.Core.Path.{_≡_, refl, sym, ap, ap₂, _∙_, subst}
-use mathlib.Core.Bool.{Bool, true, false, not, _&&_, _||_, cond, true≢false, or-true, and-false}
-use mathlib.Core.Logic.{_⊎_, inl, inr, ⊎-elim}
+use mathlib.Core.Bool.{Bool, true, false, not, _&&_, _||_, cond, or-true}
+use mathlib.Core.Logic.{_↔_, _⊎_, ⊎-elim}
 use mathlib.Core.List.{List, []}
 use Prim.Native.Nat.{ℕ, zero, suc, _+_, _*_, _^_, _≤_, _<_}
 use native.Mathlib.Omega.{arith}
@@ -11,35 +11,23 @@ use lib.ListN.{length, getD, take, drop}
 use lib.Seq.{length-take-le, take-suc, take-length, take-at, take-append-seam}
 use mir.Syntax.{w32}
 use mir.Val.{SFits}
-use borrow.Author.Tests.{lt-ltb, le-ltb, ltb-false, leb-true, eq-eqb, eqb-true, eqb-false}
+use borrow.Author.Tests.{lt-ltb, le-ltb, ltb-false, eq-eqb, eqb-true, eqb-false}
 use Rattle.model.specs.declared.Terms.{Terms}
 use Rattle.model.specs.declared.Rounds.{Rounds}
-use Rattle.model.specs.declared.Verdict.{Verdict}
 use Rattle.model.specs.declared.Entry.the-variants.{End, Size, WeightBox, RoundLimits, Sample, Flow}
 use Rattle.model.specs.Lists.{at, overwritten}
-use Rattle.model.specs.Grid.{weightAllowed}
-use Rattle.model.specs.Verdict.{firstRefusal}
 use Rattle.model.specs.Calls.{pixelsOf, pairsOf, firstBeyond}
-use Rattle.model.specs.Tape.{Progress, nothing, allowedAfter, Parse, whole, parseFrom, ReadAnswer, readAnswer, readSamples, readFlow, tapeOf, writeRows, WriteAnswer, writeAnswer, writeOutput}
-use Rattle.model.proofs.Lists.{firstWhere-first}
+use Rattle.model.specs.Tape.{Progress, nothing, allowedAfter, Parse, whole, parseFrom, ReadAnswer, readAnswer, readSamples, readFlow, tapeOf, WriteAnswer, writeAnswer, writeOutput}
 use Rattle.model.proofs.Refusals.{accepted, passed}
-use Rattle.terms.proofs.Size.{allowed-size}
+use Rattle.model.specs.Accepted.{JobAllowed, ReadAllowed}
+use Rattle.model.proofs.Accepted.{terms-pass, rounds-pass, flow-passes, write-accepted}
 use Rattle.steps.specs.declared.Lent.{Lent}
 use Rattle.roundtrip.specs.RoundTrip.{Reads, ReadsBack, WritesBack, flowCount}
 use Rattle.roundtrip.proofs.Offsets.{tape-length, sample-here, flow-here, end-here, header-here}
-use Rattle.roundtrip.proofs.WriteRows.{Writable, accepted-write, accepted-answer, written-answer, written-output}
+use Rattle.roundtrip.proofs.WriteRows.{accepted-answer, written-answer, written-output}
 use Rattle.roundtrip.proofs.Accepted.{Job, accepted-job}
 use Rattle.roundtrip.proofs.Judged.{accepted-parse, passed-parse, whole-parse, answer-by, samples-by, flow-by}
 use Rattle.roundtrip.proofs.Walk.{walk-on, walk-end}
-
--- the flow's length is 0, or one number a pair
-either : {m n : ℕ} → (not (eqb m 0) && not (eqb m n)) ≡ false → (m ≡ 0) ⊎ (m ≡ n)
-either {m} {n} h = go (eqb m 0) (eqb m n) refl refl h
-  where
-    go : (a b : Bool) → eqb m 0 ≡ a → eqb m n ≡ b → (not a && not b) ≡ false → (m ≡ 0) ⊎ (m ≡ n)
-    go true b e g k = inl (eqb-true m 0 e)
-    go false true e g k = inr (eqb-true m n g)
-    go false false e g k = absurd (true≢false k)
 
 small-fits : (z : ℤ) → natAbs z < 2 ^ 31 → SFits w32 z
 small-fits (pos n) h = record { sfits = h }
@@ -47,7 +35,7 @@ small-fits (negsuc n) h = record { sfits = omega arith }
 
 -- ---- a job that write accepts reads back as that job
 
-module _ (t : Terms) (r : Rounds) (s : List ℕ) (f : List ℤ) (room : ℕ) (w : Writable t r s f room) (small : r .allowance < 65536)
+module _ (t : Terms) (r : Rounds) (s : List ℕ) (f : List ℤ) (w : JobAllowed t r s f) (small : r .allowance < 65536)
     (lent : Lent) (long : (pixelsOf t ≤ lent .samples) × (pairsOf t ≤ lent .flow)) where
   abbrev tape : List ℕ
   tape = tapeOf t r s f
@@ -60,19 +48,19 @@ module _ (t : Terms) (r : Rounds) (s : List ℕ) (f : List ℤ) (room : ℕ) (w 
   from k o p = parseFrom k tape (lent .samples) (lent .flow) o p
 
   header-read : (k : ℕ) → from (suc (suc (suc k))) 0 nothing ≡ from k 15 (after [] [])
-  unfolding allowedAfter weightAllowed
+  unfolding allowedAfter
   header-read k =
       let here = header-here t r s f in
-      let size = allowed-size (w .terms .size) in
+      let terms = terms-pass t 0 .1 (w .terms) in
       walk-on tape lent (suc (suc k)) 0 nothing (Size (t .width) (t .height)) _ (here .0) refl
-      (passed _ _ (ap not (w .terms .size)) ∙ passed _ _ (ap₂ _||_ (le-ltb _ _ (long .0)) (le-ltb _ _ (long .1))) ∙ accepted)
-      (omega (arith, size), omega (arith, size)) (λ z. absurd (omega arith))
+      (passed _ _ (terms .0) ∙ passed _ _ (ap₂ _||_ (le-ltb _ _ (long .0)) (le-ltb _ _ (long .1))) ∙ accepted)
+      (omega (arith, w .terms .width-most), omega (arith, w .terms .height-most)) (λ z. absurd (omega arith))
       ∙ walk-on tape lent (suc k) 5 _ (WeightBox (t .weight) (t .low) (t .high)) _ (here .1) refl
-      (passed _ _ (ap not (w .terms .weight)) ∙ passed _ _ (ap not (w .terms .box)) ∙ accepted)
-      (omega (arith, leb-true (t .weight) 65280 (w .terms .weight))) (λ z. absurd (omega arith))
+      (passed _ _ (terms .1) ∙ passed _ _ (terms .2) ∙ accepted)
+      (omega (arith, w .terms .weight-most)) (λ z. absurd (omega arith))
       ∙ walk-on tape lent k 10 _ (RoundLimits (r .quick) (r .allowance)) _ (here .2) refl
-      (passed _ _ (w .rounds) ∙ accepted)
-      (omega (arith, ltb-false 4096 (r .quick) (w .rounds)), small) (λ z. absurd (omega arith))
+      (passed _ _ (rounds-pass r 0 .1 (w .quick-most)) ∙ accepted)
+      (omega (arith, w .quick-most), small) (λ z. absurd (omega arith))
 
   samples-read : (d i k : ℕ) → i + d ≡ length s → from (d + k) (15 + i * 2) (after (take i s) []) ≡ from k (15 + length s * 2) (after s [])
   unfolding allowedAfter
@@ -84,22 +72,17 @@ module _ (t : Terms) (r : Rounds) (s : List ℕ) (f : List ℤ) (room : ℕ) (w 
       let l : i < length s = omega arith in
       let (rest, here) = sample-here t r s f i l in
       let n : length (take i s) ≡ i = length-take-le i s (omega arith) in
-      let less : ltb (length (take i s)) (pixelsOf t) ≡ true = lt-ltb (length (take i s)) (pixelsOf t) (omega (arith, w .samplesFit)) in
+      let less : ltb (length (take i s)) (pixelsOf t) ≡ true = lt-ltb (length (take i s)) (pixelsOf t) (omega (arith, w .samples-length)) in
       ap (λ (m : ℕ). from m (15 + i * 2) (after (take i s) [])) (omega arith)
       ∙ walk-on tape lent (d + k) (15 + i * 2) (after (take i s) []) (Sample (getD s i 0)) rest here less accepted tt (λ z. absurd (omega arith))
       ∙ ap₂ (λ (o : ℕ) (read : List ℕ). from (d + k) o (after read [])) (omega arith) (sym (take-suc s i 0 l))
       ∙ samples-read d (suc i) k (omega arith)
 
   numbers-fit : (j : ℕ) → j < length f → SFits w32 (at f j)
-  unfolding firstBeyond weightAllowed
-  numbers-fit j l =
-      let first = firstWhere-first (length f) (λ i. ltb (t .weight) (natAbs (at f i))) in
-      let not-beyond = first .before j (omega (arith, w .within)) in
-      small-fits (at f j)
-      (omega (arith, ltb-false (t .weight) (natAbs (at f j)) not-beyond, leb-true (t .weight) 65280 (w .terms .weight)))
+  numbers-fit j l = small-fits (at f j) (omega (arith, w .contents j l, w .terms .weight-most))
 
   all-sampled : (eqb (length s) (pixelsOf t)) ≡ true
-  all-sampled = eq-eqb (length s) (pixelsOf t) (w .samplesFit)
+  all-sampled = eq-eqb (length s) (pixelsOf t) (w .samples-length)
 
   flow-read : (d j k : ℕ) → j + d ≡ length f →
       from (d + k) (15 + (length s * 2 + j * 5)) (after s (take j f)) ≡ from k (15 + (length s * 2 + length f * 5)) (after s f)
@@ -112,7 +95,7 @@ module _ (t : Terms) (r : Rounds) (s : List ℕ) (f : List ℤ) (room : ℕ) (w 
       let l : j < length f = omega arith in
       let (rest, here) = flow-here t r s f j l in
       let n : length (take j f) ≡ j = length-take-le j f (omega arith) in
-      let full : length f ≡ pairsOf t = ⊎-elim (λ (z : length f ≡ 0). absurd (omega arith)) (λ (g : length f ≡ pairsOf t). g) (either (w .flowFits)) in
+      let full : length f ≡ pairsOf t = ⊎-elim (λ (z : length f ≡ 0). absurd (omega arith)) (λ (g : length f ≡ pairsOf t). g) (w .flow-length) in
       let less : (eqb (length s) (pixelsOf t) && ltb (length (take j f)) (pairsOf t)) ≡ true =
       ap₂ _&&_ all-sampled (lt-ltb (length (take j f)) (pairsOf t) (omega arith)) in
       ap (λ (m : ℕ). from m (15 + (length s * 2 + j * 5)) (after s (take j f))) (omega arith)
@@ -133,7 +116,7 @@ module _ (t : Terms) (r : Rounds) (s : List ℕ) (f : List ℤ) (room : ℕ) (w 
           ⊎-elim
           (λ (z : length f ≡ 0). ap (λ (b : Bool). b || eqb (length f) (pairsOf t)) (eq-eqb (length f) 0 z))
           (λ (g : length f ≡ pairsOf t). ap (λ (b : Bool). eqb (length f) 0 || b) (eq-eqb (length f) (pairsOf t) g) ∙ or-true (eqb (length f) 0))
-          (either (w .flowFits))
+          (w .flow-length)
 
   pub reads-back : parseFrom (suc (length tape)) tape (lent .samples) (lent .flow) 0 nothing ≡ whole (after s f)
   reads-back =
@@ -146,19 +129,23 @@ module _ (t : Terms) (r : Rounds) (s : List ℕ) (f : List ℤ) (room : ℕ) (w 
       ∙ flow-read (length f) 0 (suc spare) (omega arith)
       ∙ end-read spare
 
+-- no number is beyond the weight
+within-first : {t : Terms} {r : Rounds} {s : List ℕ} {f : List ℤ} → JobAllowed t r s f → length f ≤ firstBeyond (t .weight) f
+within-first {t} {f} w = ltb-false (firstBeyond (t .weight) f) (length f) (flow-passes (t .weight) f .1 (w .contents))
+
 -- A job that write accepts reads back from what write leaves. (The allowance is a number of 16 bits by its type.)
 pub written-reads-back : (t : Terms) (r : Rounds) (s : List ℕ) (f : List ℤ) (output : List ℕ) → r .allowance < 65536 →
     writeAnswer t r s f output .number ≡ 0 →
     ReadsBack t r s f (take (writeAnswer t r s f output .count) (writeOutput t r s f output))
 written-reads-back t r s f output small answer samples flow long broad =
     let v = accepted-answer t r s f output answer in
-    let w = accepted-write t r s f (length output) v in
+    let w = write-accepted t r s f output .0 v .job in
     let count = ap (λ (a : WriteAnswer). a .count) (written-answer t r s f output v) in
     let same : tapeOf t r s f ≡ take (writeAnswer t r s f output .count) (writeOutput t r s f output) =
     sym (ap₂ take count (written-output t r s f output v) ∙ take-append-seam (tapeOf t r s f) (drop (length (tapeOf t r s f)) output)) in
     let lent : Lent = record { samples = length samples; flow = length flow } in
     let p : Progress = record { header = 3; terms = t; rounds = r; samples = s; flow = f } in
-    let read = whole-parse (tapeOf t r s f) samples flow p (reads-back t r s f (length output) w small lent (long, broad)) (w .within) in
+    let read = whole-parse (tapeOf t r s f) samples flow p (reads-back t r s f w small lent (long, broad)) (within-first w) in
     subst (λ (tape : List ℕ). Reads t r s f tape samples flow) same
     (record {
       answer = answer-by (tapeOf t r s f) samples flow read;
@@ -186,32 +173,22 @@ module _ (tape : List ℕ) (byte : (i : ℕ) → getD tape i 0 < 256) (lent : Le
       go false e c =
           ⊎-elim (λ (z : length (p .flow) ≡ 0). absurd (eqb-false (length (p .flow)) 0 e z)) (λ (g : length (p .flow) ≡ pairsOf (p .terms)). sym g) c
 
-  flow-accepted : (not (eqb (length (p .flow)) 0) && not (eqb (length (p .flow)) (pairsOf (p .terms)))) ≡ false
-  flow-accepted =
-      ⊎-elim
-      (λ (z : length (p .flow) ≡ 0). ap (λ (b : Bool). not b && not (eqb (length (p .flow)) (pairsOf (p .terms)))) (eq-eqb (length (p .flow)) 0 z))
-      (λ (g : length (p .flow) ≡ pairsOf (p .terms)). ap (λ (b : Bool). not (eqb (length (p .flow)) 0) && not b) (eq-eqb (length (p .flow)) (pairsOf (p .terms)) g) ∙ and-false (not (eqb (length (p .flow)) 0)))
-      (j .flow)
-
-  -- write accepts the job
-  writes : (room : ℕ) → length tape ≤ room → firstRefusal (writeRows (p .terms) (p .rounds) (p .samples) (p .flow) room) ≡ Verdict.Accept
-  writes room l =
-      let size = j .sound .size (omega (arith, j .complete)) in
+  -- the job is allowed
+  pub job-allowed : JobAllowed (p .terms) (p .rounds) (p .samples) (p .flow)
+  job-allowed =
       let weight = j .sound .weight (omega (arith, j .complete)) in
-      let long : length (tapeOf (p .terms) (p .rounds) (p .samples) (p .flow)) ≤ room = omega (arith, ap length (j .bytes)) in
-      passed _ _ (ap not (size .0))
-      ∙ passed _ _ (ap not (weight .0))
-      ∙ passed _ _ (ap not (weight .1))
-      ∙ passed _ _ (j .sound .rounds (omega (arith, j .complete)))
-      ∙ passed _ _ (ap not (eq-eqb (length (p .samples)) (pixelsOf (p .terms)) (j .samples)))
-      ∙ passed _ _ flow-accepted
-      ∙ passed _ _ (le-ltb room (length (tapeOf (p .terms) (p .rounds) (p .samples) (p .flow))) long)
-      ∙ passed _ _ (le-ltb (firstBeyond (p .terms .weight) (p .flow)) (length (p .flow)) within)
-      ∙ accepted
+      record {
+        terms = terms-pass (p .terms) 0 .0 (ap not (j .sound .size (omega (arith, j .complete)) .0), ap not (weight .0), ap not (weight .1));
+        quick-most = rounds-pass (p .rounds) 0 .0 (j .sound .rounds (omega (arith, j .complete)));
+        samples-length = j .samples;
+        flow-length = j .flow;
+        contents = flow-passes (p .terms .weight) (p .flow) .0 (le-ltb (firstBeyond (p .terms .weight) (p .flow)) (length (p .flow)) within);
+      }
 
   pub rewritten : WritesBack (p .terms) (p .rounds) (p .samples) (p .flow) tape
   rewritten output l =
-      let v = writes (length output) l in
+      let long : length (tapeOf (p .terms) (p .rounds) (p .samples) (p .flow)) ≤ length output = omega (arith, ap length (j .bytes)) in
+      let v = write-accepted (p .terms) (p .rounds) (p .samples) (p .flow) output .1 (record { job = job-allowed; output-length = long }) in
       record {
         answer = written-answer (p .terms) (p .rounds) (p .samples) (p .flow) output v
             ∙ ap (λ (bytes : List ℕ). record { number = 0; place = 0; count = length bytes }) (sym (j .bytes));
@@ -249,3 +226,40 @@ pub left-writes-back : (tape samples : List ℕ) (flow : List ℤ) {codes : List
 left-writes-back tape samples flow byte e h k z =
     subst (λ (x : Type 0). x) (λ i. WritesBack (sym e i .terms) (sym e i .rounds) (take (pixelsOf (sym e i .terms)) (sym h i)) (take (flowCount (sym e i)) (sym k i)) tape)
     (read-writes-back tape byte samples flow (sym (ap (λ (a : ReadAnswer). a .number) e) ∙ z))
+
+-- ---- read accepts exactly the tapes of allowed jobs, into buffers that hold them
+
+pub read-number : (tape : List ℕ) → ((i : ℕ) → getD tape i 0 < 256) → (samples : List ℕ) (flow : List ℤ) →
+    (readAnswer tape samples flow .number ≡ 0) ↔ ReadAllowed tape samples flow
+read-number tape byte samples flow = (allowed, taken)
+  where
+    lent : Lent
+    lent = record { samples = length samples; flow = length flow }
+
+    allowed : readAnswer tape samples flow .number ≡ 0 → ReadAllowed tape samples flow
+    allowed z =
+        let (p, e) = accepted-parse tape samples flow z in
+        let (all-read, within) = passed-parse tape samples flow p e in
+        let j : Job tape lent byte p = accepted-job tape lent byte p all-read in
+        let size = j .sound .size (omega (arith, j .complete)) in
+        record {
+          terms = p .terms;
+          rounds = p .rounds;
+          codes = p .samples;
+          numbers = p .flow;
+          bytes = j .bytes;
+          job = job-allowed tape byte lent p j within;
+          allowance-most = omega (arith, j .sound .allowance);
+          samples-length = size .1;
+          flow-length = size .2;
+        }
+
+    taken : ReadAllowed tape samples flow → readAnswer tape samples flow .number ≡ 0
+    taken k =
+        let t : Terms = k .terms in
+        let p : Progress = record { header = 3; terms = t; rounds = k .rounds; samples = k .codes; flow = k .numbers } in
+        let own : List ℕ = tapeOf t (k .rounds) (k .codes) (k .numbers) in
+        let back = reads-back t (k .rounds) (k .codes) (k .numbers) (k .job) (omega (arith, k .allowance-most)) lent (k .samples-length, k .flow-length) in
+        let read = whole-parse own samples flow p back (within-first (k .job)) in
+        subst (λ (bytes : List ℕ). readAnswer bytes samples flow .number ≡ 0) (sym (k .bytes))
+        (ap (λ (a : ReadAnswer). a .number) (answer-by own samples flow read))

@@ -16,6 +16,8 @@ ghost use Rattle.model.specs.Verdict.{firstRefusal};
 ghost use Rattle.model.specs.Calls.{pixelsOf};
 ghost use Rattle.model.specs.Tape.{writeRows, writeAnswer, writeOutput};
 ghost use lib.ListN.{take};
+ghost use mathlib.Core.Logic.{_↔_};
+ghost use Rattle.model.specs.Accepted.{WriteAllowed};
 ghost use Rattle.roundtrip.specs.RoundTrip.{ReadsBack};
 ghost use Rattle.tape_write.specs.Writing.{flowRows, lowerRows};
 ghost use Rattle.tape_write.specs.Answers.{writeAnswerOf};
@@ -87,6 +89,7 @@ pub enum WriteResult {
 pub fn write(t: Terms, r: Rounds, samples: &[u8], flow: &[i32], output: &mut [u8]) -> WriteResult
     ensures { λ w. ⌜ writeAnswerOf w ≡ writeAnswer t r (now (samples .entry)) (now (flow .entry)) (now (output .entry)) ⌝ }
     ensures { λ _. ⌜ now (output .exit) ≡ writeOutput t r (now (samples .entry)) (now (flow .entry)) (now (output .entry)) ⌝ }
+    ensures { λ w. ⌜ ((writeAnswerOf w .number ≡ 0) ↔ WriteAllowed t r (now (samples .entry)) (now (flow .entry)) (now (output .entry))) ⌝ }
     ensures { λ w. ⌜ (writeAnswerOf w .number ≡ 0 → ReadsBack t r (now (samples .entry)) (now (flow .entry)) (take (writeAnswerOf w .count) (now (output .exit)))) ⌝ }
 {
     let v = judge_write(t, r, samples, flow, output.len());

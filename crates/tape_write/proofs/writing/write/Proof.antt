@@ -1,13 +1,10 @@
 -- `tape_write::writing::write` meets its contract. Assumes nothing.
-use mathlib.Core.Path.{_≡_, sym, ap, _∙_}
-use mathlib.Core.List.{List}
+use mathlib.Core.Path.{sym, ap, _∙_}
 use Prim.Native.Nat.{ℕ}
 use native.Mathlib.Omega.{arith}
-use lib.ListN.{take}
-use Rattle.model.specs.Tape.{WriteAnswer, writeAnswer, writeOutput}
-use Rattle.roundtrip.specs.RoundTrip.{ReadsBack}
-use Rattle.roundtrip.proofs.RoundTrip.{left-reads-back}
-use Rattle.roundtrip.proofs.WriteRows.{accepted-write, written-answer, written-output}
+use Rattle.model.proofs.Accepted.{write-accepted}
+use Rattle.roundtrip.proofs.WriteRows.{written-answer, written-output}
+use Rattle.tape_write.proofs.Promised.{promised}
 use borrow.Author.Needs.{needs}
 use Rattle.tape_write.proofs.writing.write.Statement.{statement}
 use Rattle.tape_write.proofs.writing.write.Tie as tie
@@ -22,23 +19,14 @@ enum-told : tie.Need-enum-told
 enum-told c = search needs
 
 lay-tape-requires : tie.Need-lay-tape-requires
-lay-tape-requires c κs = accepted-write _ _ _ _ _ (sym (c .before .before .before .judge-write .ensures) ∙ c .before .enum-told .given .1) .fits
-
--- what the call gives and leaves is the definition's, and so its tape reads back
-promised : (s : tie.Start) {a : WriteAnswer} {left : List ℕ} → let x = s .args in
-    a ≡ writeAnswer (x .t) (x .r) (x .samples .now) (x .flow .now) (x .output .now) →
-    left ≡ writeOutput (x .t) (x .r) (x .samples .now) (x .flow .now) (x .output .now) →
-    (a ≡ writeAnswer (x .t) (x .r) (x .samples .now) (x .flow .now) (x .output .now))
-    × ((left ≡ writeOutput (x .t) (x .r) (x .samples .now) (x .flow .now) (x .output .now))
-    × (a .number ≡ 0 → ReadsBack (x .t) (x .r) (x .samples .now) (x .flow .now) (take (a .count) left)))
-promised s e h = (e, (h, left-reads-back (s .args .t) (s .args .r) (s .args .samples .now) (s .args .flow .now) (s .args .output .now) (omega (arith, s .good)) e h))
+lay-tape-requires c κs = write-accepted _ _ _ _ (c .before .before .before .before .before .before .args .output .now) .0 (sym (c .before .before .before .judge-write .ensures) ∙ c .before .enum-told .given .1) .output-length
 
 returns : tie.Need-returns
 returns c =
     let s = c .before .before .before .before .before .before in
     let a = s .args in
     let v = sym (c .before .before .before .judge-write .ensures) ∙ c .before .v .given .1 in
-    promised s
+    promised (a .t) (a .r) (a .samples .now) (a .flow .now) (a .output .now) (omega (arith, s .good))
     (sym (written-answer (a .t) (a .r) (a .samples .now) (a .flow .now) (a .output .now) v))
     (sym (written-output (a .t) (a .r) (a .samples .now) (a .flow .now) (a .output .now) v))
 
@@ -50,7 +38,7 @@ returns-2 c =
     let s = c .before .before .before .before .before .before .before .before .before in
     let a = s .args in
     let v = sym (c .before .before .before .before .before .before .judge-write .ensures) ∙ c .before .before .before .before .enum-told .given .1 in
-    promised s
+    promised (a .t) (a .r) (a .samples .now) (a .flow .now) (a .output .now) (omega (arith, s .good))
     (ap (λ (n : ℕ). record { number = 0; place = 0; count = n }) (c .before .before .lay-tape .ensures .0)
     ∙ sym (written-answer (a .t) (a .r) (a .samples .now) (a .flow .now) (a .output .now) v))
     (c .before .before .lay-tape .ensures .1 ∙ sym (written-output (a .t) (a .r) (a .samples .now) (a .flow .now) (a .output .now) v))

@@ -1,0 +1,26 @@
+-- What a call gave and left is the definition's; so it accepts exactly what is allowed, and its tape reads back. Assumes nothing.
+use mathlib.Core.Path.{_≡_, sym, ap, _∙_}
+use mathlib.Core.List.{List}
+use mathlib.Core.Logic.{_↔_}
+use Prim.Native.Nat.{ℕ, _<_}
+use lib.IntN.{ℤ}
+use lib.ListN.{take}
+use Rattle.model.specs.declared.Terms.{Terms}
+use Rattle.model.specs.declared.Rounds.{Rounds}
+use Rattle.model.specs.Tape.{WriteAnswer, writeAnswer, writeOutput}
+use Rattle.model.specs.Accepted.{WriteAllowed}
+use Rattle.roundtrip.specs.RoundTrip.{ReadsBack}
+use Rattle.roundtrip.proofs.WriteRows.{write-number}
+use Rattle.roundtrip.proofs.RoundTrip.{left-reads-back}
+
+module _ (t : Terms) (r : Rounds) (samples : List ℕ) (numbers : List ℤ) (output : List ℕ) where
+  pub promised : r .allowance < 65536 → {left : List ℕ} {a : WriteAnswer} →
+      a ≡ writeAnswer t r samples numbers output → left ≡ writeOutput t r samples numbers output →
+      (a ≡ writeAnswer t r samples numbers output)
+      × ((left ≡ writeOutput t r samples numbers output)
+      × (((a .number ≡ 0) ↔ WriteAllowed t r samples numbers output)
+      × (a .number ≡ 0 → ReadsBack t r samples numbers (take (a .count) left))))
+  promised small e h =
+      let n = write-number t r samples numbers output in
+      let same = ap (λ (b : WriteAnswer). b .number) e in
+      (e, (h, ((λ z. n .0 (sym same ∙ z), λ k. same ∙ n .1 k), left-reads-back t r samples numbers output small e h)))
