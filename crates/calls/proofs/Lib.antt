@@ -2,8 +2,6 @@
 --     Objectives  price and floor from the passes' sums, and that they fit 64 bits
 --     Jobs        an allowed job is within the limits of the passes
 --     Rows        the rows of the terms, then those below them
---     Verdicts    what an accepted and a refused call say
 pub mod Objectives
 pub mod Jobs
 pub mod Rows
-pub mod Verdicts

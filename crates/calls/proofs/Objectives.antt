@@ -12,9 +12,9 @@ use Rattle.integers.proofs.Total.{total-*ℤ}
 use Rattle.integers.proofs.Absolute.{natAbs-difference, natAbs-product}
 use Rattle.model.specs.declared.Terms.{Terms}
 use Rattle.model.specs.Lists.{at}
-use Rattle.model.specs.Problem.{pairCount, fall, misfit, price, Feasible, image, floor, InBox}
+use Rattle.model.specs.Problem.{Problem, pairCount, fall, misfit, price, Feasible, image, floor, slack, InBox}
 use Rattle.model.specs.Grid.{readingOf, grid}
-use Rattle.model.specs.Calls.{pixelsOf, pairsOf}
+use Rattle.model.specs.Calls.{Outcome, figures, figuresOf, pixelsOf, pairsOf}
 use Rattle.raster.specs.Whole.{gridFall}
 use Rattle.model.proofs.Bounds as Bounds
 use Rattle.model.proofs.Bounds.{largest, price-bound, floor-bound}
@@ -63,3 +63,12 @@ module _ (t : Terms) (samples : List ℕ) where
 
         summand : (b c : ℤ) → natAbs c ≤ natAbs (b +ℤ c) + natAbs b
         summand b c = subst (λ (z : ℤ). natAbs z ≤ natAbs (b +ℤ c) + natAbs b) (sym (minus b c)) (natAbs-difference (b +ℤ c) b)
+
+-- figures that are those of a flow
+pub figured : (o : Outcome) (moved : ℕ) (t : Terms) (samples : List ℕ) (flow : List ℤ) {a b c : ℤ} →
+    a ≡ price (grid t samples) (image (grid t samples) (at flow)) → b ≡ floor (grid t samples) (at flow) → c ≡ slack (grid t samples) (at flow) →
+    figures o moved a b c ≡ figuresOf o moved t samples flow
+unfolding figuresOf
+figured o moved t samples flow {c} e f g =
+    let p : Problem = grid t samples in
+    ap₂ (λ (x y : ℤ). figures o moved x y c) e f ∙ ap (figures o moved (price p (image p (at flow))) (floor p (at flow))) g

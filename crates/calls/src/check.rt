@@ -9,7 +9,7 @@ use raster::image::fill_image;
 use stencil::pixel;
 ghost use mathlib.Core.Path.{_≡_};
 ghost use mathlib.Core.Logic.{_↔_};
-ghost use Rattle.model.specs.Calls.{checkVerdict, checkAnswer, checkImage};
+ghost use Rattle.model.specs.Calls.{checkAnswer, checkImage};
 ghost use Rattle.model.specs.Accepted.{CheckAllowed};
 ghost use Rattle.certificate.specs.Demand.{CheckDemand};
 ghost use Rattle.calls.specs.Answers.{answerOf};
@@ -18,7 +18,7 @@ pub fn check(t: Terms, samples: &[u8], flow: &[i32], image: &mut [i32]) -> Answe
     ensures { λ r. ⌜ answerOf r ≡ checkAnswer t (now (samples .entry)) (now (flow .entry)) (now (image .entry)) ⌝ }
     ensures { λ _. ⌜ now (image .exit) ≡ checkImage t (now (samples .entry)) (now (flow .entry)) (now (image .entry)) ⌝ }
     ensures { λ r. ⌜ ((answerOf r .number ≡ 0) ↔ CheckAllowed t (now (samples .entry)) (now (flow .entry)) (now (image .entry))) ⌝ }
-    ensures { λ _. ⌜ (checkVerdict t (now (samples .entry)) (now (flow .entry)) (now (image .entry)) ≡ Verdict.Accept → CheckDemand t (now (samples .entry)) (now (flow .entry))) ⌝ }
+    ensures { λ r. ⌜ (answerOf r .number ≡ 0 → CheckDemand t (now (samples .entry)) (now (flow .entry)) (now (image .exit)) (answerOf r)) ⌝ }
 {
     let verdict = judge::judge_check(t, samples.len(), flow, image.len());
     if let Verdict::Refuse { number, place } = verdict {

@@ -11,7 +11,7 @@ use rounds::quick::quick_rounds;
 use rounds::steady::steady_rounds;
 ghost use mathlib.Core.Path.{_≡_};
 ghost use mathlib.Core.Logic.{_↔_};
-ghost use Rattle.model.specs.Calls.{runVerdict, runAnswer, runFlow, runImage, runWork};
+ghost use Rattle.model.specs.Calls.{runAnswer, runFlow, runImage, runWork};
 ghost use Rattle.model.specs.Accepted.{RunAllowed};
 ghost use Rattle.certificate.specs.Demand.{RunDemand};
 ghost use Rattle.calls.specs.Answers.{answerOf};
@@ -29,7 +29,7 @@ pub fn run(
     ensures { λ _. ⌜ now (image .exit) ≡ runImage t r (now (samples .entry)) (now (flow .entry)) (now (image .entry)) (now (work .entry)) ⌝ }
     ensures { λ _. ⌜ now (work .exit) ≡ runWork t r (now (samples .entry)) (now (flow .entry)) (now (image .entry)) (now (work .entry)) ⌝ }
     ensures { λ a. ⌜ ((answerOf a .number ≡ 0) ↔ RunAllowed t r (now (samples .entry)) (now (flow .entry)) (now (image .entry)) (now (work .entry))) ⌝ }
-    ensures { λ _. ⌜ (runVerdict t r (now (samples .entry)) (now (flow .entry)) (now (image .entry)) (now (work .entry)) ≡ Verdict.Accept → RunDemand t r (now (samples .entry))) ⌝ }
+    ensures { λ a. ⌜ (answerOf a .number ≡ 0 → RunDemand t r (now (samples .entry)) (now (flow .exit)) (now (image .exit)) (answerOf a)) ⌝ }
 {
     let verdict = judge::judge_run(
         t,

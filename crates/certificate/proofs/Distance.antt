@@ -21,9 +21,9 @@ use Rattle.model.specs.Problem.{
   InBox,
   distance,
 }
-use Rattle.certificate.specs.Demand.{Certified}
+use Rattle.certificate.specs.Demand.{Figures, Certified}
 use Rattle.certificate.proofs.Lagrangian.{Sound, floor-is, below-price, image-in-box, minimum}
-use Rattle.certificate.proofs.Congruence.{Agree, price-cong}
+use Rattle.certificate.proofs.Congruence.{Agree, price-cong, distance-cong}
 
 -- The slack by pairs: 2 × the sum over pairs of weight × |fall| − flow × fall
 pub slack-by-pairs : (p : Problem) (f : ℕ → ℤ) →
@@ -89,9 +89,26 @@ module _ (p : Problem) (sound : Sound p) (f : ℕ → ℤ) (within : Feasible p 
       apart : (a b : ℤ) → square (a -ℤ b) ≡ pos 0 → a ≡ b
       apart a b h = let z : a -ℤ b ≡ pos 0 = square-zero h in by-≡ (search parts depth 12) (omega (whole, of-≡ z (search parts depth 12)))
 
-  pub certified : Certified p f
+  pub certified : Certified p (image p f) (price p (image p f)) (slack p f)
   certified =
       record {
         close = distance-law;
         exact = λ y inside none. (equal-images y inside none, λ same. price-cong p sound same);
+      }
+
+  -- .. and so is whatever agrees with the flow's image at the pixels: a buffer that holds it, with the figures given for it
+  pub certified-figures : {x : ℕ → ℤ} {c d s : ℤ} → Figures p f x c d s → Certified p x c s
+  certified-figures {x} {c} {d} {s} g =
+      let same : Agree (p .pixels) (image p f) x = λ i l. sym (g .images i l) in
+      let priced : c ≡ price p (image p f) = g .prices ∙ price-cong p sound (g .images) in
+      record {
+        close =
+            λ y inside.
+            let law : (c +ℤ distance p (image p f) y) ≤ℤ (price p y +ℤ s) = rw (priced, g .slacks) (distance-law y inside) in
+            subst (λ (v : ℤ). (c +ℤ v) ≤ℤ (price p y +ℤ s)) (distance-cong p sound same y) law;
+        exact =
+            λ y inside none. (
+              λ e i l. g .images i l ∙ certified .exact y inside (sym (g .slacks) ∙ none) .0 (sym priced ∙ e) i l,
+              λ equal. g .prices ∙ price-cong p sound equal,
+            );
       }

@@ -2,6 +2,7 @@
 -- the certificate holds there too, against every image of the multiplied box. Assumes nothing.
 use mathlib.Core.Path.{_≡_, refl, sym, ap, ap₂, _∙_, subst, fun-ext}
 use mathlib.Core.Bool.{Bool, true, false, cond}
+use mathlib.Core.List.{List}
 use Prim.Native.Nat.{ℕ, _*_, _≤_}
 use native.Mathlib.Nat.{mul-le-mul-left}
 use native.Mathlib.Omega.{arith}
@@ -15,6 +16,8 @@ use Rattle.integers.proofs.Order.{*ℤ-mono, 0≤pos}
 use Rattle.integers.proofs.Absolute.{natAbs-product}
 use Rattle.integers.proofs.Clamp.{clamp-scale}
 use Rattle.integers.proofs.Total.{total-cong, total-*ℤ}
+use Rattle.model.specs.Lists.{at}
+use Rattle.model.specs.Calls.{Answer}
 use Rattle.model.specs.Problem.{
   Problem,
   pairCount,
@@ -31,9 +34,9 @@ use Rattle.model.specs.Problem.{
   divided,
   times,
 }
-use Rattle.certificate.specs.Demand.{Scaled, Certificate}
+use Rattle.certificate.specs.Demand.{Figures, Certificate}
 use Rattle.certificate.proofs.Lagrangian.{Sound}
-use Rattle.certificate.proofs.Distance.{certified}
+use Rattle.certificate.proofs.Distance.{certified-figures}
 
 -- a common factor comes out of a sum of two terms, the second doubled
 factored : (c a b : ℤ) → c *ℤ a +ℤ pos 2 *ℤ (c *ℤ b) ≡ c *ℤ (a +ℤ pos 2 *ℤ b)
@@ -110,23 +113,23 @@ module _ (k : ℕ) (p : Problem) where
           ∙ ap (λ (d : ℤ). (pos k *ℤ f j) *ℤ d) (fall-scale (image p f) j)
           ∙ product (f j) (fall p (image p f) j)
 
-  pub scales : (f : ℕ → ℤ) → Scaled p f k
-  scales f =
-      record {
-        images = image-scale f;
-        prices = price-of-image;
-        floors = floor-scale f;
-        slacks = slack-of;
-      }
-    where
-      price-of-image : price (divided k p) (image (divided k p) (times k f)) ≡ pos (k * k) *ℤ price p (image p f)
-      price-of-image = ap (price (divided k p)) (image-times f) ∙ price-scale (image p f)
+  pub slack-scale : (f : ℕ → ℤ) → slack (divided k p) (times k f) ≡ pos (k * k) *ℤ slack p f
+  unfolding slack
+  slack-scale f =
+      ap₂ (λ (a b : ℤ). a -ℤ b) (ap (price (divided k p)) (image-times f) ∙ price-scale (image p f)) (floor-scale f)
+      ∙ sym (*ℤ--ℤ (pos (k * k)) (price p (image p f)) (floor p f))
 
-      slack-of : slack (divided k p) (times k f) ≡ pos (k * k) *ℤ slack p f
-      slack-of =
-          unfold slack in
-          ap₂ (λ (a b : ℤ). a -ℤ b) price-of-image (floor-scale f)
-          ∙ sym (*ℤ--ℤ (pos (k * k)) (price p (image p f)) (floor p f))
+  -- the figures of an image and a flow, on the division
+  pub figures-scale : {f x : ℕ → ℤ} {c d s : ℤ} → Figures p f x c d s →
+      Figures (divided k p) (times k f) (times k x) (pos (k * k) *ℤ c) (pos (k * k) *ℤ d) (pos (k * k) *ℤ s)
+  figures-scale {f} {x} g =
+      let grown : ℤ → ℤ = λ a. pos (k * k) *ℤ a in
+      record {
+        images = λ i l. ap (λ (a : ℤ). pos k *ℤ a) (g .images i l) ∙ sym (image-scale f i);
+        prices = ap grown (g .prices) ∙ sym (price-scale x);
+        floors = ap grown (g .floors) ∙ sym (floor-scale f);
+        slacks = ap grown (g .slacks) ∙ sym (slack-scale f);
+      }
 
   sound-scale : Sound p → Sound (divided k p)
   sound-scale s = record { box = *ℤ-mono (0≤pos k) (s .box); first-in = s .first-in; second-in = s .second-in }
@@ -135,11 +138,15 @@ module _ (k : ℕ) (p : Problem) where
   feasible-scale f within j l =
       subst (λ (n : ℕ). n ≤ k * p .weight j) (sym (natAbs-product (pos k) (f j))) (mul-le-mul-left k (within j l))
 
--- The certificate of a flow within the weights
-pub certificate : (p : Problem) → Sound p → (f : ℕ → ℤ) → Feasible p f → Certificate p f
-certificate p sound f within =
+-- The certificate of a flow within the weights, of a buffer that holds its image, and of its figures
+pub certificate : (p : Problem) → Sound p → (flow values : List ℤ) (a : Answer) → Feasible p (at flow) →
+    Figures p (at flow) (at values) (a .price) (a .floor) (a .slack) → Certificate p flow values a
+certificate p sound flow values a within g =
     record {
-      here = certified p sound f within;
-      divisions = λ k _. certified (divided k p) (sound-scale k p sound) (times k f) (feasible-scale k p f within);
-      scaled = λ k. scales k p f;
+      figures = g;
+      here = certified-figures p sound (at flow) within g;
+      scaled = λ k _. figures-scale k p g;
+      divisions =
+          λ k _.
+          certified-figures (divided k p) (sound-scale k p sound) (times k (at flow)) (feasible-scale k p (at flow) within) (figures-scale k p g);
     }

@@ -1,11 +1,12 @@
 -- Demand 3 at document 01's grid. Assumes nothing.
-use mathlib.Core.Path.{_≡_, sym, ap, _∙_, subst}
+use mathlib.Core.Path.{_≡_, refl, sym, ap, _∙_, subst}
+use mathlib.Core.Bool.{Bool, true, false, cond}
 use mathlib.Core.List.{List}
-use Prim.Native.Nat.{ℕ, zero, suc, _*_, _≤_, _<_, zero-le}
+use Prim.Native.Nat.{ℕ, zero, suc, _+_, _*_, _≤_, _<_, zero-le}
 use native.Mathlib.Omega.{arith}
 use lib.IntN.{ℤ, pos, natAbs, _+ℤ_, _*ℤ_}
 use lib.ListN.{length, length-replicate, getD-replicate}
-use lib.Signed.{_≤ℤ_}
+use lib.Signed.{_≤ℤ_, _<ℤ_}
 use Rattle.integers.specs.Sum.{total}
 use Rattle.integers.proofs.Order.{≤→pos}
 use Rattle.model.specs.Lists.{at}
@@ -14,11 +15,31 @@ use Rattle.model.specs.declared.Terms.{Terms}
 use Rattle.model.specs.declared.Rounds.{Rounds}
 use Rattle.model.specs.Grid.{lowEnd, highEnd, grid}
 use Rattle.model.specs.Rounds.{eighth, quickStart, quickRound, quickRounds}
-use Rattle.model.specs.Calls.{quickFlow, ending}
+use Rattle.model.specs.Calls.{
+  Outcome,
+  checked,
+  settled,
+  spent,
+  Answer,
+  pairsOf,
+  imageOf,
+  figuresOf,
+  checkAnswer,
+  checkImage,
+  quickFlow,
+  ending,
+  runAnswer,
+  runFlow,
+  runImage,
+}
+use Rattle.model.specs.Accepted.{CheckAllowed, RunAllowed}
 use Rattle.model.proofs.Pairs.{neighbours, first-inside, second-inside}
 use Rattle.model.proofs.Degree.{degree, degree-at-most-4}
-use Rattle.certificate.specs.Demand.{CheckDemand, RunDemand}
+use Rattle.model.proofs.Answers.{check-answer, check-image, runFigures, run-answer, run-flow, run-image, held-image}
+use Rattle.model.proofs.Accepted.{told, check-feasible, check-accepted, check-number, run-accepted, run-number}
+use Rattle.certificate.specs.Demand.{Figures, CheckDemand, RunDemand}
 use Rattle.certificate.proofs.Lagrangian.{Sound}
+use Rattle.certificate.proofs.Congruence.{price-cong}
 use Rattle.certificate.proofs.Division.{certificate}
 use Rattle.certificate.proofs.Rounding.{eighth-rounding}
 use Rattle.certificate.proofs.Steady.{step-length, step-feasible, steady-ends, moved-bound, settled-bound, settles}
@@ -33,10 +54,29 @@ grid-sound t samples box =
       second-in = λ j l. second-inside (t .width) (t .height) _ (neighbours (t .width) (t .height) j _ l);
     }
 
--- Check: whatever flow within the weight it was sent
-pub check-demand : (t : Terms) (samples : List ℕ) → t .low ≤ t .high → (flow : List ℤ) →
-    Feasible (grid t samples) (at flow) → CheckDemand t samples flow
-check-demand t samples box flow within = certificate (grid t samples) (grid-sound t samples box) (at flow) within
+-- a buffer that holds a flow's image, and the figures of that flow
+held : (t : Terms) (samples : List ℕ) → t .low ≤ t .high → (flow : List ℤ) (o : Outcome) (moved : ℕ) {values : List ℤ} {a : Answer} →
+    values ≡ imageOf t samples flow → a ≡ figuresOf o moved t samples flow →
+    Figures (grid t samples) (at flow) (at values) (a .price) (a .floor) (a .slack)
+unfolding figuresOf
+held t samples box flow o moved e g =
+    let images = held-image t samples flow e in
+    record {
+      images = images;
+      prices = ap (λ (x : Answer). x .price) g ∙ sym (price-cong (grid t samples) (grid-sound t samples box) images);
+      floors = ap (λ (x : Answer). x .floor) g;
+      slacks = ap (λ (x : Answer). x .slack) g;
+    }
+
+-- Check, of the flow that it was lent, whatever flow that is, and of the image that it leaves
+pub check-demand : (t : Terms) (samples : List ℕ) (flow former : List ℤ) {values : List ℤ} {a : Answer} →
+    a ≡ checkAnswer t samples flow former → values ≡ checkImage t samples flow former → a .number ≡ 0 → CheckDemand t samples flow values a
+check-demand t samples flow former {values} {a} e g none =
+    let allowed : CheckAllowed t samples flow former = told e (check-number t samples flow former) .0 none in
+    let yes = check-accepted t samples flow former .1 allowed in
+    let box = allowed .terms .box in
+    certificate (grid t samples) (grid-sound t samples box) flow values a (check-feasible t samples flow former allowed)
+    (held t samples box flow checked 0 (g ∙ check-image t samples flow former yes) (e ∙ check-answer t samples flow former yes))
 
 -- the flow that quick rounds leave is P, never R: it has a number for each pair, within the weights
 pub quick-size : (share : ℤ → ℤ) (p : Problem) (k : ℕ) → length (quickRounds share p k .iterate) ≡ pairCount p
@@ -68,22 +108,54 @@ ending-flow t r samples box =
     in
     (e .size, e .feasible)
 
--- Run: whatever the scan and the rounds
-pub run-demand : (t : Terms) (r : Rounds) (samples : List ℕ) → t .low ≤ t .high → RunDemand t r samples
+-- the bounds of a run's rounds, whatever the scan and the terms
+run-bounds : (t : Terms) (r : Rounds) (samples : List ℕ) → t .low ≤ t .high →
+    (pos (8 * ending t r samples .moved) ≤ℤ slack (grid t samples) (at (quickFlow t r samples)))
+    × (slack (grid t samples) (at (quickFlow t r samples)) <ℤ pos (8 * (r .allowance + 1)) → ending t r samples .settled ≡ true)
+    × (ending t r samples .settled ≡ true → slack (grid t samples) (at (ending t r samples .flow)) ≤ℤ pos (28 * (t .weight * pairsOf t)))
 unfolding ending quickFlow
-run-demand t r samples box =
+run-bounds t r samples box =
     let p : Problem = grid t samples in
     let sound : Sound p = grid-sound t samples box in
     let start : List ℤ = quickRounds eighth p (r .quick) .iterate in
     let size = quick-size eighth p (r .quick) in
     let within = quick-feasible eighth p (r .quick) in
-    let degrees : (i : ℕ) → i < p .pixels → degree p i ≤ 4 = λ i _. degree-at-most-4 t samples i in
-    record {
-      certificate = certificate p sound (at (ending t r samples .flow)) (ending-flow t r samples box .1);
-      moved = moved-bound eighth p sound 4 8 7 eighth-rounding degrees (r .allowance) start size within;
-      settled =
-          λ e.
+    let degrees : (i : ℕ) → i < p .pixels → degree p i ≤ 4 = λ i _. degree-at-most-4 t samples i in (
+      moved-bound eighth p sound 4 8 7 eighth-rounding degrees (r .allowance) start size within,
+      settles eighth p sound 4 8 7 eighth-rounding degrees (r .allowance) start size within,
+      λ e.
           subst (λ (s : ℤ). slack p (at (ending t r samples .flow)) ≤ℤ (pos 28 *ℤ s)) (constant (pairCount p) (t .weight))
-          (settled-bound eighth p sound 4 8 7 eighth-rounding degrees (r .allowance) start size within e);
-      settles = settles eighth p sound 4 8 7 eighth-rounding degrees (r .allowance) start size within;
+          (settled-bound eighth p sound 4 8 7 eighth-rounding degrees (r .allowance) start size within e),
+    )
+
+-- the outcome tells whether the rounds settled
+told-settled : (b : Bool) → cond b settled spent ≡ settled → b ≡ true
+told-settled true e = refl
+told-settled false e = cc
+
+-- Run, of the flow and the image that it leaves
+pub run-demand : (t : Terms) (r : Rounds) (samples : List ℕ) (former formerImage work : List ℤ) {flow values : List ℤ} {a : Answer} →
+    a ≡ runAnswer t r samples former formerImage work → flow ≡ runFlow t r samples former formerImage work →
+    values ≡ runImage t r samples former formerImage work → a .number ≡ 0 → RunDemand t r samples flow values a
+unfolding figuresOf
+run-demand t r samples former formerImage work {flow} {values} {a} e f g none =
+    let allowed : RunAllowed t r samples former formerImage work = told e (run-number t r samples former formerImage work) .0 none in
+    let yes = run-accepted t r samples former formerImage work .1 allowed in
+    let box = allowed .terms .box in
+    let p : Problem = grid t samples in
+    let left : flow ≡ ending t r samples .flow = f ∙ run-flow t r samples former formerImage work yes in
+    let given : a ≡ runFigures t r samples = e ∙ run-answer t r samples former formerImage work yes in
+    let outcome : a .outcome ≡ cond (ending t r samples .settled) settled spent = ap (λ (x : Answer). x .outcome) given in
+    record {
+      certificate =
+          certificate p (grid-sound t samples box) flow values a
+          (subst (λ (z : List ℤ). Feasible p (at z)) (sym left) (ending-flow t r samples box .1))
+          (held t samples box flow _ _ (g ∙ run-image t r samples former formerImage work yes ∙ ap (imageOf t samples) (sym left))
+          (given ∙ ap (figuresOf (cond (ending t r samples .settled) settled spent) (ending t r samples .moved) t samples) (sym left)));
+      moved = rw (ap (λ (x : Answer). x .moved) given) (run-bounds t r samples box .0);
+      settles = λ h. outcome ∙ ap (λ (b : Bool). cond b settled spent) (run-bounds t r samples box .1 h);
+      settled =
+          λ h.
+          subst (λ (s : ℤ). s ≤ℤ pos (28 * (t .weight * pairsOf t))) (sym (ap (λ (x : Answer). x .slack) given))
+          (run-bounds t r samples box .2 (told-settled (ending t r samples .settled) (sym outcome ∙ h)));
     }

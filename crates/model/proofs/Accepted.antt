@@ -2,7 +2,7 @@
 -- its verdict and by the number that it gives. Assumes nothing.
 use mathlib.Core.Path.{_≡_, refl, sym, ap, ap₂, _∙_}
 use mathlib.Core.Bool.{Bool, true, false, not, _&&_, _||_, true≢false, and-false}
-use mathlib.Core.List.{List, [], _∷_}
+use mathlib.Core.List.{List}
 use mathlib.Core.Logic.{_↔_, _⊎_, inl, inr, ⊎-elim}
 use Prim.Native.Nat.{ℕ, _*_, _≤_, _<_}
 use native.Mathlib.Omega.{arith}
@@ -157,6 +157,12 @@ image-passes t values =
     )
 
 -- ---- the calls
+
+-- what the number 0 says of an answer, it says of every answer that is equal
+pub told : {a b : Answer} {A : Type 0} → a ≡ b → ((b .number ≡ 0) ↔ A) → (a .number ≡ 0) ↔ A
+told e f =
+    let n = ap (λ (x : Answer). x .number) e in
+    (λ z. f .0 (sym n ∙ z), λ k. n ∙ f .1 k)
 
 -- the contents, said of the job's grid
 pub check-feasible : (t : Terms) (samples : List ℕ) (flow values : List ℤ) → CheckAllowed t samples flow values → Feasible (grid t samples) (at flow)

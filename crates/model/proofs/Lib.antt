@@ -6,6 +6,7 @@
 --     Pairs       how many pairs there are, and which two pixels each has
 --     Degree      a pixel lies in at most 4 pairs
 --     Bounds      price, floor and slack of an allowed job fit 64 bits
+--     Answers     what check, price and run give and leave, by their verdict
 --     Accepted    check, price and run are accepted exactly when terms, lengths and contents are allowed
 pub mod Values
 pub mod Refusals
@@ -14,4 +15,5 @@ pub mod Root
 pub mod Pairs
 pub mod Degree
 pub mod Bounds
+pub mod Answers
 pub mod Accepted

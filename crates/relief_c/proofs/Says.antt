@@ -1,10 +1,19 @@
--- The plain numbers of an answer are those of an equal answer. Assumes nothing.
-use mathlib.Core.Path.{_≡_, sym, ap, subst}
-use Prim.Native.Nat.{ℕ}
+-- The plain numbers of an answer are those of an equal answer, and what holds where an answer is accepted holds where the
+-- number that is handed out is 0. Assumes nothing.
+use mathlib.Core.Path.{_≡_, refl, sym, ap, ap₂, _∙_, subst}
+use mathlib.Core.Bool.{Bool, true, false, cond}
+use mathlib.Core.List.{List}
+use mathlib.Core.Logic.{_↔_}
+use Prim.Native.Nat.{ℕ, _*_}
+use native.Mathlib.Omega.{arith}
 use lib.IntN.{ℤ}
-use Rattle.model.specs.Calls.{Answer}
-use Rattle.model.specs.Tape.{ReadAnswer}
-use Rattle.relief_c.specs.Plain.{Handed}
+use lib.ListN.{take}
+use Rattle.model.specs.declared.Terms.{Terms}
+use Rattle.model.specs.declared.Rounds.{Rounds}
+use Rattle.model.specs.Calls.{Answer, pixelsOf, pairsOf}
+use Rattle.model.specs.Tape.{ReadAnswer, WriteAnswer}
+use Rattle.roundtrip.specs.RoundTrip.{ReadsBack, WritesBack, flowCount}
+use Rattle.relief_c.specs.Plain.{Handed, HandedJob, HandedTape}
 
 -- price, check and run; the sign of a floor is read from its bits
 pub same : {number place outcome moved price : ℕ} {floor bits : ℤ} {slack : ℕ} {a b : Answer} → a ≡ b → bits ≡ floor → Handed number place outcome moved price floor slack a →
@@ -12,7 +21,40 @@ pub same : {number place outcome moved price : ℕ} {floor bits : ℤ} {slack : 
 same {number} {place} {outcome} {moved} {price} {floor} {bits} {slack} {a} {b} e f h =
     subst (λ (z : ℤ). Handed number place outcome moved price z slack b) (sym f) (subst (Handed number place outcome moved price floor slack) e h)
 
+-- the number that is handed out, for the answer's
+module _ {n m : ℕ} (e : n ≡ m) where
+  pub allowed-by : {A : Type 0} → ((m ≡ 0) ↔ A) → (n ≡ 0) ↔ A
+  allowed-by k = (λ z. k .0 (sym e ∙ z), λ a. e ∙ k .1 a)
+
+  -- of an equal answer
+  pub demanded-by : {A : Type 0} {a b : A} (D : A → Type 0) → a ≡ b → (m ≡ 0 → D a) → n ≡ 0 → D b
+  demanded-by D same k z = subst D same (k (sym e ∙ z))
+
 -- read
-pub parts : {a b : ReadAnswer} → a ≡ b → (a .number ≡ b .number) × ((a .place ≡ b .place) × ((a .terms ≡ b .terms) × ((a .rounds ≡ b .rounds) × (a .flowed ≡ b .flowed))))
-parts e =
-    (ap (λ (a : ReadAnswer). a .number) e, (ap (λ (a : ReadAnswer). a .place) e, (ap (λ (a : ReadAnswer). a .terms) e, (ap (λ (a : ReadAnswer). a .rounds) e, ap (λ (a : ReadAnswer). a .flowed) e))))
+module _ {number place : ℕ} {t : Terms} {r : Rounds} {w : ℕ} {a : ReadAnswer} (h : HandedJob number place t r w a) where
+  pub same-job : {b : ReadAnswer} → a ≡ b → HandedJob number place t r w b
+  same-job e = subst (HandedJob number place t r w) e h
+
+  times-flowed : (x : Bool) (n : ℕ) → cond x 1 0 * n ≡ cond x n 0
+  times-flowed true n = omega arith
+  times-flowed false n = omega arith
+
+  -- the job written back, by the numbers that are handed out
+  pub back-by : {codes tape : List ℕ} {numbers : List ℤ} →
+      (a .number ≡ 0 → WritesBack (a .terms) (a .rounds) (take (pixelsOf (a .terms)) codes) (take (flowCount a) numbers) tape) →
+      number ≡ 0 → WritesBack t r (take (pixelsOf t) codes) (take (w * pairsOf t) numbers) tape
+  back-by {codes} {tape} {numbers} k z =
+      let count : w * pairsOf t ≡ flowCount a = ap₂ (λ (x : ℕ) (y : Terms). x * pairsOf y) (h .flowed) (h .terms) ∙ times-flowed (a .flowed) (pairsOf (a .terms)) in
+      subst (λ (T : Type 0). T)
+      (λ i. WritesBack (sym (h .terms) i) (sym (h .rounds) i) (take (pixelsOf (sym (h .terms) i)) codes) (take (sym count i) numbers) tape)
+      (k (sym (h .number) ∙ z))
+
+-- write
+module _ {number place count : ℕ} {a : WriteAnswer} (h : HandedTape number place count a) where
+  pub same-tape : {b : WriteAnswer} → a ≡ b → HandedTape number place count b
+  same-tape e = subst (HandedTape number place count) e h
+
+  pub tape-by : {t : Terms} {r : Rounds} {samples : List ℕ} {numbers : List ℤ} {left : List ℕ} →
+      (a .number ≡ 0 → ReadsBack t r samples numbers (take (a .count) left)) → number ≡ 0 → ReadsBack t r samples numbers (take count left)
+  tape-by {t} {r} {samples} {numbers} {left} k z =
+      subst (λ (n : ℕ). ReadsBack t r samples numbers (take n left)) (sym (h .count)) (k (sym (h .number) ∙ z))

@@ -1,10 +1,12 @@
 -- A job's terms and rounds from plain numbers, and an answer as plain numbers.
+use mathlib.Core.Bool.{cond}
 use mathlib.Core.Path.{_≡_}
 use Prim.Native.Nat.{ℕ}
 use lib.IntN.{ℤ, pos}
 use Rattle.model.specs.declared.Terms.{Terms}
 use Rattle.model.specs.declared.Rounds.{Rounds}
 use Rattle.model.specs.Calls.{Outcome, refused, checked, settled, spent, Answer}
+use Rattle.model.specs.Tape.{ReadAnswer, WriteAnswer}
 
 abbrev pub termsOf : (width height weight low high : ℕ) → Terms
 termsOf width height weight low high =
@@ -29,3 +31,18 @@ pub record Handed (n q o m p : ℕ) (f : ℤ) (s : ℕ) (a : Answer) : Type 0 wh
   pub price : pos p ≡ a .price
   pub floor : f ≡ a .floor
   pub slack : pos s ≡ a .slack
+
+-- What read hands out: n and q are the number and place of its answer, t and r the job's terms and rounds, and w is 1 where a
+-- flow was there, else 0
+pub record HandedJob (n q : ℕ) (t : Terms) (r : Rounds) (w : ℕ) (a : ReadAnswer) : Type 0 where
+  pub number : n ≡ a .number
+  pub place : q ≡ a .place
+  pub terms : t ≡ a .terms
+  pub rounds : r ≡ a .rounds
+  pub flowed : w ≡ cond (a .flowed) 1 0
+
+-- What write hands out: number, place and byte count of its answer
+pub record HandedTape (n q c : ℕ) (a : WriteAnswer) : Type 0 where
+  pub number : n ≡ a .number
+  pub place : q ≡ a .place
+  pub count : c ≡ a .count

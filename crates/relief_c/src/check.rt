@@ -4,8 +4,9 @@ use crate::numbers::numbers_of;
 use calls::check::check;
 use model::Terms;
 ghost use mathlib.Core.Path.{_≡_};
-ghost use Rattle.model.specs.declared.Verdict.{Verdict};
-ghost use Rattle.model.specs.Calls.{checkVerdict, checkAnswer, checkImage};
+ghost use mathlib.Core.Logic.{_↔_};
+ghost use Rattle.model.specs.Calls.{checkAnswer, checkImage};
+ghost use Rattle.model.specs.Accepted.{CheckAllowed};
 ghost use Rattle.certificate.specs.Demand.{CheckDemand};
 ghost use Rattle.relief_c.specs.Plain.{termsOf, Handed};
 
@@ -28,7 +29,8 @@ pub extern "C" fn relief_check(
 ) -> u32
     ensures { λ r. ⌜ Handed r (now (place .exit)) (now (outcome .exit)) (now (moved .exit)) (now (price .exit)) (now (floor .exit)) (now (slack .exit)) (checkAnswer (termsOf width height weight low high) (now (samples .entry)) (now (flow .entry)) (now (image .entry))) ⌝ }
     ensures { λ _. ⌜ now (image .exit) ≡ checkImage (termsOf width height weight low high) (now (samples .entry)) (now (flow .entry)) (now (image .entry)) ⌝ }
-    ensures { λ _. ⌜ (checkVerdict (termsOf width height weight low high) (now (samples .entry)) (now (flow .entry)) (now (image .entry)) ≡ Verdict.Accept → CheckDemand (termsOf width height weight low high) (now (samples .entry)) (now (flow .entry))) ⌝ }
+    ensures { λ r. ⌜ ((r ≡ 0) ↔ CheckAllowed (termsOf width height weight low high) (now (samples .entry)) (now (flow .entry)) (now (image .entry))) ⌝ }
+    ensures { λ r. ⌜ (r ≡ 0 → CheckDemand (termsOf width height weight low high) (now (samples .entry)) (now (flow .entry)) (now (image .exit)) (checkAnswer (termsOf width height weight low high) (now (samples .entry)) (now (flow .entry)) (now (image .entry)))) ⌝ }
 {
     let t = Terms {
         width,

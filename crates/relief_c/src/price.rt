@@ -3,7 +3,10 @@
 use crate::numbers::numbers_of;
 use calls::price::price as price_image;
 use model::Terms;
+ghost use mathlib.Core.Path.{_≡_};
+ghost use mathlib.Core.Logic.{_↔_};
 ghost use Rattle.model.specs.Calls.{priceAnswer};
+ghost use Rattle.model.specs.Accepted.{PriceAllowed};
 ghost use Rattle.relief_c.specs.Plain.{termsOf, Handed};
 
 #[no_mangle]
@@ -23,6 +26,7 @@ pub extern "C" fn relief_price(
     slack: &mut u64,
 ) -> u32
     ensures { λ r. ⌜ Handed r (now (place .exit)) (now (outcome .exit)) (now (moved .exit)) (now (price .exit)) (now (floor .exit)) (now (slack .exit)) (priceAnswer (termsOf width height weight low high) (now (samples .entry)) (now (image .entry))) ⌝ }
+    ensures { λ r. ⌜ ((r ≡ 0) ↔ PriceAllowed (termsOf width height weight low high) (now (samples .entry)) (now (image .entry))) ⌝ }
 {
     let t = Terms {
         width,

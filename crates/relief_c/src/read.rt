@@ -5,9 +5,15 @@ use model::Terms;
 use tape_read::ReadResult;
 use tape_read::read;
 ghost use mathlib.Core.Path.{_≡_};
-ghost use mathlib.Core.Bool.{cond};
+ghost use mathlib.Core.Logic.{_↔_};
+ghost use Prim.Native.Nat.{_*_};
+ghost use lib.ListN.{take};
+ghost use Rattle.model.specs.Calls.{pixelsOf, pairsOf};
+ghost use Rattle.model.specs.Accepted.{ReadAllowed};
+ghost use Rattle.roundtrip.specs.RoundTrip.{WritesBack};
 ghost use Rattle.model.specs.Tape.{readAnswer, readSamples, readFlow};
 ghost use Rattle.tape_read.specs.Answers.{readAnswerOf};
+ghost use Rattle.relief_c.specs.Plain.{termsOf, roundsOf, HandedJob};
 
 // What read gives as plain numbers: a job's terms, or zeros beside a refusal.
 pub struct Job {
@@ -15,15 +21,11 @@ pub struct Job {
     pub place: u64,
     pub terms: Terms,
     pub rounds: Rounds,
-    pub flowed: bool,
+    pub flowed: u32,
 }
 
 fn job_of(a: ReadResult) -> Job
-    ensures { λ r. ⌜ r .number ≡ readAnswerOf a .number ⌝ }
-    ensures { λ r. ⌜ r .place ≡ readAnswerOf a .place ⌝ }
-    ensures { λ r. ⌜ r .terms ≡ readAnswerOf a .terms ⌝ }
-    ensures { λ r. ⌜ r .rounds ≡ readAnswerOf a .rounds ⌝ }
-    ensures { λ r. ⌜ r .flowed ≡ readAnswerOf a .flowed ⌝ }
+    ensures { λ r. ⌜ HandedJob (r .number) (r .place) (r .terms) (r .rounds) (r .flowed) (readAnswerOf a) ⌝ }
 {
     match a {
         ReadResult::Job {
@@ -35,7 +37,7 @@ fn job_of(a: ReadResult) -> Job
             place: 0,
             terms,
             rounds,
-            flowed,
+            flowed: flowed as u32,
         },
         ReadResult::Refused { number, place } => {
             let none = records::tally::fresh();
@@ -46,7 +48,7 @@ fn job_of(a: ReadResult) -> Job
                 place: place as u64,
                 terms,
                 rounds,
-                flowed: false,
+                flowed: 0,
             }
         }
     }
@@ -67,18 +69,11 @@ pub extern "C" fn relief_read(
     allowance: &mut u16,
     flowed: &mut u32,
 ) -> u32
-    ensures { λ r. ⌜ r ≡ readAnswer (now (tape .entry)) (now (samples .entry)) (now (flow .entry)) .number ⌝ }
-    ensures { λ _. ⌜ now (place .exit) ≡ readAnswer (now (tape .entry)) (now (samples .entry)) (now (flow .entry)) .place ⌝ }
-    ensures { λ _. ⌜ now (width .exit) ≡ readAnswer (now (tape .entry)) (now (samples .entry)) (now (flow .entry)) .terms .width ⌝ }
-    ensures { λ _. ⌜ now (height .exit) ≡ readAnswer (now (tape .entry)) (now (samples .entry)) (now (flow .entry)) .terms .height ⌝ }
-    ensures { λ _. ⌜ now (weight .exit) ≡ readAnswer (now (tape .entry)) (now (samples .entry)) (now (flow .entry)) .terms .weight ⌝ }
-    ensures { λ _. ⌜ now (low .exit) ≡ readAnswer (now (tape .entry)) (now (samples .entry)) (now (flow .entry)) .terms .low ⌝ }
-    ensures { λ _. ⌜ now (high .exit) ≡ readAnswer (now (tape .entry)) (now (samples .entry)) (now (flow .entry)) .terms .high ⌝ }
-    ensures { λ _. ⌜ now (quick .exit) ≡ readAnswer (now (tape .entry)) (now (samples .entry)) (now (flow .entry)) .rounds .quick ⌝ }
-    ensures { λ _. ⌜ now (allowance .exit) ≡ readAnswer (now (tape .entry)) (now (samples .entry)) (now (flow .entry)) .rounds .allowance ⌝ }
-    ensures { λ _. ⌜ now (flowed .exit) ≡ cond (readAnswer (now (tape .entry)) (now (samples .entry)) (now (flow .entry)) .flowed) 1 0 ⌝ }
+    ensures { λ r. ⌜ HandedJob r (now (place .exit)) (termsOf (now (width .exit)) (now (height .exit)) (now (weight .exit)) (now (low .exit)) (now (high .exit))) (roundsOf (now (quick .exit)) (now (allowance .exit))) (now (flowed .exit)) (readAnswer (now (tape .entry)) (now (samples .entry)) (now (flow .entry))) ⌝ }
     ensures { λ _. ⌜ now (samples .exit) ≡ readSamples (now (tape .entry)) (now (samples .entry)) (now (flow .entry)) ⌝ }
     ensures { λ _. ⌜ now (flow .exit) ≡ readFlow (now (tape .entry)) (now (samples .entry)) (now (flow .entry)) ⌝ }
+    ensures { λ r. ⌜ ((r ≡ 0) ↔ ReadAllowed (now (tape .entry)) (now (samples .entry)) (now (flow .entry))) ⌝ }
+    ensures { λ r. ⌜ (r ≡ 0 → WritesBack (termsOf (now (width .exit)) (now (height .exit)) (now (weight .exit)) (now (low .exit)) (now (high .exit))) (roundsOf (now (quick .exit)) (now (allowance .exit))) (take (pixelsOf (termsOf (now (width .exit)) (now (height .exit)) (now (weight .exit)) (now (low .exit)) (now (high .exit)))) (now (samples .exit))) (take (now (flowed .exit) * pairsOf (termsOf (now (width .exit)) (now (height .exit)) (now (weight .exit)) (now (low .exit)) (now (high .exit)))) (now (flow .exit))) (now (tape .entry))) ⌝ }
 {
     let j = job_of(read(tape, samples, flow));
     let t = j.terms;
@@ -91,6 +86,6 @@ pub extern "C" fn relief_read(
     *high = t.high;
     *quick = r.quick;
     *allowance = r.allowance;
-    *flowed = j.flowed as u32;
+    *flowed = j.flowed;
     j.number
 }

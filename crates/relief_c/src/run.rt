@@ -5,8 +5,9 @@ use calls::run::run;
 use model::Rounds;
 use model::Terms;
 ghost use mathlib.Core.Path.{_≡_};
-ghost use Rattle.model.specs.declared.Verdict.{Verdict};
-ghost use Rattle.model.specs.Calls.{runVerdict, runAnswer, runFlow, runImage, runWork};
+ghost use mathlib.Core.Logic.{_↔_};
+ghost use Rattle.model.specs.Calls.{runAnswer, runFlow, runImage, runWork};
+ghost use Rattle.model.specs.Accepted.{RunAllowed};
 ghost use Rattle.certificate.specs.Demand.{RunDemand};
 ghost use Rattle.relief_c.specs.Plain.{termsOf, roundsOf, Handed};
 
@@ -34,7 +35,8 @@ pub extern "C" fn relief_run(
     ensures { λ _. ⌜ now (flow .exit) ≡ runFlow (termsOf width height weight low high) (roundsOf quick allowance) (now (samples .entry)) (now (flow .entry)) (now (image .entry)) (now (work .entry)) ⌝ }
     ensures { λ _. ⌜ now (image .exit) ≡ runImage (termsOf width height weight low high) (roundsOf quick allowance) (now (samples .entry)) (now (flow .entry)) (now (image .entry)) (now (work .entry)) ⌝ }
     ensures { λ _. ⌜ now (work .exit) ≡ runWork (termsOf width height weight low high) (roundsOf quick allowance) (now (samples .entry)) (now (flow .entry)) (now (image .entry)) (now (work .entry)) ⌝ }
-    ensures { λ _. ⌜ (runVerdict (termsOf width height weight low high) (roundsOf quick allowance) (now (samples .entry)) (now (flow .entry)) (now (image .entry)) (now (work .entry)) ≡ Verdict.Accept → RunDemand (termsOf width height weight low high) (roundsOf quick allowance) (now (samples .entry))) ⌝ }
+    ensures { λ r. ⌜ ((r ≡ 0) ↔ RunAllowed (termsOf width height weight low high) (roundsOf quick allowance) (now (samples .entry)) (now (flow .entry)) (now (image .entry)) (now (work .entry))) ⌝ }
+    ensures { λ r. ⌜ (r ≡ 0 → RunDemand (termsOf width height weight low high) (roundsOf quick allowance) (now (samples .entry)) (now (flow .exit)) (now (image .exit)) (runAnswer (termsOf width height weight low high) (roundsOf quick allowance) (now (samples .entry)) (now (flow .entry)) (now (image .entry)) (now (work .entry)))) ⌝ }
 {
     let t = Terms {
         width,

@@ -5,9 +5,13 @@ use model::Terms;
 use tape_write::WriteResult;
 use tape_write::write;
 ghost use mathlib.Core.Path.{_≡_};
+ghost use mathlib.Core.Logic.{_↔_};
+ghost use lib.ListN.{take};
 ghost use Rattle.model.specs.Tape.{writeAnswer, writeOutput};
+ghost use Rattle.model.specs.Accepted.{WriteAllowed};
+ghost use Rattle.roundtrip.specs.RoundTrip.{ReadsBack};
 ghost use Rattle.tape_write.specs.Answers.{writeAnswerOf};
-ghost use Rattle.relief_c.specs.Plain.{termsOf, roundsOf};
+ghost use Rattle.relief_c.specs.Plain.{termsOf, roundsOf, HandedTape};
 
 // What write gives as plain numbers.
 pub struct Written {
@@ -17,9 +21,7 @@ pub struct Written {
 }
 
 fn written_of(a: WriteResult) -> Written
-    ensures { λ r. ⌜ r .number ≡ writeAnswerOf a .number ⌝ }
-    ensures { λ r. ⌜ r .place ≡ writeAnswerOf a .place ⌝ }
-    ensures { λ r. ⌜ r .count ≡ writeAnswerOf a .count ⌝ }
+    ensures { λ r. ⌜ HandedTape (r .number) (r .place) (r .count) (writeAnswerOf a) ⌝ }
 {
     match a {
         WriteResult::Written { count } => Written {
@@ -50,10 +52,10 @@ pub extern "C" fn relief_write(
     place: &mut u64,
     count: &mut u64,
 ) -> u32
-    ensures { λ r. ⌜ r ≡ writeAnswer (termsOf width height weight low high) (roundsOf quick allowance) (now (samples .entry)) (now (flow .entry)) (now (output .entry)) .number ⌝ }
-    ensures { λ _. ⌜ now (place .exit) ≡ writeAnswer (termsOf width height weight low high) (roundsOf quick allowance) (now (samples .entry)) (now (flow .entry)) (now (output .entry)) .place ⌝ }
-    ensures { λ _. ⌜ now (count .exit) ≡ writeAnswer (termsOf width height weight low high) (roundsOf quick allowance) (now (samples .entry)) (now (flow .entry)) (now (output .entry)) .count ⌝ }
+    ensures { λ r. ⌜ HandedTape r (now (place .exit)) (now (count .exit)) (writeAnswer (termsOf width height weight low high) (roundsOf quick allowance) (now (samples .entry)) (now (flow .entry)) (now (output .entry))) ⌝ }
     ensures { λ _. ⌜ now (output .exit) ≡ writeOutput (termsOf width height weight low high) (roundsOf quick allowance) (now (samples .entry)) (now (flow .entry)) (now (output .entry)) ⌝ }
+    ensures { λ r. ⌜ ((r ≡ 0) ↔ WriteAllowed (termsOf width height weight low high) (roundsOf quick allowance) (now (samples .entry)) (now (flow .entry)) (now (output .entry))) ⌝ }
+    ensures { λ r. ⌜ (r ≡ 0 → ReadsBack (termsOf width height weight low high) (roundsOf quick allowance) (now (samples .entry)) (now (flow .entry)) (take (now (count .exit)) (now (output .exit)))) ⌝ }
 {
     let t = Terms {
         width,

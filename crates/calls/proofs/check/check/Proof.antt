@@ -11,13 +11,14 @@ use Rattle.model.specs.Problem.{Feasible}
 use Rattle.model.specs.Grid.{grid}
 use Rattle.model.specs.Calls.{checked, checkVerdict, imageOf}
 use Rattle.model.specs.Accepted.{CheckAllowed}
-use Rattle.model.proofs.Accepted.{check-feasible, check-accepted, check-number}
+use Rattle.model.proofs.Answers.{check-answer, check-image}
+use Rattle.model.proofs.Accepted.{told, check-feasible, check-accepted, check-number}
 use Rattle.model.proofs.Pairs.{grid-count}
 use Rattle.certificate.proofs.Grid.{check-demand}
 use Rattle.raster.specs.Image.{imageValue}
 use Rattle.raster.proofs.Model.{image-is}
 use Rattle.calls.proofs.Jobs.{flow-most}
-use Rattle.calls.proofs.Verdicts.{not-both, told, figured, check-answers, check-fills, check-refuses, check-keeps}
+use Rattle.calls.proofs.Objectives.{figured}
 use Rattle.calls.proofs.check.check.Statement.{statement}
 use Rattle.calls.proofs.check.check.Tie as tie
 
@@ -36,8 +37,9 @@ returns c =
     let b = s .args .samples .now in
     let f = s .args .flow .now in
     let x = s .args .image .now in
-    let e = check-refuses t b f x h in
-    (e, (check-keeps t b f x h, (told e (check-number t b f x), λ g. not-both h g)))
+    let e = sym (check-answer t b f x h) in
+    let g = sym (check-image t b f x h) in
+    (e, (g, (told e (check-number t b f x), check-demand t b f x e g)))
 
 enum-told : tie.Need-enum-told
 enum-told c = search needs
@@ -127,9 +129,10 @@ returns-2 c =
     let x = s .args .image .now in
     let k =
     figured checked 0 t b f (r .of-flow .ensures .0) (read w64 (r .of-flow .ok .1 .1 .1 .0 .1) ∙ r .of-flow .ensures .1 .0) (r .of-flow .ensures .1 .1)
-    ∙ check-answers t b f x (accepted e)
+    ∙ sym (check-answer t b f x (accepted e))
     in
-    (k, (filled i ∙ check-fills t b f x (accepted e), (told k (check-number t b f x), λ h. check-demand t b (facts e .terms .box) f (feasible e))))
+    let g = filled i ∙ sym (check-image t b f x (accepted e)) in
+    (k, (g, (told k (check-number t b f x), check-demand t b f x k g)))
 
 pub check-spec : {M : Type 1} → statement M
 check-spec =

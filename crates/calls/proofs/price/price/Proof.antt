@@ -1,10 +1,11 @@
 -- `calls::price::price` meets its contract. Assumes nothing.
-use mathlib.Core.Path.{_≡_, sym, _∙_}
+use mathlib.Core.Path.{_≡_, sym, ap, _∙_}
 use borrow.Author.Needs.{needs}
+use lib.IntN.{ℤ, pos}
 use Rattle.model.specs.declared.Verdict.{Verdict}
-use Rattle.model.specs.Calls.{priceVerdict}
-use Rattle.model.proofs.Accepted.{price-inside, price-accepted, price-number}
-use Rattle.calls.proofs.Verdicts.{told, price-answers, price-refuses}
+use Rattle.model.specs.Calls.{figures, checked, priceVerdict}
+use Rattle.model.proofs.Answers.{price-answer}
+use Rattle.model.proofs.Accepted.{told, price-inside, price-accepted, price-number}
 use Rattle.calls.proofs.price.price.Statement.{statement}
 use Rattle.calls.proofs.price.price.Tie as tie
 
@@ -18,7 +19,7 @@ returns : tie.Need-returns
 unfolding priceVerdict
 returns c =
     let s = c .before .before .before .before .before in
-    let e = price-refuses (s .args .t) (s .args .samples .now) (s .args .image .now) (sym (c .before .before .before .judge-price .ensures) ∙ c .before .verdict .given .1) in
+    let e = sym (price-answer (s .args .t) (s .args .samples .now) (s .args .image .now) (sym (c .before .before .before .judge-price .ensures) ∙ c .before .verdict .given .1)) in
     (e, told e (price-number (s .args .t) (s .args .samples .now) (s .args .image .now)))
 
 enum-told : tie.Need-enum-told
@@ -44,7 +45,10 @@ image-price-requires c κs =
 returns-2 : tie.Need-returns-2
 returns-2 c =
     let s = c .before .before .before .before .before in
-    let e = price-answers (s .args .t) (s .args .samples .now) (s .args .image .now) (accepted (c .before)) (c .image-price .ensures) in
+    let e =
+    ap (λ (z : ℤ). figures checked 0 z (pos 0) (pos 0)) (c .image-price .ensures)
+    ∙ sym (price-answer (s .args .t) (s .args .samples .now) (s .args .image .now) (accepted (c .before)))
+    in
     (e, told e (price-number (s .args .t) (s .args .samples .now) (s .args .image .now)))
 
 pub price-spec : {M : Type 1} → statement M

@@ -18,13 +18,14 @@ use Rattle.model.specs.Grid.{grid}
 use Rattle.model.specs.Rounds.{eighth, steadyRounds}
 use Rattle.model.specs.Calls.{Outcome, figures, settled, spent, imageOf, figuresOf, quickFlow, ending, runVerdict, runAnswer, runFlow, runImage, runWork}
 use Rattle.model.specs.Accepted.{TermsAllowed, RunAllowed}
-use Rattle.model.proofs.Accepted.{run-accepted, run-number}
+use Rattle.model.proofs.Answers.{run-answer, run-flow, run-image, run-work}
+use Rattle.model.proofs.Accepted.{told, run-accepted, run-number}
 use Rattle.certificate.specs.Demand.{RunDemand}
 use Rattle.certificate.proofs.Grid.{run-demand, ending-flow}
 use Rattle.runs.specs.Limits.{Within}
 use Rattle.rounds.specs.Ready.{JobLimits}
 use Rattle.rounds.proofs.Kept.{iterate-size, iterate-within}
-use Rattle.calls.proofs.Verdicts.{not-both, told, figured, run-answers, run-flows, run-fills, run-clears, run-refuses, run-keeps}
+use Rattle.calls.proofs.Objectives.{figured}
 use Rattle.calls.proofs.run.run.Statement.{statement}
 use Rattle.calls.proofs.run.run.Tie as tie
 
@@ -44,9 +45,11 @@ returns c =
     let f = s .args .flow .now in
     let x = s .args .image .now in
     let w = s .args .work .now in
-    let k = run-keeps t (s .args .r) b f x w h in
-    let e = run-refuses t (s .args .r) b f x w h in
-    (e, (k .0, (k .1, (k .2, (told e (run-number t (s .args .r) b f x w), λ g. not-both h g)))))
+    let r = s .args .r in
+    let e = sym (run-answer t r b f x w h) in
+    let g = sym (run-flow t r b f x w h) in
+    let k = sym (run-image t r b f x w h) in
+    (e, (g, (k, (sym (run-work t r b f x w h), (told e (run-number t r b f x w), run-demand t r b f x w e g k)))))
 
 enum-told : tie.Need-enum-told
 enum-told c = search needs
@@ -149,13 +152,14 @@ ran : (c : tie.After-of-flow) → let l = c .before .before .before .before .bef
     let x = s .args .image .now in
     let w = s .args .work .now in
     (o : Outcome) → cond (l .steady-rounds .result .settled) settled spent ≡ o →
-    (figures o (l .steady-rounds .result .moved) (pos (c .of-flow .result .price)) (toZ w64 (ofZ w64 (c .of-flow .result .floor))) (pos (c .of-flow .result .slack))
-    ≡ runAnswer t r b f x w)
-    × ((l .steady-rounds .last .1 .1 .1 .0 ≡ runFlow t r b f x w)
-    × ((l .steady-rounds .last .1 .1 .1 .1 .0 ≡ runImage t r b f x w)
+    let a = figures o (l .steady-rounds .result .moved) (pos (c .of-flow .result .price)) (toZ w64 (ofZ w64 (c .of-flow .result .floor))) (pos (c .of-flow .result .slack)) in
+    let flow = l .steady-rounds .last .1 .1 .1 .0 in
+    let image = l .steady-rounds .last .1 .1 .1 .1 .0 in
+    (a ≡ runAnswer t r b f x w)
+    × ((flow ≡ runFlow t r b f x w)
+    × ((image ≡ runImage t r b f x w)
     × ((l .before .before .before .before .clear .last .0 ≡ runWork t r b f x w)
-    × (((figures o (l .steady-rounds .result .moved) (pos (c .of-flow .result .price)) (toZ w64 (ofZ w64 (c .of-flow .result .floor))) (pos (c .of-flow .result .slack)) .number ≡ 0) ↔ RunAllowed t r b f x w)
-    × (runVerdict t r b f x w ≡ Verdict.Accept → RunDemand t r b)))))
+    × (((a .number ≡ 0) ↔ RunAllowed t r b f x w) × (a .number ≡ 0 → RunDemand t r b flow image a)))))
 ran c o h =
     let l = c .before .before .before .before .before in
     let e = l .before .before .before .before .before .before .before .before .before .before .before .before .before in
@@ -170,23 +174,20 @@ ran c o h =
     let g = c .of-flow .ensures in
     let n = last l in
     let cleared = l .before .before .before .before in
-    let k =
+    let answer =
     figured o (l .steady-rounds .result .moved) t b (l .steady-rounds .last .1 .1 .1 .0) (g .0) (read w64 (c .of-flow .ok .1 .1 .1 .0 .1) ∙ g .1 .0) (g .1 .1)
     ∙ ap₂ (λ (m : ℕ) (z : List ℤ). figuresOf o m t b z) (n .2) (n .0)
-    ∙ run-answers t r b f x w yes (ap (λ (z : Bool). cond z settled spent) (sym (n .3)) ∙ h)
-    in (
-      k,
-      (
-        n .0 ∙ run-flows t r b f x w yes,
-        (
-          n .1 ∙ run-fills t r b f x w yes,
-          (
-            cleared .clear .ensures ∙ ap (λ (i : ℕ). replicate i (pos 0)) (cleared .before .before .work .given ∙ facts e .work-length) ∙ run-clears t r b f x w yes,
-            (told k (run-number t r b f x w), λ _. run-demand t r b (facts e .terms .box)),
-          ),
-        ),
-      ),
-    )
+    ∙ ap (λ (z : Outcome). figuresOf z (ending t r b .moved) t b (ending t r b .flow)) (sym h ∙ ap (λ (z : Bool). cond z settled spent) (n .3))
+    ∙ sym (run-answer t r b f x w yes)
+    in
+    let flow = n .0 ∙ sym (run-flow t r b f x w yes) in
+    let image = n .1 ∙ sym (run-image t r b f x w yes) in
+    let work =
+    cleared .clear .ensures
+    ∙ ap (λ (i : ℕ). replicate i (pos 0)) (cleared .before .before .work .given ∙ facts e .work-length)
+    ∙ sym (run-work t r b f x w yes)
+    in
+    (answer, (flow, (image, (work, (told answer (run-number t r b f x w), run-demand t r b f x w answer flow image)))))
 
 same-length : tie.Need-same-length
 same-length c = search needs

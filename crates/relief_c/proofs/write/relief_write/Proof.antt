@@ -1,7 +1,6 @@
 -- `relief_c::write::relief_write` meets its contract. Assumes nothing.
-use mathlib.Core.Path.{ap, _∙_}
 use borrow.Author.Needs.{needs}
-use Rattle.model.specs.Tape.{WriteAnswer}
+use Rattle.relief_c.proofs.Says.{same-tape, tape-by, allowed-by}
 use Rattle.relief_c.proofs.write.relief_write.Statement.{statement}
 use Rattle.relief_c.proofs.write.relief_write.Tie as tie
 
@@ -18,7 +17,7 @@ returns : tie.Need-returns
 returns c =
     let k = c .before .before .before .write .ensures in
     let n = c .written-of .ensures in
-    (n .0 ∙ ap (λ (a : WriteAnswer). a .number) (k .0), (n .1 .0 ∙ ap (λ (a : WriteAnswer). a .place) (k .0), (n .1 .1 ∙ ap (λ (a : WriteAnswer). a .count) (k .0), k .1)))
+    (same-tape n (k .0), (k .1 .0, (allowed-by (n .number) (k .1 .1 .0), tape-by n (k .1 .1 .1))))
 
 pub relief-write-spec : {M : Type 1} → statement M
 relief-write-spec = tie.close (tie.spec write-requires written-of-requires same-length returns)
