@@ -10,8 +10,10 @@ use lib.IntN.{ℤ}
 use lib.ListN.{take}
 use Rattle.model.specs.declared.Terms.{Terms}
 use Rattle.model.specs.declared.Rounds.{Rounds}
+use Rattle.model.specs.Problem.{Problem}
 use Rattle.model.specs.Calls.{Answer, pixelsOf, pairsOf}
 use Rattle.model.specs.Tape.{ReadAnswer, WriteAnswer}
+use Rattle.certificate.specs.Demand.{Certificate, RunDemand}
 use Rattle.roundtrip.specs.RoundTrip.{ReadsBack, WritesBack, flowCount}
 use Rattle.relief_c.specs.Plain.{Handed, HandedJob, HandedTape}
 
@@ -26,9 +28,14 @@ module _ {n m : ℕ} (e : n ≡ m) where
   pub allowed-by : {A : Type 0} → ((m ≡ 0) ↔ A) → (n ≡ 0) ↔ A
   allowed-by k = (λ z. k .0 (sym e ∙ z), λ a. e ∙ k .1 a)
 
-  -- of an equal answer
-  pub demanded-by : {A : Type 0} {a b : A} (D : A → Type 0) → a ≡ b → (m ≡ 0 → D a) → n ≡ 0 → D b
-  demanded-by D same k z = subst D same (k (sym e ∙ z))
+  -- demand 3, of an equal answer
+  module _ {a b : Answer} (same : a ≡ b) where
+    pub check-by : {p : Problem} {flow image : List ℤ} → (m ≡ 0 → Certificate p flow image a) → n ≡ 0 → Certificate p flow image b
+    check-by {p} {flow} {image} k z = subst (Certificate p flow image) same (k (sym e ∙ z))
+
+    pub run-by : {t : Terms} {r : Rounds} {samples : List ℕ} {flow image : List ℤ} → (m ≡ 0 → RunDemand t r samples flow image a) → n ≡ 0 →
+        RunDemand t r samples flow image b
+    run-by {t} {r} {samples} {flow} {image} k z = subst (RunDemand t r samples flow image) same (k (sym e ∙ z))
 
 -- read
 module _ {number place : ℕ} {t : Terms} {r : Rounds} {w : ℕ} {a : ReadAnswer} (h : HandedJob number place t r w a) where
@@ -40,10 +47,10 @@ module _ {number place : ℕ} {t : Terms} {r : Rounds} {w : ℕ} {a : ReadAnswer
   times-flowed false n = omega arith
 
   -- the job written back, by the numbers that are handed out
-  pub back-by : {codes tape : List ℕ} {numbers : List ℤ} →
+  pub back-by : (codes : List ℕ) (numbers : List ℤ) {tape : List ℕ} →
       (a .number ≡ 0 → WritesBack (a .terms) (a .rounds) (take (pixelsOf (a .terms)) codes) (take (flowCount a) numbers) tape) →
       number ≡ 0 → WritesBack t r (take (pixelsOf t) codes) (take (w * pairsOf t) numbers) tape
-  back-by {codes} {tape} {numbers} k z =
+  back-by codes numbers {tape} k z =
       let count : w * pairsOf t ≡ flowCount a = ap₂ (λ (x : ℕ) (y : Terms). x * pairsOf y) (h .flowed) (h .terms) ∙ times-flowed (a .flowed) (pairsOf (a .terms)) in
       subst (λ (T : Type 0). T)
       (λ i. WritesBack (sym (h .terms) i) (sym (h .rounds) i) (take (pixelsOf (sym (h .terms) i)) codes) (take (sym count i) numbers) tape)
@@ -54,7 +61,7 @@ module _ {number place count : ℕ} {a : WriteAnswer} (h : HandedTape number pla
   pub same-tape : {b : WriteAnswer} → a ≡ b → HandedTape number place count b
   same-tape e = subst (HandedTape number place count) e h
 
-  pub tape-by : {t : Terms} {r : Rounds} {samples : List ℕ} {numbers : List ℤ} {left : List ℕ} →
+  pub tape-by : (t : Terms) (r : Rounds) (samples : List ℕ) (numbers : List ℤ) (left : List ℕ) →
       (a .number ≡ 0 → ReadsBack t r samples numbers (take (a .count) left)) → number ≡ 0 → ReadsBack t r samples numbers (take count left)
-  tape-by {t} {r} {samples} {numbers} {left} k z =
+  tape-by t r samples numbers left k z =
       subst (λ (n : ℕ). ReadsBack t r samples numbers (take n left)) (sym (h .count)) (k (sym (h .number) ∙ z))

@@ -87,7 +87,7 @@ returns c =
       (
         s .read .ensures .1 .0,
         (
-          refused-flow (a .input .now) (a .samples .now) (a .flow .now) (bytes s) n q e _ (s .read .ensures .1 .1),
+          refused-flow (a .input .now) (a .samples .now) (a .flow .now) (bytes s) n q e _ (s .read .ensures .1 .1 .0),
           (refused-keeps (a .input .now) (a .samples .now) (a .flow .now) (bytes s) n q e _ _, refused-keeps (a .input .now) (a .samples .now) (a .flow .now) (bytes s) n q e _ _),
         ),
       ),
@@ -118,7 +118,7 @@ returns-2 c =
     let k = job-read g in
     let e = ap readAnswerOf (sym (g .got2 .given .1)) ∙ d .read .ensures .0 in
     let sampled = d .read .ensures .1 .0 in
-    let flows = d .read .ensures .1 .1 in
+    let flows = d .read .ensures .1 .1 .0 in
     let left = s .treat .ensures in (
       put-as
           (ap (λ (n : ℕ). answerText (answerOf (s .treat .result)) (g .got2 .given .0 .0) (take n (s .treat .last .1 .1 .1 .1 .1 .0))) (c .before .before .before .before .before .pixels .ensures)

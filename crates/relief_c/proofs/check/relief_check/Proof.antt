@@ -2,7 +2,7 @@
 use borrow.Author.Needs.{needs}
 use mir.Syntax.{w64}
 use Rattle.integers.proofs.Machine.{read}
-use Rattle.relief_c.proofs.Says.{same, allowed-by, demanded-by}
+use Rattle.relief_c.proofs.Says.{same, allowed-by, check-by}
 use Rattle.relief_c.proofs.check.relief_check.Statement.{statement}
 use Rattle.relief_c.proofs.check.relief_check.Tie as tie
 
@@ -20,7 +20,7 @@ returns c =
     let k = c .before .before .before .check .ensures in
     let n = c .before .numbers-of in
     let number = n .ensures .number in
-    (same (k .0) (read w64 (n .ok .1 .1 .1 .1 .1 .1 .1 .0 .1)) (n .ensures), (k .1 .0, (allowed-by number (k .1 .1 .0), demanded-by number _ (k .0) (k .1 .1 .1))))
+    (same (k .0) (read w64 (n .ok .1 .1 .1 .1 .1 .1 .1 .0 .1)) (n .ensures), (k .1 .0, (allowed-by number (k .1 .1 .0), check-by number (k .0) (k .1 .1 .1))))
 
 pub relief-check-spec : {M : Type 1} → statement M
 relief-check-spec = tie.close (tie.spec check-requires numbers-of-requires same-length returns)

@@ -1,14 +1,23 @@
 -- `relief_c::read::job_of` meets its contract. Assumes nothing.
-use mathlib.Core.Path.{sym, ap, _∙_}
+use mathlib.Core.Path.{_≡_, refl, sym, ap}
+use mathlib.Core.Bool.{Bool, true, false, cond}
+use borrow.Author.Needs.{needs}
+use mir.Val.{boolByte}
 use Rattle.records.specs.declared.tally.Tally.{Tally}
 use Rattle.tape_read.specs.Answers.{readAnswerOf}
-use Rattle.relief_c.proofs.Says.{parts}
-use borrow.Author.Needs.{needs}
+use Rattle.relief_c.proofs.Says.{same-job}
 use Rattle.relief_c.proofs.read.job_of.Statement.{statement}
 use Rattle.relief_c.proofs.read.job_of.Tie as tie
 
+as-number : (x : Bool) → boolByte x ≡ cond x 1 0
+as-number true = refl
+as-number false = refl
+
 enum-known-a : tie.Need-enum-known-a
 enum-known-a c = search needs
+
+cast-t11 : tie.Need-cast-t11
+cast-t11 c = search needs
 
 enum-known-a-2 : tie.Need-enum-known-a-2
 enum-known-a-2 c = search needs
@@ -17,13 +26,16 @@ fresh-requires : tie.Need-fresh-requires
 fresh-requires c κs = search needs
 
 returns : tie.Need-returns
-returns c = parts (ap readAnswerOf (sym (c .before .a .given .1)))
+returns c =
+    same-job (record { number = refl; place = refl; terms = refl; rounds = refl; flowed = as-number (c .before .a .given .0 .1 .1 .0) })
+    (ap readAnswerOf (sym (c .before .a .given .1)))
 
 returns-2 : tie.Need-returns-2
 returns-2 c =
     let none = c .before .before .fresh .ensures in
-    let (number, (place, (terms, (rounds, flowed)))) = parts (ap readAnswerOf (sym (c .before .before .before .before .a2 .given .1))) in
-    (number, (place, (ap (λ (t : Tally). t .terms) none ∙ terms, (ap (λ (t : Tally). t .rounds) none ∙ rounds, flowed))))
+    same-job
+    (record { number = refl; place = refl; terms = ap (λ (t : Tally). t .terms) none; rounds = ap (λ (t : Tally). t .rounds) none; flowed = refl })
+    (ap readAnswerOf (sym (c .before .before .before .before .a2 .given .1)))
 
 pub job-of-spec : {M : Type 1} → statement M
-job-of-spec = tie.close (tie.spec enum-known-a enum-known-a-2 fresh-requires returns returns-2)
+job-of-spec = tie.close (tie.spec enum-known-a cast-t11 enum-known-a-2 fresh-requires returns returns-2)

@@ -18,9 +18,10 @@ same-length-2 c = search needs
 
 returns : tie.Need-returns
 returns c =
-    let k = c .before .before .before .before .before .before .read .ensures in
+    let called = c .before .before .before .before .before .before .read in
+    let k = called .ensures in
     let n = c .before .before .job-of .ensures in
-    (same-job n (k .0), (k .1 .0, (k .1 .1 .0, (allowed-by (n .number) (k .1 .1 .1 .0), back-by n (k .1 .1 .1 .1)))))
+    (same-job n (k .0), (k .1 .0, (k .1 .1 .0, (allowed-by (n .number) (k .1 .1 .1 .0), back-by n (called .last .1 .0) (called .last .1 .1 .0) (k .1 .1 .1 .1)))))
 
 pub relief-read-spec : {M : Type 1} → statement M
 relief-read-spec =

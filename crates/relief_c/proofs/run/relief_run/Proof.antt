@@ -2,7 +2,7 @@
 use borrow.Author.Needs.{needs}
 use mir.Syntax.{w64}
 use Rattle.integers.proofs.Machine.{read}
-use Rattle.relief_c.proofs.Says.{same, allowed-by, demanded-by}
+use Rattle.relief_c.proofs.Says.{same, allowed-by, run-by}
 use Rattle.relief_c.proofs.run.relief_run.Statement.{statement}
 use Rattle.relief_c.proofs.run.relief_run.Tie as tie
 
@@ -27,7 +27,7 @@ returns c =
     let n = c .before .numbers-of in
     let number = n .ensures .number in
     let left = k .1 .1 .1 in
-    (same (k .0) (read w64 (n .ok .1 .1 .1 .1 .1 .1 .1 .0 .1)) (n .ensures), (k .1 .0, (k .1 .1 .0, (left .0, (allowed-by number (left .1 .0), demanded-by number _ (k .0) (left .1 .1))))))
+    (same (k .0) (read w64 (n .ok .1 .1 .1 .1 .1 .1 .1 .0 .1)) (n .ensures), (k .1 .0, (k .1 .1 .0, (left .0, (allowed-by number (left .1 .0), run-by number (k .0) (left .1 .1))))))
 
 pub relief-run-spec : {M : Type 1} → statement M
 relief-run-spec =
