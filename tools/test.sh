@@ -1,9 +1,12 @@
 #!/usr/bin/env bash
-# All tests: layout, the Rust implementation's tests, the static library and the program against it on about one input
-# in twenty, the examples, then every proof from nothing with the must-fail edits and the program's stored answer.
-# The last line is `N passed, 0 failed`.
+# All tests. First every proof from nothing, with the must-fail edits and the program's stored answer (`rt ci`); then what
+# was proved there is compared with the second implementation on about one input in twenty, called with guard pages
+# behind its buffers, and the examples run. Any step that fails ends it. The last line is the last line of `rt ci`:
+# `N passed, 0 failed`.
 set -euo pipefail
 cd "$(dirname "$0")/.."
+proofs=$(mktemp)
+trap 'rm -f "$proofs"' EXIT
 
 echo "== layout of the Rattle files"
 rt fmt --check
@@ -11,8 +14,17 @@ rt fmt --check
 echo "== the second implementation (Rust, offline)"
 (cd rust && cargo test --offline --quiet)
 
+echo "== every proof, must-fail edit and program"
+rt ci | tee "$proofs"
+
 echo "== the static library beside the second implementation"
+# compiled once, from what was proved above; every step below takes it as it is
+bash tools/library.sh > /dev/null
+export RELIEF_LIB_DIR=$PWD/target/staticlib RELIEF_BIN=$PWD/target/bin/relief
 bash tools/static.sh quick
+
+echo "== the static library with a guard page behind every buffer"
+bash tools/guard.sh
 
 echo "== the program beside the second implementation"
 bash tools/program.sh quick
@@ -22,5 +34,5 @@ python3 examples/pgm2tape.py --low 30 --high 200 < examples/facade.pgm | cmp - e
 bash tools/clean-sample.sh
 bash tools/example.sh
 
-echo "== every proof, must-fail edit and program"
-rt ci
+echo "== all steps passed"
+tail -n 1 "$proofs"
