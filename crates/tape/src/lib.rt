@@ -22,15 +22,8 @@ mod step;
 mod tally;
 mod writing;
 
-pub use reader::Reader;
-pub use reader::new;
-pub use reader::next;
-pub use reader::offset;
-pub use reader::record_at;
 pub use reading::ReadResult;
 pub use reading::read;
-pub use record::Cursor;
-pub use record::Got;
 pub use tally::Tally;
 pub use tally::fresh;
 pub use writing::WriteResult;

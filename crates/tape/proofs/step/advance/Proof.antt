@@ -7,8 +7,8 @@ use borrow.Author.Needs.{needs}
 use Rattle.tape.proofs.step.advance.Statement.{statement}
 use Rattle.tape.proofs.step.advance.Tie as tie
 
-record-at-requires : tie.Need-record-at-requires
-record-at-requires c κs = search needs
+next-record-requires : tie.Need-next-record-requires
+next-record-requires c κs = search needs
 
 enum-known-got : tie.Need-enum-known-got
 enum-known-got c = search needs
@@ -27,15 +27,15 @@ stepped c h = ap (λ (g : Got). taken g (c .args .at) (c .args .t) (c .args .len
 
 returns : tie.Need-returns
 returns c =
-    stepped (c .before .before .before .before .before) (sym (c .before .got .given .1) ∙ c .before .before .before .record-at .ensures)
+    stepped (c .before .before .before .before .before) (sym (c .before .got .given .1) ∙ c .before .before .before .next-record .ensures)
 
 returns-2 : tie.Need-returns-2
 returns-2 c =
     c .take .ensures
     ∙ stepped (c .before .before .before .before .before .before)
-    (sym (c .before .before .got2 .given .1) ∙ c .before .before .before .before .record-at .ensures)
+    (sym (c .before .before .got2 .given .1) ∙ c .before .before .before .before .next-record .ensures)
 
 pub advance-spec : {M : Type 1} → statement M
 advance-spec =
     tie.close
-    (tie.spec record-at-requires enum-known-got enum-known-got-2 take-requires returns returns-2)
+    (tie.spec next-record-requires enum-known-got enum-known-got-2 take-requires returns returns-2)
