@@ -1,12 +1,9 @@
 -- What the scan's loop keeps: the counts are those of some progress, from which reading goes on as from the start.
 -- Assumes nothing.
 use mathlib.Core.Path.{_≡_, refl, sym, ap, _∙_, subst, subst₂}
-use mathlib.Core.Bool.{Bool, not, cond}
 use mathlib.Core.List.{List, [], _∷_}
 use Prim.Native.Nat.{ℕ, suc, _+_, _-_, _≤_, _<_, zero-le}
 use native.Mathlib.Omega.{arith}
-use lib.Dec.{T}
-use lib.Ieee.Bits.{is-true}
 use lib.ListN.{length, length-append}
 use Rattle.model.specs.declared.Entry.{Entry}
 use Rattle.model.specs.declared.Entry.the-variants.{End, Size, WeightBox, RoundLimits, Sample, Flow}
@@ -15,11 +12,10 @@ use Rattle.tape.specs.declared.tally.Tally.{Tally}
 use Rattle.tape.specs.declared.record.Cursor.{Cursor}
 use Rattle.tape.specs.declared.step.Lent.{Lent}
 use Rattle.tape.specs.declared.step.Step.{Step}
-use Rattle.tape.specs.declared.step.State.{State}
 use Rattle.tape.specs.declared.scan.Scanned.{Scanned}
 use Rattle.tape.specs.Tally.{tallyOf}
-use Rattle.tape.specs.Step.{stepOf, started, after, stateAt}
-use Rattle.tape.specs.Scan.{scannedOf, answered}
+use Rattle.tape.specs.Step.{stepOf}
+use Rattle.tape.specs.Scan.{scannedOf}
 use Rattle.tape.proofs.Turns.{entryAt, nextAt, Passed, Turn, turn}
 
 -- a record adds one number at most
@@ -111,28 +107,3 @@ module _ (tape : List ℕ) (lent : Lent) where
             let same-tally : u ≡ tallyOf (absorbed (r .progress) (entryAt tape o)) = cc in
             let same-place : nextAt tape o ≡ next .at = cc in
             (subst (Reached u) same-place (reached a same-tally w), subst (λ (i : ℕ). o < i) same-place (omega arith))
-
-  -- a state that a scan reaches: reading goes on from there, or it has given what the whole parse gives
-  pub record Stands (s : State) : Type 0 where
-    pub onwards : T (s .more) → Reached (s .tally) (s .at)
-    pub ended : T (not (s .more)) → answered s ≡ scannedOf wholeParse
-
-  -- how many turns may be left
-  abbrev pub turnsLeft : State → ℕ
-  turnsLeft s = cond (s .more) (suc (length tape - s .at)) 0
-
-  pub stands-started : Stands started
-  stands-started = record { onwards = λ _. start; ended = absurd }
-
-  stands-after : {t : Tally} {o : ℕ} → Reached t o → (s : Step) → s ≡ stepOf tape o t lent → Stands (after o t s) × (turnsLeft (after o t s) < suc (length tape - o))
-  stands-after r (Step.Refused number place) e = (record { onwards = absurd; ended = λ _. refused r e }, omega arith)
-  stands-after r Step.Done e = (record { onwards = absurd; ended = λ _. finished r e }, omega arith)
-  stands-after r (Step.More u next) e =
-      let z = onward r e in
-      (record { onwards = λ _. z .0; ended = absurd }, omega (arith, z .0 .inside, z .1))
-
-  -- a turn leads to such a state again, with fewer turns left
-  pub stands-next : {s u : State} → Stands s → T (s .more) → u ≡ stateAt tape (s .at) (s .tally) lent → Stands u × (turnsLeft u < turnsLeft s)
-  stands-next {s} st h e =
-      let z = stands-after (st .onwards h) (stepOf tape (s .at) (s .tally) lent) refl in
-      (subst Stands (sym e) (z .0), subst₂ (λ (i j : ℕ). i < j) (ap turnsLeft (sym e)) (ap (λ (b : Bool). cond b (suc (length tape - s .at)) 0) (sym (is-true (s .more) h))) (z .1))

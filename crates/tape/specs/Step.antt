@@ -1,20 +1,16 @@
 -- One record taken into the tally.
-use mathlib.Core.Bool.{true, false}
 use mathlib.Core.List.{List}
 use Prim.Native.Nat.{ℕ, _+_}
 use Rattle.model.specs.declared.Entry.{Entry}
 use Rattle.model.specs.declared.Entry.the-variants.{End, Size, WeightBox, RoundLimits, Sample, Flow}
-use Rattle.model.specs.declared.Verdict.{Verdict}
 use Rattle.model.specs.Verdict.{firstRefusal, decided}
 use Rattle.model.specs.Calls.{pixelsOf, pairsOf}
-use Rattle.model.specs.Tape.{sized, weighted, entryRows, nothing}
+use Rattle.model.specs.Tape.{sized, weighted, entryRows}
 use Rattle.tape.specs.declared.tally.Tally.{Tally}
 use Rattle.tape.specs.declared.record.Cursor.{Cursor}
 use Rattle.tape.specs.declared.record.Got.{Got}
 use Rattle.tape.specs.declared.step.Lent.{Lent}
 use Rattle.tape.specs.declared.step.Step.{Step}
-use Rattle.tape.specs.declared.step.State.{State}
-use Rattle.tape.specs.Tally.{tallyOf}
 use Rattle.tape.specs.Record.{gotAt}
 
 -- what has been read once this record has been, too
@@ -91,18 +87,3 @@ taken (Got.Record e next) o t lent = judgedEntry t e next o lent
 -- the record at offset o
 unfoldable pub stepOf : List ℕ → ℕ → Tally → Lent → Step
 stepOf tape o t lent = taken (gotAt tape o t) o t lent
-
--- before the first record
-abbrev pub started : State
-started = record { more = true; at = 0; tally = tallyOf nothing; verdict = Verdict.Accept }
-
--- after a step at offset o from the tally t
-abbrev pub after : ℕ → Tally → Step → State
-after o t (Step.Refused number place) =
-    record { more = false; at = o; tally = t; verdict = Verdict.Refuse number place }
-after o t Step.Done = record { more = false; at = o; tally = t; verdict = Verdict.Accept }
-after o t (Step.More u next) = record { more = true; at = next .at; tally = u; verdict = Verdict.Accept }
-
--- after the record at offset o
-abbrev pub stateAt : List ℕ → ℕ → Tally → Lent → State
-stateAt tape o t lent = after o t (stepOf tape o t lent)

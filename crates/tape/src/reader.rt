@@ -1,13 +1,14 @@
 // The tape's bytes and the offset of the next record, kept together. Each function over the struct is
-// thin: the work is done by `step_at`, on the slice and the number.
+// thin: the work is done by `advance`, on the slice and the number.
 
+use crate::record::Cursor;
 use crate::step::Lent;
-use crate::step::State;
-use crate::step::step_at;
+use crate::step::Step;
+use crate::step::advance;
 use crate::tally::Tally;
 ghost use mathlib.Core.Path.{_≡_};
 ghost use Prim.Native.Nat.{_<_, _^_};
-ghost use Rattle.tape.specs.Step.{stateAt};
+ghost use Rattle.tape.specs.Step.{stepOf};
 
 pub struct Reader<'a> {
     pub tape: &'a [u8],
@@ -22,16 +23,19 @@ pub fn new<'a>(tape: &'a [u8]) -> Reader<'a>
 }
 
 // The next record, read and taken into the tally.
-pub fn next<'a>(r: Reader<'a>, t: Tally, lent: Lent) -> State
+pub fn next<'a>(r: Reader<'a>, t: Tally, lent: Lent) -> Step
     requires { ⌜ (t .samples < 2 ^ 63) × (t .flows < 2 ^ 63) ⌝ }
-    ensures { λ s. ⌜ s ≡ stateAt (now (r .entry .tape)) (r .entry .at) t lent ⌝ }
+    ensures { λ s. ⌜ s ≡ stepOf (now (r .entry .tape)) (r .entry .at) t lent ⌝ }
 {
-    step_at(r.tape, r.at, t, lent)
+    advance(r.tape, r.at, t, lent)
 }
 
-// The reader moved on to an offset.
-pub fn moved<'a>(r: Reader<'a>, at: usize) -> Reader<'a>
-    ensures { λ q. ⌜ (q .tape ≡ r .entry .tape) × (q .at ≡ at) ⌝ }
+// The reader moved on to the record at a cursor.
+pub fn moved<'a>(r: Reader<'a>, cursor: Cursor) -> Reader<'a>
+    ensures { λ q. ⌜ (q .tape ≡ r .entry .tape) × (q .at ≡ cursor .at) ⌝ }
 {
-    Reader { tape: r.tape, at }
+    Reader {
+        tape: r.tape,
+        at: cursor.at,
+    }
 }

@@ -4,11 +4,9 @@ use crate::record::Cursor;
 use crate::record::Got;
 use crate::record::next_record;
 use crate::tally::Tally;
-use crate::tally::fresh;
 use model::Entry;
 use model::Rounds;
 use model::Terms;
-use model::Verdict;
 use terms::box_allowed;
 use terms::pairs;
 use terms::pixels;
@@ -18,7 +16,7 @@ use terms::weight_allowed;
 ghost use mathlib.Core.Path.{_≡_};
 ghost use Prim.Native.Nat.{_<_, _^_};
 ghost use Rattle.model.specs.declared.Entry.{Entry};
-ghost use Rattle.tape.specs.Step.{judgedEntry, stepOf, started, stateAt};
+ghost use Rattle.tape.specs.Step.{judgedEntry, stepOf};
 
 // The lengths of the buffers that the caller lends.
 pub struct Lent {
@@ -32,15 +30,6 @@ pub enum Step {
     Refused(u32, usize),
     Done,
     More(Tally, Cursor),
-}
-
-// Where a scan stands: whether there is another record, its offset, what has been read, and the
-// verdict on it.
-pub struct State {
-    pub more: bool,
-    pub at: usize,
-    pub tally: Tally,
-    pub verdict: Verdict,
 }
 
 // 1 size, at the record; 16 right after it, for all samples and all pairs.
@@ -148,45 +137,5 @@ pub fn advance(tape: &[u8], at: usize, t: Tally, lent: Lent) -> Step
     match got {
         Got::Refused(number, place) => Step::Refused(number, place),
         Got::Record(entry, next) => take(t, entry, next, at, lent),
-    }
-}
-
-// Before the first record.
-pub fn start() -> State
-    ensures { λ s. ⌜ s ≡ started ⌝ }
-{
-    State {
-        more: true,
-        at: 0,
-        tally: fresh(),
-        verdict: Verdict::Accept,
-    }
-}
-
-// After the record at an offset.
-pub fn step_at(tape: &[u8], at: usize, t: Tally, lent: Lent) -> State
-    requires { ⌜ (t .samples < 2 ^ 63) × (t .flows < 2 ^ 63) ⌝ }
-    ensures { λ s. ⌜ s ≡ stateAt (now (tape .entry)) at t lent ⌝ }
-{
-    let s = advance(tape, at, t, lent);
-    match s {
-        Step::Refused(number, place) => State {
-            more: false,
-            at,
-            tally: t,
-            verdict: Verdict::Refuse { number, place },
-        },
-        Step::Done => State {
-            more: false,
-            at,
-            tally: t,
-            verdict: Verdict::Accept,
-        },
-        Step::More(u, next) => State {
-            more: true,
-            at: next.at,
-            tally: u,
-            verdict: Verdict::Accept,
-        },
     }
 }
