@@ -2,8 +2,8 @@
 //     bytes    numbers in bytes
 //     tally    what has been read so far, in counts
 //     record   one record at an offset
-//     reader   the lent bytes with the offset of the next record
 //     step     one record taken into the tally
+//     reader   the lent bytes with the offset of the next record
 //     scan     the whole tape, with nothing written
 //     fill     the numbers of a whole tape, into the buffers
 //     reading  read

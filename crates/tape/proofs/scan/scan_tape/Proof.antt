@@ -1,9 +1,9 @@
 -- `tape::scan::scan_tape` meets its contract: a walk of its MIR, by hand. One reader is held in a local for the whole loop and moved on after each record. All that the proof knows of the functions called is that each meets its contract.
 --     At           where the loop stands: the reader with its machine value, the tally, and what is known of them: the reader has the tape passed, and the tally is that of a progress reached at the reader's offset
---     Held x       what is owned there: the reader, the lifetime's token, the slice, and the locals.        Read x b     the same once a record has been read: the step b stands in its local
+--     Entered, Held, Read, Ending      what is owned once the arguments are stored, where the loop stands, where a record has been read, and where the result stands in its local
 --     hears        what a callee gives: its result is picked, and what it ensures is learned
---     matched      the `match` on the step, by its cases: a refusal and the job's end return, and the last arm moves the reader on.        leaves       the return
---     turns        a turn: the function returns, or the loop stands again, nearer to the tape's end.        loops-on     the loop.        begins       the calls before it
+--     begins       the calls before the loop.        loops-on     the loop.        turns        a turn: the function returns, or the loop stands again, nearer to the tape's end
+--     matched      the `match` on the step, by its cases: a refusal and the job's end return, and any other record moves the reader on.        leaves       the return
 -- In a local of a body MIR erases the lifetime of the struct's type, so the value is shown to have the type at `erased`. What holds no reference owns only facts: it is made anew from them.
 -- Assumes nothing.
 use mathlib.Core.Path.{_≡_, refl, sym, ap, _∙_, subst, subst₂}
@@ -326,15 +326,27 @@ module _ {M : Type 1} (𝓤 : URA M) (H : Heap 𝓤) (A : Atoms 𝓤) (W : Given
       abbrev full : ℕ → ℕ → Val → List (Item 𝓤) → List (Item 𝓤)
       full i l w Γ = ‵ (fat fullShare (τ i) l 0 w) ∷ ‵ (fdies (τ i) l) ∷ Γ
 
-      -- the locals of the parameters and of the result
-      abbrev Passed : List (Item 𝓤)
-      Passed = full 2 l₂ zm (full 1 l₁ v (spare 0 l₀ []))
+      -- the locals that a turn leaves with room, those that it leaves with values, and those of the parameters
+      abbrev Spares : List (Item 𝓤) → List (Item 𝓤)
+      Spares Γ = spare 11 l₁₁ (spare 10 l₁₀ (spare 9 l₉ (spare 8 l₈ (spare 7 l₇ (spare 6 l₆ Γ)))))
+
+      abbrev Kept : At s z → List (Item 𝓤) → List (Item 𝓤)
+      Kept x Γ = full 4 l₄ (Y′.lowered (x .tally)) (full 3 l₃ (x .mach) Γ)
+
+      abbrev Passed : List (Item 𝓤) → List (Item 𝓤)
+      Passed Γ = full 2 l₂ zm (full 1 l₁ v Γ)
+
+      abbrev Entered : List (Item 𝓤)
+      Entered = raw (onEntry 𝓤 H A scan-tape.signature (κ, tt) (q, tt) (s, (z, tt)) at) ∷ Spares (spare 5 l₅ (spare 4 l₄ (spare 3 l₃ (Passed (spare 0 l₀ [])))))
 
       abbrev Held : At s z → List (Item 𝓤)
-      Held x = ‵ (OwnR (x .reader) (x .mach)) ∷ Token ∷ ‵ Own ∷ spare 11 l₁₁ (spare 10 l₁₀ (spare 9 l₉ (spare 8 l₈ (spare 7 l₇ (spare 6 l₆ (spare 5 l₅ (full 4 l₄ (Y′.lowered (x .tally)) (full 3 l₃ (x .mach) Passed))))))))
+      Held x = ‵ (OwnR (x .reader) (x .mach)) ∷ Token ∷ ‵ Own ∷ Spares (spare 5 l₅ (Kept x (Passed (spare 0 l₀ []))))
 
       abbrev Read : At s z → Step → List (Item 𝓤)
-      Read x b = ‵ (OwnR (x .reader) (x .mach)) ∷ Token ∷ ‵ Own ∷ spare 11 l₁₁ (spare 10 l₁₀ (spare 9 l₉ (spare 8 l₈ (spare 7 l₇ (spare 6 l₆ (full 5 l₅ (S′.lowered b) (full 4 l₄ (Y′.lowered (x .tally)) (full 3 l₃ (x .mach) Passed))))))))
+      Read x b = ‵ (OwnR (x .reader) (x .mach)) ∷ Token ∷ ‵ Own ∷ Spares (full 5 l₅ (S′.lowered b) (Kept x (Passed (spare 0 l₀ []))))
+
+      abbrev Ending : At s z → Step → Scanned → List (Item 𝓤)
+      Ending x b g = Token ∷ ‵ Own ∷ Spares (full 5 l₅ (S′.lowered b) (Kept x (Passed (full 0 l₀ (G′.lowered g) []))))
 
       -- the loop is left only by a return
       abbrev Left : Out → SProp 𝓤
@@ -343,11 +355,10 @@ module _ {M : Type 1} (𝓤 : URA M) (H : Heap 𝓤) (A : Atoms 𝓤) (W : Given
       abbrev Turned : At s z → Out → SProp 𝓤
       Turned x = afterTurn 𝓤 H (Below 𝓤 H A (Nearer s z) Held x) Left
 
-      leaves : (x : At s z) (b : Step) (g : Scanned) → Is G.the-row g (G′.lowered g ∷ []) → g ≡ found
-          → ent 𝓤 (⋆ 𝓤 H A (Token ∷ ‵ Own ∷ spare 11 l₁₁ (spare 10 l₁₀ (spare 9 l₉ (spare 8 l₈ (spare 7 l₇ (spare 6 l₆ (full 5 l₅ (S′.lowered b) (full 4 l₄ (Y′.lowered (x .tally)) (full 3 l₃ (x .mach) (full 2 l₂ zm (full 1 l₁ v (full 0 l₀ (G′.lowered g) []))))))))))))) (Wp 𝓤 H C Λ En return (Turned x))
+      leaves : (x : At s z) (b : Step) (g : Scanned) → Is G.the-row g (G′.lowered g ∷ []) → g ≡ found → ent 𝓤 (⋆ 𝓤 H A (Ending x b g)) (Wp 𝓤 H C Λ En return (Turned x))
       unfolding afterTurn
       leaves x b g is e =
-          qed W (Token ∷ ‵ Own ∷ spare 11 l₁₁ (spare 10 l₁₀ (spare 9 l₉ (spare 8 l₈ (spare 7 l₇ (spare 6 l₆ (full 5 l₅ (S′.lowered b) (full 4 l₄ (Y′.lowered (x .tally)) (full 3 l₃ (x .mach) (full 2 l₂ zm (full 1 l₁ v (full 0 l₀ (G′.lowered g) [])))))))))))) ∵ exec ! C Λ En return (anyQ (Turned x)) $
+          qed W (Ending x b g) ∵ exec ! C Λ En return (anyQ (Turned x)) $
           returns-within ! Post refl (look ! 24 refl) $ forget ! 14 refl $ forget ! 16 refl $ forget ! 18 refl $ forget ! 20 refl $ forget ! 22 refl $ forget ! 24 refl $
           move ! (24 ∷ 25 ∷ []) $ free1 ! $ move ! (22 ∷ 23 ∷ []) $ free1 ! $ move ! (20 ∷ 21 ∷ []) $ free1 ! $ move ! (18 ∷ 19 ∷ []) $ free1 ! $ move ! (16 ∷ 17 ∷ []) $ free1 ! $ move ! (14 ∷ 15 ∷ []) $ free1 ! $ move ! (12 ∷ 13 ∷ []) $ free1 ! $ move ! (10 ∷ 11 ∷ []) $ free1 ! $ move ! (8 ∷ 9 ∷ []) $ free1 ! $ move ! (6 ∷ 7 ∷ []) $ free1 ! $ move ! (4 ∷ 5 ∷ []) $ free1 ! $ move ! (2 ∷ 3 ∷ []) $ free1 ! $ free0 ! $ by ! (exits g is e)
 
@@ -404,11 +415,6 @@ module _ {M : Type 1} (𝓤 : URA M) (H : Heap 𝓤) (A : Atoms 𝓤) (W : Given
 
       loops-on : (x : At s z) → ent 𝓤 (⋆ 𝓤 H A (Held x)) (Wp 𝓤 H C Λ En body.t-3 (atReturn 𝓤 H En Post))
       loops-on x = qed W (Held x) ∵ exec ! C Λ En body.t-3 (atRet En Post) $ first ! $ blocks ! $ loops ! 𝓣 (Nearer s z) (wf s z) Held (λ y. by ! (turns y)) x
-
-      -- what is owned once the arguments are stored
-      abbrev Entered : List (Item 𝓤)
-      Entered = raw (onEntry 𝓤 H A scan-tape.signature (κ, tt) (q, tt) (s, (z, tt)) at)
-          ∷ spare 11 l₁₁ (spare 10 l₁₀ (spare 9 l₉ (spare 8 l₈ (spare 7 l₇ (spare 6 l₆ (spare 5 l₅ (spare 4 l₄ (spare 3 l₃ Passed))))))))
 
       begins : ent 𝓤 (⋆ 𝓤 H A Entered) (Wp 𝓤 H C Λ En body.t-1 (atReturn 𝓤 H En Post))
       begins =
