@@ -101,7 +101,7 @@ B κs = T.the-row (namedLft 1 0 tt κs)
 abbrev stayed : Stays (scan-tape.ended .signature .params) (scan-tape.ended .kept)
 stayed = (stay-none-slice (0 ∷ []) tt (plain (λ _. u8)) yes, (stay-none (λ _. Z.the-row) yes, tt))
 
--- the type of a local, as the code has it
+-- the type of a local, taken from the code: the lemmas' locals are then the code's as they stand, and no type is spelled out to compare them
 abbrev typeAt : List Local → ℕ → Ty
 typeAt [] i = tyBool
 typeAt (local σ h ∷ ls) zero = σ
@@ -155,6 +155,7 @@ module _ {M : Type 1} (𝓤 : URA M) (H : Heap 𝓤) (A : Atoms 𝓤) (mem : Mem
     pub moved : Triple 𝓤 (C #tape·moved) Moved
 
 module _ (s : RefT (List ℕ)) (z : Lent) where
+  -- where the loop stands, with the slice s and the lengths z passed
   record At : Type 0 where
     reader : Reader
     mach : Val
