@@ -1,40 +1,41 @@
 // The tape's bytes and the offset of the next record, kept together. Each function over the struct is
-// thin: the work is done by `next_record`, on the slice and the number.
+// thin: the work is done by `advance`, on the slice and the number.
 
-use records::record::Got;
-use records::record::next_record;
+use records::record::Cursor;
 use records::tally::Tally;
+use steps::Lent;
+use steps::Step;
+use steps::advance;
 ghost use mathlib.Core.Path.{_≡_};
-ghost use Rattle.records.specs.Record.{gotAt};
+ghost use Prim.Native.Nat.{_<_, _^_};
+ghost use Rattle.steps.specs.Step.{stepOf};
 
 pub struct Reader<'a> {
     pub tape: &'a [u8],
     pub at: usize,
 }
 
-pub fn new<'a>(tape: &'a [u8], at: usize) -> Reader<'a>
-    ensures { λ r. ⌜ (r .tape ≡ tape .entry) × (r .at ≡ at) ⌝ }
+// A reader at the first record.
+pub fn new<'a>(tape: &'a [u8]) -> Reader<'a>
+    ensures { λ r. ⌜ (r .tape ≡ tape .entry) × (r .at ≡ 0) ⌝ }
 {
-    Reader { tape, at }
+    Reader { tape, at: 0 }
 }
 
-// The offset of the next record.
-pub fn offset<'a>(r: Reader<'a>) -> usize
-    ensures { λ n. ⌜ n ≡ r .entry .at ⌝ }
+// The next record, read and taken into the tally.
+pub fn next<'a>(r: Reader<'a>, t: Tally, lent: Lent) -> Step
+    requires { ⌜ (t .samples < 2 ^ 63) × (t .flows < 2 ^ 63) ⌝ }
+    ensures { λ s. ⌜ s ≡ stepOf (now (r .entry .tape)) (r .entry .at) t lent ⌝ }
 {
-    r.at
+    advance(r.tape, r.at, t, lent)
 }
 
-// The next record.
-pub fn next<'a>(r: Reader<'a>, t: Tally) -> Got
-    ensures { λ g. ⌜ g ≡ gotAt (now (r .entry .tape)) (r .entry .at) t ⌝ }
+// The reader moved on to the record at a cursor.
+pub fn forward<'a>(r: Reader<'a>, cursor: Cursor) -> Reader<'a>
+    ensures { λ q. ⌜ (q .tape ≡ r .entry .tape) × (q .at ≡ cursor .at) ⌝ }
 {
-    next_record(r.tape, r.at, t)
-}
-
-// The record at an offset, for callers that have a plain slice and a number.
-pub fn record_at(tape: &[u8], at: usize, t: Tally) -> Got
-    ensures { λ g. ⌜ g ≡ gotAt (now (tape .entry)) at t ⌝ }
-{
-    next(new(tape, at), t)
+    Reader {
+        tape: r.tape,
+        at: cursor.at,
+    }
 }

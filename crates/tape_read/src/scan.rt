@@ -1,10 +1,12 @@
 // The whole tape, record by record, with nothing written.
 
+use crate::reader::forward;
+use crate::reader::new;
+use crate::reader::next;
 use records::tally::Tally;
 use records::tally::fresh;
 use steps::Lent;
 use steps::Step;
-use steps::advance;
 ghost use mathlib.Core.Path.{_≡_};
 ghost use Prim.Native.Nat.{suc};
 ghost use lib.ListN.{length};
@@ -17,19 +19,20 @@ pub enum Scanned {
     Whole(Tally),
 }
 
+// One reader, moved on record by record.
 pub fn scan_tape(tape: &[u8], lent: Lent) -> Scanned
     ensures { λ r. ⌜ r ≡ scannedOf (parseFrom (suc (length (now (tape .entry)))) (now (tape .entry)) (lent .samples) (lent .flow) 0 nothing) ⌝ }
 {
+    let mut r = new(tape);
     let mut t = fresh();
-    let mut at = 0;
     loop {
-        let s = advance(tape, at, t, lent);
+        let s = next(r, t, lent);
         match s {
             Step::Refused(number, place) => return Scanned::Refused(number, place),
             Step::Done => return Scanned::Whole(t),
-            Step::More(u, next) => {
+            Step::More(u, cursor) => {
                 t = u;
-                at = next.at;
+                r = forward(r, cursor);
             }
         }
     }
