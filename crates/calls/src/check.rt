@@ -5,7 +5,7 @@ use crate::figures;
 use crate::judge;
 use model::Terms;
 use model::Verdict;
-use raster::image::fill_image;
+use primal::fill_image;
 use stencil::pixel;
 ghost use mathlib.Core.Path.{_≡_};
 ghost use mathlib.Core.Logic.{_↔_};

@@ -1,7 +1,4 @@
 -- Laws that the passes' proofs share.
---     Stencil     the stencil's definitions are the model's
---     Parts       a part of a buffer
---     RowParts    the parts of the flow that a row of the image takes
 --     Rows        a buffer worked on row by row
 --     Whole       the two runs of all pairs
 --     Runs        a run of pairs as its stretch of all pairs
@@ -9,9 +6,6 @@
 --     Searches    a search for a moving pair by parts
 --     RunSums     sums by runs of pairs
 --     Model       what the passes leave is what the model defines
-pub mod Stencil
-pub mod Parts
-pub mod RowParts
 pub mod Rows
 pub mod Whole
 pub mod Runs

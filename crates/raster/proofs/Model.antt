@@ -18,11 +18,11 @@ use Rattle.model.specs.Rounds.{eighth, stepped, step, wouldMove, firstMoving}
 use Rattle.model.specs.Calls.{imageOf}
 use Rattle.model.proofs.Lists.{getD-table, length-table, firstWhere-cong}
 use Rattle.model.proofs.Pairs.{neighbours, first-inside, second-inside}
-use Rattle.raster.specs.Image.{imageValue}
+use Rattle.primal.specs.Image.{imageValue}
 use Rattle.stencil.specs.Pair.{stepValue, moves}
 use Rattle.raster.specs.Whole.{gridStep, gridMoves, gridFall}
 use Rattle.runs.proofs.Fill.{table-cong}
-use Rattle.raster.proofs.Stencil.{pull-gathered}
+use Rattle.primal.proofs.Stencil.{pull-gathered}
 
 module _ (t : Terms) (samples : List ℕ) where
   -- pixel i at its row and column

@@ -15,7 +15,7 @@ use Rattle.model.proofs.Lists.{length-table}
 use Rattle.runs.specs.Limits.{Within}
 use Rattle.raster.specs.Whole.{rowPixel}
 use Rattle.runs.proofs.Fill.{filled, filled-part}
-use Rattle.raster.proofs.Stencil.{horizontal-here}
+use Rattle.primal.proofs.Stencil.{horizontal-here}
 
 -- the rows end where the buffer does: `row` rows of a numbers each lie before `start`
 pub row-end : (row h a start length : ℕ) → row < h → start ≡ row * a → length ≡ h * a → start + a ≤ length

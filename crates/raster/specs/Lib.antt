@@ -1,9 +1,2 @@
--- What the passes over a whole raster compute.
---     Stencil     the pull on a pixel, from its up to four pairs
---     Whole       all pairs of a raster in buffers
---     Image       the image of a flow
---     Limits      limits within which no machine operation overflows
-pub mod Stencil
+-- What the passes over all pairs of a raster compute.
 pub mod Whole
-pub mod Image
-pub mod Limits

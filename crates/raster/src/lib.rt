@@ -1,3 +1,2 @@
-// Passes over a whole raster: the image of a flow, and all its pairs.
+// Passes over all pairs of a raster.
 pub mod grid;
-pub mod image;

@@ -13,8 +13,8 @@ use Rattle.model.specs.Calls.{imageOf}
 use Rattle.model.proofs.Lists.{length-table}
 use Rattle.model.proofs.Pairs.{grid-count}
 use Rattle.runs.specs.Limits.{Within}
-use Rattle.raster.specs.Limits.{ImageLimits}
-use Rattle.raster.specs.Image.{imageValue}
+use Rattle.primal.specs.Limits.{ImageLimits}
+use Rattle.primal.specs.Image.{imageValue}
 use Rattle.raster.specs.Whole.{GridLimits}
 use Rattle.raster.proofs.Model.{image-is}
 use Rattle.rounds.specs.Ready.{JobLimits}

@@ -5,7 +5,7 @@ use crate::buffers;
 use advance::advance_grid;
 use integers::signed;
 use model::Terms;
-use raster::image::fill_image;
+use primal::fill_image;
 use stencil::pixel;
 ghost use Prim.Native.Nat.{_*_};
 ghost use mathlib.Core.Path.{_≡_};

@@ -2,8 +2,8 @@
 
 use integers::signed;
 use model::Terms;
+use primal::fill_image;
 use raster::grid;
-use raster::image::fill_image;
 use runs::pairs::Moving;
 use stencil::pixel;
 ghost use mathlib.Core.Path.{_≡_};

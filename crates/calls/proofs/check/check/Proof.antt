@@ -15,7 +15,7 @@ use Rattle.model.proofs.Answers.{check-answer, check-image}
 use Rattle.model.proofs.Accepted.{told, check-feasible, check-accepted, check-number}
 use Rattle.model.proofs.Pairs.{grid-count}
 use Rattle.certificate.proofs.Grid.{check-demand}
-use Rattle.raster.specs.Image.{imageValue}
+use Rattle.primal.specs.Image.{imageValue}
 use Rattle.raster.proofs.Model.{image-is}
 use Rattle.calls.proofs.Jobs.{flow-most}
 use Rattle.calls.proofs.Objectives.{figured}

@@ -17,7 +17,7 @@ use Rattle.model.specs.declared.Terms.{Terms}
 use Rattle.model.specs.Problem.{Pair, pairCount, firstOf, secondOf, pull}
 use Rattle.model.specs.Grid.{pixel, gridPairs, grid}
 use Rattle.model.proofs.Pairs.{grid-count, vertical-pair, horizontal-at, horizontal-pixel, column-inside, row-inside}
-use Rattle.raster.specs.Stencil.{rightPair, gathered}
+use Rattle.primal.specs.Stencil.{rightPair, gathered}
 
 -- ---- sums in which one term counts, or none
 

@@ -6,7 +6,7 @@ use lib.ListN.{length, getD, take, drop}
 use Rattle.integers.specs.Whole.{clamp}
 use Rattle.model.specs.Lists.{at}
 use Rattle.model.specs.Grid.{readingOf}
-use Rattle.raster.specs.Stencil.{gathered}
+use Rattle.primal.specs.Stencil.{gathered}
 
 -- pixel i of the image on a raster of width w and height h
 abbrev pub imageValue : ℤ → ℤ → List ℕ → List ℤ → ℕ → ℕ → ℕ → ℤ

@@ -16,12 +16,12 @@ use lib.Seq.{getD-take, getD-drop, drop-drop}
 use Rattle.model.specs.Lists.{at, table}
 use Rattle.model.proofs.Lists.{length-table}
 use Rattle.runs.specs.Limits.{RowLimits}
-use Rattle.raster.specs.Limits.{ImageLimits, ImageRowLimits}
+use Rattle.primal.specs.Limits.{ImageLimits, ImageRowLimits}
 use Rattle.runs.specs.Row.{rowValue}
-use Rattle.raster.specs.Image.{imageValue, withRow}
-use Rattle.raster.specs.Stencil.{gathered, rightPair}
+use Rattle.primal.specs.Image.{imageValue, withRow}
+use Rattle.primal.specs.Stencil.{gathered, rightPair}
 use Rattle.runs.proofs.Fill.{Filling, filling-part, table-cong}
-use Rattle.raster.proofs.Parts.{part, part-at, part-within, length-part}
+use Rattle.primal.proofs.Parts.{part, part-at, part-within, length-part}
 
 -- two tests that hold together
 same-test : (a b c d : ℕ) → (a < b → c < d) → (c < d → a < b) → ltb a b ≡ ltb c d

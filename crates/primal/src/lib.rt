@@ -4,8 +4,8 @@ use runs::row::image_row;
 ghost use mathlib.Core.Path.{_≡_};
 ghost use Prim.Native.Nat.{_+_, _-_, _*_, _<_, min};
 ghost use Rattle.model.specs.Lists.{table};
-ghost use Rattle.raster.specs.Limits.{ImageLimits, ImageRowLimits};
-ghost use Rattle.raster.specs.Image.{imageValue, withRow};
+ghost use Rattle.primal.specs.Limits.{ImageLimits, ImageRowLimits};
+ghost use Rattle.primal.specs.Image.{imageValue, withRow};
 
 // The lesser of two.
 fn least(a: usize, b: usize) -> usize

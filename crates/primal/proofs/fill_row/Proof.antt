@@ -4,9 +4,9 @@ use native.Mathlib.Omega.{arith}
 use borrow.Author.Needs.{needs}
 use mir.Syntax.{w32}
 use mir.ValLaws.{toZ-ofZ}
-use Rattle.raster.proofs.RowParts.{row-ends, row-limits, row-table, row-put}
-use Rattle.raster.proofs.image.fill_row.Statement.{statement}
-use Rattle.raster.proofs.image.fill_row.Tie as tie
+use Rattle.primal.proofs.RowParts.{row-ends, row-limits, row-table, row-put}
+use Rattle.primal.proofs.fill_row.Statement.{statement}
+use Rattle.primal.proofs.fill_row.Tie as tie
 
 sub-vertical : tie.Need-sub-vertical
 sub-vertical c = search needs

@@ -7,11 +7,11 @@ use borrow.Author.Needs.{needs}
 use mir.Syntax.{w32}
 use mir.Val.{toZ}
 use mir.ValLaws.{toZ-ofZ}
-use Rattle.raster.specs.Image.{imageValue}
+use Rattle.primal.specs.Image.{imageValue}
 use Rattle.runs.proofs.Fill.{Filling, filling-none, filling-all}
-use Rattle.raster.proofs.RowParts.{row-in, filling-row, same-raster}
-use Rattle.raster.proofs.image.fill_image.Statement.{statement}
-use Rattle.raster.proofs.image.fill_image.Tie as tie
+use Rattle.primal.proofs.RowParts.{row-in, filling-row, same-raster}
+use Rattle.primal.proofs.fill_image.Statement.{statement}
+use Rattle.primal.proofs.fill_image.Tie as tie
 
 abbrev Inv-loop : tie.InvT-loop
 Inv-loop image₀ samples flow width height low high r₀ image r =
