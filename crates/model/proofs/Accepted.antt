@@ -164,13 +164,6 @@ told e f =
     let n = ap (λ (x : Answer). x .number) e in
     (λ z. f .0 (sym n ∙ z), λ k. n ∙ f .1 k)
 
--- the contents, said of the job's grid
-pub check-feasible : (t : Terms) (samples : List ℕ) (flow values : List ℤ) → CheckAllowed t samples flow values → Feasible (grid t samples) (at flow)
-check-feasible t samples flow values a j l = a .contents j (rw (a .flow-length) l)
-
-pub price-inside : (t : Terms) (samples : List ℕ) (values : List ℤ) → PriceAllowed t samples values → InBox (grid t samples) (at values)
-price-inside t samples values a i l = a .contents i (rw (a .image-length) l)
-
 -- a call's number is 0 exactly when its rows accept, so exactly when what they ask holds
 number-allowed : (rows : List Row) → Numbered rows → (a : Answer) → a .number ≡ 0 → {A : Type 0} → ((firstRefusal rows ≡ Accept) ↔ A) →
     (decided (firstRefusal rows) a refusal .number ≡ 0) ↔ A
@@ -217,6 +210,10 @@ module _ (t : Terms) (samples : List ℕ) (flow values : List ℤ) where
   unfolding checkAnswer checkVerdict figuresOf
   check-number = number-allowed _ (omega arith) _ refl check-accepted
 
+  -- the flow, said of the job's grid
+  pub check-feasible : CheckAllowed t samples flow values → Feasible (grid t samples) (at flow)
+  check-feasible a j l = a .contents j (rw (a .flow-length) l)
+
 -- Price: allowed terms and lengths, and every value of the image lies within the box
 module _ (t : Terms) (samples : List ℕ) (values : List ℤ) where
   pub price-accepted : (priceVerdict t samples values ≡ Accept) ↔ PriceAllowed t samples values
@@ -244,6 +241,10 @@ module _ (t : Terms) (samples : List ℕ) (values : List ℤ) where
   pub price-number : (priceAnswer t samples values .number ≡ 0) ↔ PriceAllowed t samples values
   unfolding priceAnswer priceVerdict
   price-number = number-allowed _ (omega arith) _ refl price-accepted
+
+  -- the image, said of the job's grid
+  pub price-inside : PriceAllowed t samples values → InBox (grid t samples) (at values)
+  price-inside a i l = a .contents i (rw (a .image-length) l)
 
 -- Run: allowed terms, number of quick rounds and lengths
 module _ (t : Terms) (r : Rounds) (samples : List ℕ) (flow values work : List ℤ) where
