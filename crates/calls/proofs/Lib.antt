@@ -1,7 +1,5 @@
 -- Laws that the calls' proofs share.
 --     Objectives  price and floor from the passes' sums, and that they fit 64 bits
 --     Jobs        an allowed job is within the limits of the passes
---     Rows        the rows of the terms, then those below them
 pub mod Objectives
 pub mod Jobs
-pub mod Rows

@@ -2,7 +2,6 @@
 
 use crate::answer::Answer;
 use crate::figures;
-use crate::judge;
 use model::Terms;
 use model::Verdict;
 use primal::fill_image;
@@ -20,7 +19,7 @@ pub fn check(t: Terms, samples: &[u8], flow: &[i32], image: &mut [i32]) -> Answe
     ensures { λ r. ⌜ ((answerOf r .number ≡ 0) ↔ CheckAllowed t (now (samples .entry)) (now (flow .entry)) (now (image .entry))) ⌝ }
     ensures { λ r. ⌜ (answerOf r .number ≡ 0 → CheckDemand t (now (samples .entry)) (now (flow .entry)) (now (image .exit)) (answerOf r)) ⌝ }
 {
-    let verdict = judge::judge_check(t, samples.len(), flow, image.len());
+    let verdict = judges::judge_check(t, samples.len(), flow, image.len());
     if let Verdict::Refuse { number, place } = verdict {
         return Answer::Refused { number, place };
     }

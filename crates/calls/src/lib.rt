@@ -3,6 +3,5 @@
 pub mod answer;
 pub mod check;
 mod figures;
-mod judge;
 pub mod price;
 pub mod run;

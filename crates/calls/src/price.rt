@@ -2,7 +2,6 @@
 
 use crate::answer::Answer;
 use crate::figures;
-use crate::judge;
 use model::Terms;
 use model::Verdict;
 ghost use mathlib.Core.Path.{_≡_};
@@ -15,7 +14,7 @@ pub fn price(t: Terms, samples: &[u8], image: &[i32]) -> Answer
     ensures { λ r. ⌜ answerOf r ≡ priceAnswer t (now (samples .entry)) (now (image .entry)) ⌝ }
     ensures { λ r. ⌜ ((answerOf r .number ≡ 0) ↔ PriceAllowed t (now (samples .entry)) (now (image .entry))) ⌝ }
 {
-    let verdict = judge::judge_price(t, samples.len(), image);
+    let verdict = judges::judge_price(t, samples.len(), image);
     if let Verdict::Refuse { number, place } = verdict {
         return Answer::Refused { number, place };
     }

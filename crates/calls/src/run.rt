@@ -2,7 +2,6 @@
 
 use crate::answer::Answer;
 use crate::figures;
-use crate::judge;
 use model::Rounds;
 use model::Terms;
 use model::Verdict;
@@ -31,7 +30,7 @@ pub fn run(
     ensures { λ a. ⌜ ((answerOf a .number ≡ 0) ↔ RunAllowed t r (now (samples .entry)) (now (flow .entry)) (now (image .entry)) (now (work .entry))) ⌝ }
     ensures { λ a. ⌜ (answerOf a .number ≡ 0 → RunDemand t r (now (samples .entry)) (now (flow .exit)) (now (image .exit)) (answerOf a)) ⌝ }
 {
-    let verdict = judge::judge_run(
+    let verdict = judges::judge_run(
         t,
         r.quick,
         samples.len(),

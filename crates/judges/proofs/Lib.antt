@@ -1,0 +1,2 @@
+-- The rows of the terms, then those below them.
+pub mod Rows

@@ -1,0 +1,59 @@
+-- The rows of a call's table: those of the terms, then those below them, whose lengths are counted for an allowed size.
+-- Assumes nothing.
+use mathlib.Core.Path.{_≡_, refl, sym, ap, ap₂, _∙_}
+use mathlib.Core.Bool.{Bool, true, false, not, cond}
+use mathlib.Core.List.{List, [], _∷_, _++_}
+use Prim.Native.Nat.{ℕ, _≤_}
+use native.Mathlib.Omega.{arith}
+use lib.Dec.{eqb}
+use Rattle.model.specs.declared.Terms.{Terms}
+use Rattle.model.specs.declared.Verdict.{Verdict}
+use Rattle.model.specs.Grid.{sizeAllowed}
+use Rattle.model.specs.Verdict.{Row, row, firstRefusal, decided}
+use Rattle.model.specs.Calls.{pixelsOf, pairsOf, sizeRow, weightRow, boxRow}
+use Rattle.model.proofs.Refusals.{firstRefusal-append}
+use Rattle.terms.proofs.Size.{allowed-size}
+use Rattle.terms.proofs.Accepted.{accepted-terms}
+use Rattle.judges.specs.Lengths.{pixelsDue, pairsDue, lengthRows}
+
+-- a length that has to be exact
+abbrev pub exactRow : ℕ → ℕ → ℕ → Row
+exactRow number lent due = row (not (eqb lent due)) number 0
+
+module _ (t : Terms) where
+  abbrev pub termsRows : List Row
+  termsRows = sizeRow t 0 ∷ weightRow t 0 ∷ boxRow t 0 ∷ []
+
+  -- what is counted where the size is allowed
+  module _ (h : sizeAllowed (t .width) (t .height) ≡ true) where
+    pub pixels-due : pixelsDue t ≡ pixelsOf t
+    pixels-due = ap (λ (b : Bool). cond b (pixelsOf t) 0) h
+
+    pub pairs-due : pairsDue t ≡ pairsOf t
+    pairs-due = ap (λ (b : Bool). cond b (pairsOf t) 0) h
+
+    pub lengths-due : (samples flow image : ℕ) →
+        firstRefusal (lengthRows t samples flow image)
+        ≡ firstRefusal (exactRow 4 samples (pixelsOf t) ∷ exactRow 5 flow (pairsOf t) ∷ exactRow 6 image (pixelsOf t) ∷ [])
+    lengths-due samples flow image =
+        ap₂ (λ (n m : ℕ). firstRefusal (exactRow 4 samples n ∷ exactRow 5 flow m ∷ exactRow 6 image n ∷ [])) pixels-due pairs-due
+
+  pub pairs-few : pairsDue t ≤ 2097152
+  pairs-few = go (sizeAllowed (t .width) (t .height)) refl
+    where
+      go : (b : Bool) → sizeAllowed (t .width) (t .height) ≡ b → cond b (pairsOf t) 0 ≤ 2097152
+      go true h = allowed-size h .pairs
+      go false h = omega arith
+
+  -- the rows below need to be right only for an allowed size
+  pub under-terms : (lower : List Row) {v a b : Verdict} → v ≡ decided a b Verdict.Refuse → a ≡ firstRefusal termsRows →
+      (sizeAllowed (t .width) (t .height) ≡ true → b ≡ firstRefusal lower) → v ≡ firstRefusal (termsRows ++ lower)
+  under-terms lower {v} {a} {b} e f g =
+      e
+      ∙ ap (λ (x : Verdict). decided x b Verdict.Refuse) f
+      ∙ go (firstRefusal termsRows) refl
+      ∙ sym (firstRefusal-append termsRows lower)
+    where
+      go : (x : Verdict) → firstRefusal termsRows ≡ x → decided x b Verdict.Refuse ≡ decided x (firstRefusal lower) Verdict.Refuse
+      go Verdict.Accept h = g (accepted-terms t h .size)
+      go (Verdict.Refuse number place) h = refl
