@@ -4,6 +4,7 @@ use mathlib.Core.List.{List}
 use mathlib.Core.Logic.{_↔_}
 use mathlib.Core.Bool.{Bool, cond}
 use Prim.Native.Nat.{ℕ, _*_}
+use native.Mathlib.Omega.{arith}
 use borrow.Author.Needs.{needs}
 use lib.IntN.{ℤ, pos}
 use lib.ListN.{length, replicate}
@@ -75,7 +76,7 @@ quick-rounds-requires c κs =
     record {
       limits = limits _ (a .terms);
       lengths = record { samples-length = a .samples-length; flow-length = a .flow-length; image-length = a .image-length };
-      quick-most = a .quick-most;
+      quick-most = omega (arith, a .quick-most);
       work-length = a .work-length ∙ ap (λ (n : ℕ). 2 * n) (sym (a .flow-length));
     }
 
