@@ -13,7 +13,8 @@ use Rattle.raster.specs.Whole.{rowStep, gridStep}
 use Rattle.runs.proofs.Fill.{table-cong}
 use Rattle.raster.proofs.Runs.{Stretch, row-pair, vertical-pair, horizontal-pair}
 use Rattle.raster.proofs.Whole.{vertical}
-use Rattle.advance.specs.Ahead.{aheadOf, aheadAt, rowAhead, gridAhead}
+use Rattle.momentum.specs.Reciprocal.{aheadOf}
+use Rattle.advance.specs.Ahead.{aheadAt, rowAhead, gridAhead}
 
 -- a table of n numbers, whose count is known by another name
 sized : {size : ℕ} (n : ℕ) {g g′ : ℕ → ℤ} → size ≡ n → ((i : ℕ) → i < n → g i ≡ g′ i) → table size g ≡ table n g′

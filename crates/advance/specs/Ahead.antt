@@ -2,17 +2,13 @@
 use mathlib.Core.List.{List}
 use mathlib.Core.Path.{_≡_}
 use Prim.Native.Nat.{ℕ, _^_, _≤_}
-use lib.IntN.{ℤ, pos, natAbs, _+ℤ_, _-ℤ_, _*ℤ_}
+use lib.IntN.{ℤ, natAbs}
 use lib.ListN.{length}
-use Rattle.integers.specs.Whole.{quotient}
 use Rattle.model.specs.Lists.{at}
+use Rattle.momentum.specs.Reciprocal.{aheadOf}
 use Rattle.runs.specs.Limits.{Within, StepLimits}
 use Rattle.runs.specs.Run.{stepAt}
 use Rattle.raster.specs.Whole.{rowStep, AcrossLimits, gridStep, GridLimits}
-
--- a number ahead of now, by the change since earlier times m / 2⁴⁶, rounded toward zero
-abbrev pub aheadOf : ℕ → ℤ → ℤ → ℤ
-aheadOf m earlier now = now +ℤ quotient ((now -ℤ earlier) *ℤ pos m) (pos 70368744177664)
 
 -- the number ahead of pair j of a run, from the flow and the numbers ahead so far
 abbrev pub aheadAt : ℤ → ℕ → List ℤ → List ℤ → List ℤ → ℕ → ℕ → ℤ

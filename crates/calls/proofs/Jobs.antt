@@ -21,7 +21,7 @@ use Rattle.model.proofs.Bounds.{value-least, value-most, image-inside}
 use Rattle.runs.specs.Limits.{Within, MisfitLimits}
 use Rattle.raster.specs.Whole.{RasterLimits, WorkLimits}
 use Rattle.runs.proofs.Elements.{within-below}
-use Rattle.raster.proofs.Model.{value-at}
+use Rattle.model.proofs.Answers.{held-image}
 
 module _ (t : Terms) (samples : List ℕ) where
   pub with-bytes : TermsAllowed t → t .high < 256 → ((i : ℕ) → getD samples i 0 < 256) → Bounds.Allowed t samples
@@ -68,7 +68,7 @@ module _ (t : Terms) (samples : List ℕ) where
 
         pub image-inside-box : InBox (grid t samples) (at values)
         image-inside-box i l =
-            subst (λ (x : ℤ). (grid t samples .low ≤ℤ x) × (x ≤ℤ grid t samples .high)) (sym (value-at t samples flow e i l))
+            subst (λ (x : ℤ). (grid t samples .low ≤ℤ x) × (x ≤ℤ grid t samples .high)) (sym (held-image t samples flow e i l))
             (image-inside t samples ok (at flow) i l)
 
         pub work-limits : WorkLimits (t .width) (t .height) (pairsOf t) flow values

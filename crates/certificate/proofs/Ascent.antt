@@ -11,30 +11,9 @@ use Rattle.integers.specs.Sum.{total}
 use Rattle.integers.proofs.Parts.{parts, whole, by-≡, by-≤, of-≤}
 use Rattle.integers.proofs.Ring.{+ℤ-*ℤ}
 use Rattle.integers.proofs.Order.{≤ℤ-trans, *ℤ-mono, 0≤pos, ≤→pos, ≡→≤ℤ, square-nonneg, *ℤ-nonneg}
-use Rattle.integers.proofs.Total.{
-  total-cong,
-  total-+ℤ,
-  total--ℤ,
-  total-*ℤ,
-  total-*ℤʳ,
-  total-exchange,
-  total-mono,
-  total-nonneg,
-  total-pick,
-}
+use Rattle.integers.proofs.Total.{total-cong, total-+ℤ, total--ℤ, total-*ℤ, total-*ℤʳ, total-exchange, total-mono, total-nonneg, total-pick}
 use Rattle.integers.proofs.Cauchy.{cauchy-schwarz-signs}
-use Rattle.model.specs.Problem.{
-  Problem,
-  pairCount,
-  firstOf,
-  secondOf,
-  fall,
-  misfit,
-  pull,
-  image,
-  floor,
-  distance,
-}
+use Rattle.model.specs.Problem.{Problem, pairCount, firstOf, secondOf, fall, misfit, pull, image, floor, distance}
 use Rattle.model.proofs.Degree.{countWhere, degree}
 use Rattle.certificate.proofs.Lagrangian.{Sound, adjoint, lagrangian, floor-is, image-in-box, minimum}
 

@@ -8,20 +8,7 @@ use lib.IntN.{ℤ, pos, _+ℤ_, _-ℤ_, _*ℤ_}
 use Rattle.integers.specs.Whole.{abs, square, clamp}
 use Rattle.integers.specs.Sum.{total}
 use Rattle.integers.proofs.Total.{total-cong}
-use Rattle.model.specs.Problem.{
-  Problem,
-  pairCount,
-  firstOf,
-  secondOf,
-  fall,
-  misfit,
-  price,
-  pull,
-  image,
-  floor,
-  slack,
-  distance,
-}
+use Rattle.model.specs.Problem.{Problem, pairCount, firstOf, secondOf, fall, misfit, price, pull, image, floor, slack, distance}
 use Rattle.certificate.proofs.Lagrangian.{Sound}
 
 -- the same at every index below n

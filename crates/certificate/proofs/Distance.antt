@@ -8,19 +8,7 @@ use Rattle.integers.specs.Sum.{total}
 use Rattle.integers.proofs.Parts.{parts, whole, by-≡, by-≤, of-≤, of-≡}
 use Rattle.integers.proofs.Order.{≤ℤ-trans, ≤ℤ-antisym, square-nonneg, square-zero}
 use Rattle.integers.proofs.Total.{total--ℤ, total-nonneg, total-zero-term}
-use Rattle.model.specs.Problem.{
-  Problem,
-  pairCount,
-  fall,
-  misfit,
-  price,
-  Feasible,
-  image,
-  floor,
-  slack,
-  InBox,
-  distance,
-}
+use Rattle.model.specs.Problem.{Problem, pairCount, fall, misfit, price, Feasible, image, floor, slack, InBox, distance}
 use Rattle.certificate.specs.Demand.{Figures, Certified}
 use Rattle.certificate.proofs.Lagrangian.{Sound, floor-is, below-price, image-in-box, minimum}
 use Rattle.certificate.proofs.Congruence.{Agree, price-cong, distance-cong}

@@ -18,22 +18,7 @@ use Rattle.integers.proofs.Clamp.{clamp-scale}
 use Rattle.integers.proofs.Total.{total-cong, total-*ℤ}
 use Rattle.model.specs.Lists.{at}
 use Rattle.model.specs.Calls.{Answer}
-use Rattle.model.specs.Problem.{
-  Problem,
-  pairCount,
-  firstOf,
-  secondOf,
-  fall,
-  misfit,
-  price,
-  Feasible,
-  pull,
-  image,
-  floor,
-  slack,
-  divided,
-  times,
-}
+use Rattle.model.specs.Problem.{Problem, pairCount, firstOf, secondOf, fall, misfit, price, Feasible, pull, image, floor, slack, divided, times}
 use Rattle.certificate.specs.Demand.{Figures, Certificate}
 use Rattle.certificate.proofs.Lagrangian.{Sound}
 use Rattle.certificate.proofs.Distance.{certified-figures}

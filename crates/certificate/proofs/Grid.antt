@@ -15,23 +15,7 @@ use Rattle.model.specs.declared.Terms.{Terms}
 use Rattle.model.specs.declared.Rounds.{Rounds}
 use Rattle.model.specs.Grid.{lowEnd, highEnd, grid}
 use Rattle.model.specs.Rounds.{eighth, quickStart, quickRound, quickRounds}
-use Rattle.model.specs.Calls.{
-  Outcome,
-  checked,
-  settled,
-  spent,
-  Answer,
-  pairsOf,
-  imageOf,
-  figuresOf,
-  checkAnswer,
-  checkImage,
-  quickFlow,
-  ending,
-  runAnswer,
-  runFlow,
-  runImage,
-}
+use Rattle.model.specs.Calls.{Outcome, checked, settled, spent, Answer, pairsOf, imageOf, figuresOf, checkAnswer, checkImage, quickFlow, ending, runAnswer, runFlow, runImage}
 use Rattle.model.specs.Accepted.{CheckAllowed, RunAllowed}
 use Rattle.model.proofs.Pairs.{neighbours, first-inside, second-inside}
 use Rattle.model.proofs.Degree.{degree, degree-at-most-4}

@@ -14,21 +14,7 @@ use Rattle.integers.proofs.Order.{+ℤ-mono, *ℤ-mono, 0≤pos}
 use Rattle.integers.proofs.Absolute.{pair-≤}
 use Rattle.integers.proofs.Clamp.{clamp-≥, clamp-≤, clamp-variational}
 use Rattle.integers.proofs.Total.{total-cong, total-+ℤ, total--ℤ, total-*ℤ, total-*ℤʳ, total-exchange, total-mono, total-pick}
-use Rattle.model.specs.Problem.{
-  Problem,
-  pairCount,
-  firstOf,
-  secondOf,
-  fall,
-  misfit,
-  price,
-  Feasible,
-  pull,
-  image,
-  floor,
-  InBox,
-  distance,
-}
+use Rattle.model.specs.Problem.{Problem, pairCount, firstOf, secondOf, fall, misfit, price, Feasible, pull, image, floor, InBox, distance}
 
 -- A pair system is sound if its box is not empty and its pairs are of its pixels
 pub record Sound (p : Problem) : Type 0 where

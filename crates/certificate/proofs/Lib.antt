@@ -1,5 +1,14 @@
 -- The certificate, for any pair system.
---     Lagrangian  the function whose minimum over the box a flow's image is
+--     Lagrangian       the function whose minimum over the box a flow's image is
+--     Congruence       numbers that agree below the counts have the same price, image and floor
+--     Distance         the distance law, and its case of slack 0
+--     Division         whole divisions
+--     Ascent           what a change of the flow does to the floor
+--     Rounding         what a share of a fall gains, and when it is 0
+--     Step             one step
+--     Steady           steady rounds: their number, and where they settle
+--     Grid             all of it at document 01's grid, of what check and run give and leave
+--     Counterexamples  the statements altered, refuted
 pub mod Lagrangian
 pub mod Congruence
 pub mod Distance

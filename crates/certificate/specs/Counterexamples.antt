@@ -20,12 +20,12 @@ use Rattle.model.specs.Rounds.{eighth, quickRounds, Steady, steadyRounds}
 use Rattle.model.specs.Values.{one, pair}
 
 -- A statement and the same altered, each as a test that computes
-pub record Row : Type 0 where
+pub record Alteration : Type 0 where
   pub statement : Bool
   pub altered : Bool
 
-abbrev pub row : Bool → Bool → Row
-row s a = record { statement = s; altered = a }
+abbrev pub beside : Bool → Bool → Alteration
+beside s a = record { statement = s; altered = a }
 
 -- ---- Runs
 
@@ -84,27 +84,27 @@ settlesWhen r share p quick allowance =
 -- ---- Jobs, flows and images
 
 -- 2 by 1, samples 0 and 2, with a weight and a box
-abbrev pub twoByOne : ℕ → ℕ → ℕ → Problem
-twoByOne weight low high =
+abbrev pub scanTwoByOne : ℕ → ℕ → ℕ → Problem
+scanTwoByOne weight low high =
     grid (record { width = 2; height = 1; weight = weight; low = low; high = high }) (0 ∷ 2 ∷ [])
 
 -- 2 by 2: two such rows, which fall alike
-abbrev pub twoByTwo : ℕ → ℕ → ℕ → Problem
-twoByTwo weight low high =
+abbrev pub scanTwoByTwo : ℕ → ℕ → ℕ → Problem
+scanTwoByTwo weight low high =
     grid (record { width = 2; height = 2; weight = weight; low = low; high = high }) (0 ∷ 2 ∷ 0 ∷ 2 ∷ [])
 
 -- 3 by 1, samples 0, 0 and 2, weight 1
-abbrev pub threeByOne : Problem
-threeByOne = grid (record { width = 3; height = 1; weight = 1; low = 0; high = 255 }) (0 ∷ 0 ∷ 2 ∷ [])
+abbrev pub scanThreeByOne : Problem
+scanThreeByOne = grid (record { width = 3; height = 1; weight = 1; low = 0; high = 255 }) (0 ∷ 0 ∷ 2 ∷ [])
 
 -- 3 by 2, samples 0 1 0 above 2 1 2, weight 3
-abbrev pub threeByTwo : Problem
-threeByTwo =
+abbrev pub scanThreeByTwo : Problem
+scanThreeByTwo =
     grid (record { width = 3; height = 2; weight = 3; low = 0; high = 255 }) (0 ∷ 1 ∷ 0 ∷ 2 ∷ 1 ∷ 2 ∷ [])
 
 -- 4 by 1, weight 1, readings 22, 14, 7 and 0: no sample stands for these, but the laws are of any readings
-abbrev pub fourByOne : Problem
-fourByOne =
+abbrev pub readingsFourByOne : Problem
+readingsFourByOne =
     record {
       pixels = 4;
       reading = λ i. pos (getD (22 ∷ 14 ∷ 7 ∷ 0 ∷ []) i 0);
@@ -123,97 +123,98 @@ other a b = at (pair a b)
 
 -- ---- The table
 
-unfoldable pub distanceRows : List Row
+unfoldable pub distanceRows : List Alteration
 distanceRows =
-    let p : Problem = twoByOne 256 0 255 in
-    let narrow : Problem = twoByOne 7 1 1 in
-    let light : Problem = twoByOne 70 0 255 in
+    let p : Problem = scanTwoByOne 256 0 255 in
+    let narrow : Problem = scanTwoByOne 7 1 1 in
+    let light : Problem = scanTwoByOne 70 0 255 in
     let f : ℕ → ℤ = flow (pos 0) in
     let g : ℕ → ℤ = flow (negℤ (pos 252)) in
     -- half the slack
-    row (certified p f (other 256 256)) (close (quotient (slack p f) (pos 2)) p (image p f) (other 256 256))
+    beside (certified p f (other 256 256)) (close (quotient (slack p f) (pos 2)) p (image p f) (other 256 256))
     -- the image before the clamp: 0 512, as in the wider box, for 256 256
-    ∷ row (certified narrow f (other 256 256)) (close (slack narrow f) narrow (image p f) (other 256 256))
+    ∷ beside (certified narrow f (other 256 256)) (close (slack narrow f) narrow (image p f) (other 256 256))
     -- an image outside the box
-    ∷ row (certified narrow f (other 256 256)) (certified narrow f (other 0 512))
+    ∷ beside (certified narrow f (other 256 256)) (certified narrow f (other 0 512))
     -- R certified: P is −70 with slack 0, R is −71 with slack −740
-    ∷ row (certified light (start eighth light 2) (other 70 442)) (certified light (ahead eighth light 2) (other 70 442))
+    ∷ beside (certified light (start eighth light 2) (other 70 442)) (certified light (ahead eighth light 2) (other 70 442))
     -- the weight left out of price and slack: 64 at weight 256, −4016 at weight 1
-    ∷ row (certified p g (other 252 260)) (certified (twoByOne 1 0 255) g (other 252 260))
-    -- a slack above 0: the image 0 512 has the price of 0 0
-    ∷ row (alikeAtZero p f (other 0 0)) (alike p f (other 0 0))
+    ∷ beside (certified p g (other 252 260)) (certified (scanTwoByOne 1 0 255) g (other 252 260))
+    -- equal prices said to mean equal images at any slack: at slack 262144, where the statement claims nothing, the image
+    -- 0 512 has the price of 0 0
+    ∷ beside (alikeAtZero p f (other 0 0)) (alike p f (other 0 0))
     ∷ []
 
--- On division 2, the flow −252 with price 131104, floor 131040 and slack 64
-unfoldable pub divisionRows : List Row
+-- On division 3, the flow −252 with price 131104, floor 131040 and slack 64
+unfoldable pub divisionRows : List Alteration
 divisionRows =
-    let p : Problem = twoByOne 256 0 255 in
-    let q : Problem = divided 2 p in
+    let p : Problem = scanTwoByOne 256 0 255 in
+    let q : Problem = divided 3 p in
     let f : ℕ → ℤ = flow (negℤ (pos 252)) in
-    let g : ℕ → ℤ = times 2 f in
+    let g : ℕ → ℤ = times 3 f in
     -- k for k²
-    row (timesAsLarge 4 (price q (image q g)) (price p (image p f)))
-    (timesAsLarge 2 (price q (image q g)) (price p (image p f)))
-    ∷ row (timesAsLarge 4 (floor q g) (floor p f)) (timesAsLarge 2 (floor q g) (floor p f))
-    ∷ row (timesAsLarge 4 (slack q g) (slack p f)) (timesAsLarge 2 (slack q g) (slack p f))
-    -- the slack of the grid itself, against the image 512 512
-    ∷ row (certified q g (other 512 512)) (close (slack p f) q (image q g) (other 512 512))
+    beside (timesAsLarge 9 (price q (image q g)) (price p (image p f)))
+    (timesAsLarge 3 (price q (image q g)) (price p (image p f)))
+    ∷ beside (timesAsLarge 9 (floor q g) (floor p f)) (timesAsLarge 3 (floor q g) (floor p f))
+    ∷ beside (timesAsLarge 9 (slack q g) (slack p f)) (timesAsLarge 3 (slack q g) (slack p f))
+    -- the slack of the grid itself, against the image 768 768
+    ∷ beside (certified q g (other 768 768)) (close (slack p f) q (image q g) (other 768 768))
     ∷ []
 
 -- A settled slack is at most 28 × weight × pairs
-unfoldable pub settledRows : List Row
+unfoldable pub settledRows : List Alteration
 settledRows =
-    let p : Problem = twoByOne 256 0 255 in
-    let q : Problem = twoByOne 263 0 1 in
-    let two : Problem = twoByTwo 263 0 1 in
-    let narrow : Problem = twoByOne 256 1 1 in
+    let p : Problem = scanTwoByOne 256 0 255 in
+    let q : Problem = scanTwoByOne 263 0 1 in
+    let two : Problem = scanTwoByTwo 263 0 1 in
+    let narrow : Problem = scanTwoByOne 256 1 1 in
     -- 27 for 28: twelve quick rounds leave the flow −263 and the image 256 249, whose fall of 7 does not move it back
-    row (settledWithin (28 * (263 * 1)) q (run eighth q 12 0)) (settledWithin (27 * (263 * 1)) q (run eighth q 12 0))
+    beside (settledWithin (28 * (263 * 1)) q (run eighth q 12 0)) (settledWithin (27 * (263 * 1)) q (run eighth q 12 0))
     -- the weight left out: document 01's run, which settles with slack 36
-    ∷ row (settledWithin (28 * (256 * 1)) p (run eighth p 0 17)) (settledWithin (28 * 1) p (run eighth p 0 17))
+    ∷ beside (settledWithin (28 * (256 * 1)) p (run eighth p 0 17)) (settledWithin (28 * 1) p (run eighth p 0 17))
     -- the pairs left out: two of the four have the fall of 7
-    ∷ row (settledWithin (28 * (263 * 4)) two (run eighth two 12 0)) (settledWithin (28 * 263) two (run eighth two 12 0))
+    ∷ beside (settledWithin (28 * (263 * 4)) two (run eighth two 12 0)) (settledWithin (28 * 263) two (run eighth two 12 0))
     -- the slack before the clamp: settled at flow 0 with slack 0, but 262144 in the wider box
-    ∷ row (settledWithin (28 * (256 * 1)) narrow (run eighth narrow 0 0))
+    ∷ beside (settledWithin (28 * (256 * 1)) narrow (run eighth narrow 0 0))
     (settledWithin (28 * (256 * 1)) p (run eighth narrow 0 0))
     ∷ []
 
 -- 8 × moved is at most the slack of the flow that the quick rounds leave
-unfoldable pub movedRows : List Row
+unfoldable pub movedRows : List Alteration
 movedRows =
-    let p : Problem = twoByOne 125 0 255 in
-    let q : Problem = threeByTwo in
-    let r : Problem = fourByOne in
+    let p : Problem = scanTwoByOne 125 0 255 in
+    let q : Problem = scanThreeByTwo in
+    let r : Problem = readingsFourByOne in
     -- the slack of R: P is −112 with slack 7488, R is −125 with slack 0, and one round moves
-    row (movedWithin 8 p (start eighth p 2) (run eighth p 2 1)) (movedWithin 8 p (ahead eighth p 2) (run eighth p 2 1))
+    beside (movedWithin 8 p (start eighth p 2) (run eighth p 2 1)) (movedWithin 8 p (ahead eighth p 2) (run eighth p 2 1))
     -- 17 for 8: three quick rounds leave slack 16, and one round moves
-    ∷ row (movedWithin 8 q (start eighth q 3) (run eighth q 3 1)) (movedWithin 17 q (start eighth q 3) (run eighth q 3 1))
+    ∷ beside (movedWithin 8 q (start eighth q 3) (run eighth q 3 1)) (movedWithin 17 q (start eighth q 3) (run eighth q 3 1))
     -- 15 for 8, of the law for any readings (a search found no run of a job below 16): slack 44, and three rounds move a
     -- pair each
-    ∷ row (movedWithin 8 r (start eighth r 0) (run eighth r 0 3)) (movedWithin 15 r (start eighth r 0) (run eighth r 0 3))
+    ∷ beside (movedWithin 8 r (start eighth r 0) (run eighth r 0 3)) (movedWithin 15 r (start eighth r 0) (run eighth r 0 3))
     ∷ []
 
 -- A run settles whenever 8 × (allowance + 1) exceeds that slack
-unfoldable pub settlesRows : List Row
+unfoldable pub settlesRows : List Alteration
 settlesRows =
-    let p : Problem = threeByOne in
-    let q : Problem = threeByTwo in
-    let r : Problem = fourByOne in
+    let p : Problem = scanThreeByOne in
+    let q : Problem = scanThreeByTwo in
+    let r : Problem = readingsFourByOne in
     -- d / 8 rounded down: one quick round leaves the flow 0 −1 either way, with slack 2 and a fall of −1, which moves then
-    row (settlesWhen 8 eighth p 1 0) (settlesWhen 8 eighthDown p 1 0)
-    -- 17 and 15 for 8: the runs above, with one round fewer
-    ∷ row (settlesWhen 8 eighth q 3 0) (settlesWhen 17 eighth q 3 0)
-    ∷ row (settlesWhen 8 eighth r 0 2) (settlesWhen 15 eighth r 0 2)
+    beside (settlesWhen 8 eighth p 1 0) (settlesWhen 8 eighthDown p 1 0)
+    -- 17 and 15 for 8: the runs above, with one round fewer; at these slacks, 16 and 44, the statement claims nothing
+    ∷ beside (settlesWhen 8 eighth q 3 0) (settlesWhen 17 eighth q 3 0)
+    ∷ beside (settlesWhen 8 eighth r 0 2) (settlesWhen 15 eighth r 0 2)
     ∷ []
 
-unfoldable pub rows : List Row
+unfoldable pub rows : List Alteration
 rows = distanceRows ++ divisionRows ++ settledRows ++ movedRows ++ settlesRows
 
 -- Bounds met exactly
 unfoldable pub metExactly : List Bool
 metExactly =
-    let p : Problem = twoByOne 256 0 255 in
-    let q : Problem = twoByOne 263 0 1 in
+    let p : Problem = scanTwoByOne 256 0 255 in
+    let q : Problem = scanTwoByOne 263 0 1 in
     let f : ℕ → ℤ = flow (pos 0) in
     let g : ℕ → ℤ = flow (negℤ (pos 256)) in
     -- price + squared distance = other price + slack, 393216

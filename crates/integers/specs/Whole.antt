@@ -1,7 +1,6 @@
 -- Whole numbers without limits, as ℤ of the kit (`+ℤ`, `-ℤ`, `*ℤ`; `pos n` is the natural number n): absolute value,
 -- square, projection onto an interval, quotient rounded toward zero, and tests that compute.
-use mathlib.Core.Bool.{Bool, true, false, cond}
-use Prim.Native.Nat.{ℕ}
+use mathlib.Core.Bool.{Bool, false, cond}
 use lib.Dec.{eqb}
 use lib.IntN.{ℤ, pos, negsuc, natAbs, _*ℤ_}
 use lib.Signed.{ltZ, quotZ}

@@ -19,7 +19,7 @@ use Rattle.model.specs.Grid.{sizeAllowed}
 use Rattle.model.specs.Verdict.{left}
 use Rattle.model.specs.Calls.{Answer, refusal, pixelsOf, pairsOf, imageOf, checkVerdict, checkAnswer, checkImage, runVerdict, runAnswer, runImage}
 use Rattle.model.specs.Tape.{Progress, Parse, turned, whole, parse, ReadAnswer, readOf, readAnswer, readSamples, readFlow}
-use Rattle.tape_read.specs.declared.reading.ReadResult.{ReadResult}
+use Rattle.tape_read.specs.declared.read.ReadResult.{ReadResult}
 use Rattle.tape_read.specs.Answers.{readAnswerOf}
 use Rattle.model.specs.Program.{refusalText, jobAnswer, jobImage, answerText, readText}
 use Rattle.model.proofs.Lists.{length-table}

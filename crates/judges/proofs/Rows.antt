@@ -13,7 +13,7 @@ use Rattle.model.specs.Verdict.{Row, row, firstRefusal, decided}
 use Rattle.model.specs.Calls.{pixelsOf, pairsOf, sizeRow, weightRow, boxRow}
 use Rattle.model.proofs.Refusals.{firstRefusal-append}
 use Rattle.terms.proofs.Size.{allowed-size}
-use Rattle.terms.proofs.Accepted.{accepted-terms}
+use Rattle.terms.proofs.Accepted.{accepted-size}
 use Rattle.judges.specs.Lengths.{pixelsDue, pairsDue, lengthRows}
 
 -- a length that has to be exact
@@ -55,5 +55,5 @@ module _ (t : Terms) where
       ∙ sym (firstRefusal-append termsRows lower)
     where
       go : (x : Verdict) → firstRefusal termsRows ≡ x → decided x b Verdict.Refuse ≡ decided x (firstRefusal lower) Verdict.Refuse
-      go Verdict.Accept h = g (accepted-terms t h .size)
+      go Verdict.Accept h = g (accepted-size t h)
       go (Verdict.Refuse number place) h = refl

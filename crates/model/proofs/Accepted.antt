@@ -16,31 +16,9 @@ use Rattle.model.specs.Lists.{at, firstWhere}
 use Rattle.model.specs.Problem.{Feasible, InBox}
 use Rattle.model.specs.Grid.{Terms, sizeAllowed, weightAllowed, boxAllowed, lowEnd, highEnd, grid}
 use Rattle.model.specs.Verdict.{Verdict, Accept, Refuse, Row, firstRefusal, decided}
-use Rattle.model.specs.Calls.{
-  Rounds,
-  Answer,
-  refusal,
-  pixelsOf,
-  pairsOf,
-  sizeRow,
-  weightRow,
-  boxRow,
-  roundsRow,
-  lengthRow,
-  flowRow,
-  imageRow,
-  firstBeyond,
-  firstOutside,
-  figuresOf,
-  checkVerdict,
-  checkAnswer,
-  priceVerdict,
-  priceAnswer,
-  runVerdict,
-  runAnswer,
-}
-use Rattle.model.specs.Tape.{tapeOf, writeRows, writeVerdict, writeOf, writeAnswer}
-use Rattle.model.specs.Accepted.{TermsAllowed, CheckAllowed, PriceAllowed, RunAllowed, JobAllowed, WriteAllowed}
+use Rattle.model.specs.Calls.{Rounds, Answer, refusal, pixelsOf, pairsOf, sizeRow, weightRow, boxRow, roundsRow, lengthRow, flowRow, imageRow, firstBeyond, firstOutside, figuresOf, checkVerdict, checkAnswer, priceVerdict, priceAnswer, runVerdict, runAnswer}
+use Rattle.model.specs.Tape.{tapeOf, writeRows}
+use Rattle.model.specs.Accepted.{TermsAllowed, CheckAllowed, PriceAllowed, RunAllowed, WriteAllowed}
 use Rattle.model.proofs.Lists.{firstWhere-first}
 use Rattle.model.proofs.Refusals.{accepted, passed, accepted-rows, Numbered, refused-number}
 use Rattle.model.proofs.Bounds.{SizeLimits, size-limits}
@@ -141,7 +119,7 @@ flow-passes weight flow =
     )
 
 -- neither of two tests holds
-neither : (a b : Bool) → ((a || b) ≡ false) ↔ ((a ≡ false) × (b ≡ false))
+pub neither : (a b : Bool) → ((a || b) ≡ false) ↔ ((a ≡ false) × (b ≡ false))
 neither true b = (λ h. absurd (true≢false h), λ k. k .0)
 neither false b = (λ h. (refl, h), λ k. k .1)
 
@@ -158,11 +136,13 @@ image-passes t values =
 
 -- ---- the calls
 
--- what the number 0 says of an answer, it says of every answer that is equal
+-- what it says that a number is 0, it says of every number that is equal
+pub zero-by : {n m : ℕ} {A : Type 0} → n ≡ m → ((m ≡ 0) ↔ A) → (n ≡ 0) ↔ A
+zero-by e f = (λ z. f .0 (sym e ∙ z), λ k. e ∙ f .1 k)
+
+-- so of the number of an equal answer
 pub told : {a b : Answer} {A : Type 0} → a ≡ b → ((b .number ≡ 0) ↔ A) → (a .number ≡ 0) ↔ A
-told e f =
-    let n = ap (λ (x : Answer). x .number) e in
-    (λ z. f .0 (sym n ∙ z), λ k. n ∙ f .1 k)
+told e = zero-by (ap (λ (x : Answer). x .number) e)
 
 -- a call's number is 0 exactly when its rows accept, so exactly when what they ask holds
 number-allowed : (rows : List Row) → Numbered rows → (a : Answer) → a .number ≡ 0 → {A : Type 0} → ((firstRefusal rows ≡ Accept) ↔ A) →

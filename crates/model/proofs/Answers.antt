@@ -9,30 +9,7 @@ use Rattle.model.specs.Lists.{at, zeros}
 use Rattle.model.specs.Problem.{price, image}
 use Rattle.model.specs.Grid.{Terms, grid}
 use Rattle.model.specs.Verdict.{Verdict, decided, left}
-use Rattle.model.specs.Calls.{
-  Rounds,
-  Answer,
-  refusal,
-  figures,
-  checked,
-  settled,
-  spent,
-  pixelsOf,
-  pairsOf,
-  imageOf,
-  figuresOf,
-  checkVerdict,
-  checkAnswer,
-  checkImage,
-  priceVerdict,
-  priceAnswer,
-  ending,
-  runVerdict,
-  runAnswer,
-  runFlow,
-  runImage,
-  runWork,
-}
+use Rattle.model.specs.Calls.{Rounds, Answer, refusal, figures, checked, settled, spent, pixelsOf, pairsOf, imageOf, figuresOf, checkVerdict, checkAnswer, checkImage, priceVerdict, priceAnswer, ending, runVerdict, runAnswer, runFlow, runImage, runWork}
 use Rattle.model.proofs.Lists.{getD-table}
 
 module _ (t : Terms) (samples : List ℕ) (flow values : List ℤ) {v : Verdict} (h : checkVerdict t samples flow values ≡ v) where

@@ -7,7 +7,7 @@
 --     Degree      a pixel lies in at most 4 pairs
 --     Bounds      price, floor and slack of an allowed job fit 64 bits
 --     Answers     what check, price and run give and leave, by their verdict
---     Accepted    check, price and run are accepted exactly when terms, lengths and contents are allowed
+--     Accepted    check, price, run and write are accepted exactly when terms, lengths and contents are allowed
 pub mod Values
 pub mod Refusals
 pub mod Lists

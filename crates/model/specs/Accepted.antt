@@ -1,5 +1,6 @@
 -- What an accepted call has been lent: allowed terms, exact lengths and allowed contents, in the words of demand 2. That
--- a call is accepted exactly when this holds is proved in proofs/Accepted.antt, and stands in the calls' promises.
+-- a call is accepted exactly when this holds stands in the calls' promises (proved in proofs/Accepted.antt; of the tape in
+-- crate `roundtrip`).
 use mathlib.Core.List.{List}
 use mathlib.Core.Logic.{_⊎_}
 use mathlib.Core.Path.{_≡_}
@@ -60,7 +61,8 @@ pub record WriteAllowed (t : Terms) (r : Rounds) (samples : List ℕ) (numbers :
   pub job : JobAllowed t r samples numbers
   pub output-length : length (tapeOf t r samples numbers) ≤ length output
 
--- Read: the tape of such a job, and buffers that hold all its samples and a number for each pair
+-- Read: the tape of such a job, whose allowance is 0 to 65,535 (elsewhere its type says so), and buffers that hold all its
+-- samples and a number for each pair
 pub record ReadAllowed (tape samples : List ℕ) (flow : List ℤ) : Type 0 where
   pub terms : Terms
   pub rounds : Rounds

@@ -1,17 +1,17 @@
 -- The calls check, price and run: where each turns back, its answer, and what it leaves in each lent buffer. `Rounds`,
 -- declared in src/lib.rt, are the other numbers of a job: quick rounds and the allowance of steady rounds.
 use mathlib.Core.Bool.{not, _||_, cond}
-use mathlib.Core.List.{List, [], _∷_, _++_}
-use Prim.Native.Nat.{ℕ, _+_, _*_}
+use mathlib.Core.List.{List, [], _∷_}
+use Prim.Native.Nat.{ℕ, _*_}
 use lib.Dec.{eqb, ltb}
 use lib.IntN.{ℤ, pos, natAbs}
 use lib.ListN.{length}
 use lib.Signed.{ltZ}
 pub use Rattle.model.specs.declared.Rounds.{Rounds}
 use Rattle.model.specs.Lists.{at, zeros, table, firstWhere}
-use Rattle.model.specs.Problem.{Problem, pairCount, image, price, floor, slack}
+use Rattle.model.specs.Problem.{image, price, floor, slack}
 use Rattle.model.specs.Grid.{Terms, sizeAllowed, weightAllowed, boxAllowed, gridPairs, grid, lowEnd, highEnd}
-use Rattle.model.specs.Rounds.{eighth, Quick, quickRounds, Steady, steadyRounds}
+use Rattle.model.specs.Rounds.{eighth, quickRounds, Steady, steadyRounds}
 use Rattle.model.specs.Verdict.{Verdict, Row, row, firstRefusal, decided, left}
 
 -- How a call ended

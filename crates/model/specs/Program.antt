@@ -1,6 +1,6 @@
 -- The cleaning program: the text that it prints for the bytes that it reads.
 use mathlib.Core.Bool.{true, false, cond}
-use mathlib.Core.List.{List, [], _++_}
+use mathlib.Core.List.{List, _++_}
 use Prim.Native.Nat.{ℕ, _*_}
 use Prim.Native.String.{String}
 use lib.Dec.{ltb, eqb}
@@ -9,22 +9,7 @@ use lib.ListN.{length}
 use Rattle.model.specs.Lists.{at, zeros, chain}
 use Rattle.model.specs.Text.{ascii, decimal, signedDecimal}
 use Rattle.model.specs.Grid.{Terms, pixel}
-use Rattle.model.specs.Calls.{
-  Rounds,
-  Outcome,
-  refused,
-  checked,
-  settled,
-  spent,
-  Answer,
-  refusal,
-  pixelsOf,
-  pairsOf,
-  checkAnswer,
-  checkImage,
-  runAnswer,
-  runImage,
-}
+use Rattle.model.specs.Calls.{Outcome, refused, checked, settled, spent, Answer, refusal, pixelsOf, pairsOf, checkAnswer, checkImage, runAnswer, runImage}
 use Rattle.model.specs.Tape.{Progress, Parse, turned, whole, parse}
 
 -- the word of an outcome

@@ -10,17 +10,7 @@ pub use Rattle.model.specs.declared.Entry.the-variants.{End, Size, Weigh
 use Rattle.model.specs.Lists.{chain, overwritten, at}
 use Rattle.model.specs.Grid.{Terms}
 use Rattle.model.specs.Verdict.{Verdict, Accept, Refuse, Row, row, firstRefusal, left}
-use Rattle.model.specs.Calls.{
-  Rounds,
-  pixelsOf,
-  pairsOf,
-  sizeRow,
-  weightRow,
-  boxRow,
-  roundsRow,
-  lengthRow,
-  flowRow,
-}
+use Rattle.model.specs.Calls.{Rounds, pixelsOf, pairsOf, sizeRow, weightRow, boxRow, roundsRow, lengthRow, flowRow}
 
 -- ---- Numbers in bytes, lowest byte first
 

@@ -4,27 +4,11 @@
 -- it in every case.
 use mathlib.Core.List.{List, [], _∷_}
 use Prim.Native.Nat.{ℕ, _*_}
-use lib.IntN.{ℤ, pos, negsuc, negℤ}
+use lib.IntN.{ℤ, pos, negℤ}
 use Rattle.model.specs.Lists.{zeros}
 use Rattle.model.specs.Grid.{Terms, grid}
 use Rattle.model.specs.Rounds.{eighth, quickRounds}
-use Rattle.model.specs.Calls.{
-  Rounds,
-  Outcome,
-  checked,
-  settled,
-  spent,
-  Answer,
-  refusal,
-  figures,
-  pixelsOf,
-  pairsOf,
-  checkAnswer,
-  checkImage,
-  runAnswer,
-  runFlow,
-  runImage,
-}
+use Rattle.model.specs.Calls.{Rounds, checked, settled, spent, Answer, refusal, figures, pixelsOf, pairsOf, checkAnswer, checkImage, runAnswer, runFlow, runImage}
 use Rattle.model.specs.Tape.{tapeOf}
 use Rattle.model.specs.Text.{ascii}
 use Rattle.model.specs.Program.{programText}

@@ -1,16 +1,15 @@
 // The momentum T of the quick rounds, in 1/65,536.
 ghost use Prim.Native.Nat.{_+_, _*_, _^_, _≤_, _<_};
 ghost use mathlib.Core.Path.{_≡_};
-ghost use lib.IntN.{pos, natAbs, _+ℤ_, _-ℤ_, _*ℤ_};
-ghost use Rattle.integers.specs.Whole.{quotient};
+ghost use lib.IntN.{natAbs};
 ghost use Rattle.model.specs.Root.{root as theRoot};
 ghost use Rattle.model.specs.Rounds.{nextMomentum};
-ghost use Rattle.momentum.specs.Reciprocal.{Reciprocal};
+ghost use Rattle.momentum.specs.Reciprocal.{Reciprocal, aheadOf};
 use integers::signed;
 
 // The largest whole number whose square is at most n: the root lies from low on, within reach,
 // and each turn halves the reach.
-pub fn root(n: u64) -> u64
+fn root(n: u64) -> u64
     requires { ⌜ n < 2 ^ 62 ⌝ }
     ensures { λ r. ⌜ r ≡ theRoot n ⌝ }
 {
@@ -51,7 +50,7 @@ pub fn reciprocal(a: u64, b: u64) -> u64
 // toward zero.
 pub fn extrapolated(earlier: i32, now: i32, m: u64) -> i32
     requires { ⌜ (natAbs earlier ≤ 65280) × (natAbs now ≤ 65280) × (m ≤ 2 ^ 46) ⌝ }
-    ensures { λ r. ⌜ r ≡ now +ℤ quotient ((now -ℤ earlier) *ℤ pos m) (pos 70368744177664) ⌝ }
+    ensures { λ r. ⌜ r ≡ aheadOf m earlier now ⌝ }
 {
     let change = signed::sub(now, earlier);
     let size = signed::magnitude(change) as u64;

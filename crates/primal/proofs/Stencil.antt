@@ -1,9 +1,8 @@
 -- The pull that a pass gathers from a pixel's up to four pairs is the model's pull. Assumes nothing.
 use mathlib.Core.Path.{_≡_, refl, sym, ap, ap₂, _∙_, subst}
-use mathlib.Core.Bool.{Bool, true, false, cond}
+use mathlib.Core.Bool.{Bool, cond}
 use mathlib.Core.List.{List}
-use mathlib.Core.Logic.{_⊎_, inl, inr, ⊎-elim}
-use Prim.Native.Nat.{ℕ, zero, suc, _+_, _-_, _*_, _/_, _%_, _≤_, _<_}
+use Prim.Native.Nat.{ℕ, suc, _+_, _-_, _*_, _/_, _%_, _≤_, _<_}
 use native.Mathlib.Nat.{mul-le-mul-right, div-add-mod', add-mul-div-left, div-eq-of-lt}
 use native.Mathlib.Decide.{ℕ-discrete, decLt}
 use native.Mathlib.Omega.{arith}
@@ -14,9 +13,9 @@ use lib.ListN.{length, getD}
 use Rattle.integers.specs.Sum.{total}
 use Rattle.integers.proofs.Total.{total-cong, total-zeros, total-append, total-pick}
 use Rattle.model.specs.declared.Terms.{Terms}
-use Rattle.model.specs.Problem.{Pair, pairCount, firstOf, secondOf, pull}
+use Rattle.model.specs.Problem.{Pair, pull}
 use Rattle.model.specs.Grid.{pixel, gridPairs, grid}
-use Rattle.model.proofs.Pairs.{grid-count, vertical-pair, horizontal-at, horizontal-pixel, column-inside, row-inside}
+use Rattle.model.proofs.Pairs.{grid-count, vertical-pair, horizontal-at, horizontal-pixel, column-inside}
 use Rattle.primal.specs.Stencil.{rightPair, gathered}
 
 -- ---- sums in which one term counts, or none

@@ -1,5 +1,5 @@
--- The grid's definitions as a pass sees them: a pixel with its up to four pairs, a pair with its two pixels. That they are
--- the definitions of crate `model` is proved in proofs/Stencil.antt.
+-- The pull on a pixel as a pass sees it, from the pixel's up to four pairs. That it is the pull of crate `model` is proved in
+-- proofs/Stencil.antt.
 use mathlib.Core.Bool.{cond}
 use Prim.Native.Nat.{ℕ, _+_, _-_, _*_}
 use lib.Dec.{ltb}

@@ -1,25 +1,26 @@
 -- What the passes leave is what the model defines, on document 01's grid. Assumes nothing.
-use mathlib.Core.Path.{_≡_, refl, sym, ap, ap₂, _∙_, subst, fun-ext}
-use mathlib.Core.Bool.{Bool, not}
+use mathlib.Core.Path.{_≡_, sym, ap, ap₂, _∙_}
+use mathlib.Core.Bool.{not}
 use mathlib.Core.List.{List}
-use Prim.Native.Nat.{ℕ, _+_, _-_, _*_, _/_, _%_, _≤_, _<_}
+use Prim.Native.Nat.{ℕ, _+_, _-_, _*_, _/_, _%_, _<_}
 use native.Mathlib.Nat.{div-add-mod', div-lt-iff-lt-mul, mod-lt}
 use native.Mathlib.Omega.{arith}
 use lib.IntN.{ℤ, pos, negℤ, _+ℤ_, _-ℤ_, _*ℤ_}
-use lib.ListN.{length, getD}
+use lib.ListN.{getD}
 use Rattle.integers.specs.Whole.{abs, square, clamp, sameZ}
 use Rattle.integers.specs.Sum.{total}
-use Rattle.integers.proofs.Total.{total-cong, total-*ℤ}
+use Rattle.integers.proofs.Total.{total-cong}
 use Rattle.model.specs.declared.Terms.{Terms}
 use Rattle.model.specs.Lists.{at, table, firstWhere}
-use Rattle.model.specs.Problem.{Problem, pairCount, firstOf, secondOf, fall, misfit, price, pull, image, floor, slack}
-use Rattle.model.specs.Grid.{pixel, readingOf, lowEnd, highEnd, gridPairs, grid}
+use Rattle.model.specs.Problem.{pairCount, firstOf, secondOf, fall, misfit, pull, image}
+use Rattle.model.specs.Grid.{readingOf, lowEnd, highEnd, grid}
 use Rattle.model.specs.Rounds.{eighth, stepped, step, wouldMove, firstMoving}
 use Rattle.model.specs.Calls.{imageOf}
-use Rattle.model.proofs.Lists.{getD-table, length-table, firstWhere-cong}
+use Rattle.model.proofs.Answers.{held-image}
+use Rattle.model.proofs.Lists.{firstWhere-cong}
 use Rattle.model.proofs.Pairs.{neighbours, first-inside, second-inside}
 use Rattle.primal.specs.Image.{imageValue}
-use Rattle.stencil.specs.Pair.{stepValue, moves}
+use Rattle.stencil.specs.Pair.{stepValue}
 use Rattle.raster.specs.Whole.{gridStep, gridMoves, gridFall}
 use Rattle.runs.proofs.Fill.{table-cong}
 use Rattle.primal.proofs.Stencil.{pull-gathered}
@@ -45,9 +46,8 @@ module _ (t : Terms) (samples : List ℕ) where
       ∙ ap (pull (grid t samples) (at flow)) (div-add-mod' i (t .width))))
 
   module _ (flow : List ℤ) {values : List ℤ} (e : values ≡ imageOf t samples flow) where
-    pub value-at : (i : ℕ) → i < t .width * t .height → at values i ≡ image (grid t samples) (at flow) i
-    unfolding imageOf
-    value-at i l = ap (λ (v : List ℤ). at v i) e ∙ getD-table (t .width * t .height) (image (grid t samples) (at flow)) i (pos 0) l
+    value-at : (i : ℕ) → i < t .width * t .height → at values i ≡ image (grid t samples) (at flow) i
+    value-at = held-image t samples flow e
 
     -- the falls of the flow's image
     pub fall-is : (j : ℕ) → j < pairCount (grid t samples) → gridFall (t .width) (t .height) values j ≡ fall (grid t samples) (image (grid t samples) (at flow)) j

@@ -10,14 +10,15 @@ use Rattle.runs.specs.declared.pairs.Moving.{Moving}
 use Rattle.runs.specs.declared.pairs.Moving.the-variants.{At, Nothing}
 use Rattle.runs.specs.Run.{movingOf}
 use Rattle.runs.proofs.Moving.{nothing-is, at-is, nothing-moves, one-moves, first-is}
-use Rattle.runs.proofs.Search.{Passed, search-cong, passed-append, search-found, search-ended}
+use Rattle.model.proofs.Lists.{firstWhere-cong}
+use Rattle.runs.proofs.Search.{Passed, passed-append, search-found, search-ended}
 
 -- the answer of a search among n pairs
 abbrev pub answer : ℕ → (ℕ → Bool) → Moving
 answer n test = movingOf n (firstWhere n test)
 
 pub answer-cong : (n : ℕ) (s t : ℕ → Bool) → ((i : ℕ) → i < n → s i ≡ t i) → answer n s ≡ answer n t
-answer-cong n s t h = ap (movingOf n) (search-cong n h)
+answer-cong n s t h = ap (movingOf n) (firstWhere-cong n h)
 
 -- ---- what an answer says
 

@@ -1,9 +1,8 @@
--- The plain numbers of an answer are those of an equal answer, and what holds where an answer is accepted holds where the
--- number that is handed out is 0. Assumes nothing.
+-- The plain numbers of an answer are those of an equal answer, and what holds of the answer holds of what they tell.
+-- Assumes nothing.
 use mathlib.Core.Path.{_≡_, refl, sym, ap, ap₂, _∙_, subst}
 use mathlib.Core.Bool.{Bool, true, false, cond}
 use mathlib.Core.List.{List}
-use mathlib.Core.Logic.{_↔_}
 use Prim.Native.Nat.{ℕ, _*_}
 use native.Mathlib.Omega.{arith}
 use lib.IntN.{ℤ}
@@ -11,11 +10,11 @@ use lib.ListN.{take}
 use Rattle.model.specs.declared.Terms.{Terms}
 use Rattle.model.specs.declared.Rounds.{Rounds}
 use Rattle.model.specs.Problem.{Problem}
-use Rattle.model.specs.Calls.{Answer, pixelsOf, pairsOf}
+use Rattle.model.specs.Calls.{Outcome, refused, checked, settled, spent, Answer, pixelsOf, pairsOf}
 use Rattle.model.specs.Tape.{ReadAnswer, WriteAnswer}
 use Rattle.certificate.specs.Demand.{Certificate, RunDemand}
 use Rattle.roundtrip.specs.RoundTrip.{ReadsBack, WritesBack, flowCount}
-use Rattle.relief_c.specs.Plain.{Handed, HandedJob, HandedTape}
+use Rattle.relief_c.specs.Plain.{outcomeNumber, outcomeOf, told, Handed, HandedJob, HandedTape}
 
 -- price, check and run; the sign of a floor is read from its bits
 pub same : {number place outcome moved price : ℕ} {floor bits : ℤ} {slack : ℕ} {a b : Answer} → a ≡ b → bits ≡ floor → Handed number place outcome moved price floor slack a →
@@ -23,19 +22,35 @@ pub same : {number place outcome moved price : ℕ} {floor bits : ℤ} {slack : 
 same {number} {place} {outcome} {moved} {price} {floor} {bits} {slack} {a} {b} e f h =
     subst (λ (z : ℤ). Handed number place outcome moved price z slack b) (sym f) (subst (Handed number place outcome moved price floor slack) e h)
 
--- the number that is handed out, for the answer's
-module _ {n m : ℕ} (e : n ≡ m) where
-  pub allowed-by : {A : Type 0} → ((m ≡ 0) ↔ A) → (n ≡ 0) ↔ A
-  allowed-by k = (λ z. k .0 (sym e ∙ z), λ a. e ∙ k .1 a)
+-- an outcome is told by its number
+outcome-back : (o : Outcome) → outcomeOf (outcomeNumber o) ≡ o
+outcome-back refused = refl
+outcome-back checked = refl
+outcome-back settled = refl
+outcome-back spent = refl
 
-  -- demand 3, of an equal answer
-  module _ {a b : Answer} (same : a ≡ b) where
-    pub check-by : {p : Problem} {flow image : List ℤ} → (m ≡ 0 → Certificate p flow image a) → n ≡ 0 → Certificate p flow image b
-    check-by {p} {flow} {image} k z = subst (Certificate p flow image) same (k (sym e ∙ z))
+module _ {number place outcome moved price : ℕ} {floor : ℤ} {slack : ℕ} {a : Answer} (h : Handed number place outcome moved price floor slack a) where
+  -- the plain numbers tell the answer
+  told-is : told number place outcome moved price floor slack ≡ a
+  told-is = λ i.
+      record {
+        outcome = (ap outcomeOf (h .outcome) ∙ outcome-back (a .outcome)) i;
+        number = h .number i;
+        place = h .place i;
+        moved = h .moved i;
+        price = h .price i;
+        floor = h .floor i;
+        slack = h .slack i;
+      }
 
-    pub run-by : {t : Terms} {r : Rounds} {samples : List ℕ} {flow image : List ℤ} → (m ≡ 0 → RunDemand t r samples flow image a) → n ≡ 0 →
-        RunDemand t r samples flow image b
-    run-by {t} {r} {samples} {flow} {image} k z = subst (RunDemand t r samples flow image) same (k (sym e ∙ z))
+  -- demand 3, of the numbers that are handed out
+  pub check-by : {p : Problem} {flow image : List ℤ} → (a .number ≡ 0 → Certificate p flow image a) → number ≡ 0 →
+      Certificate p flow image (told number place outcome moved price floor slack)
+  check-by {p} {flow} {image} k z = subst (Certificate p flow image) (sym told-is) (k (sym (h .number) ∙ z))
+
+  pub run-by : {t : Terms} {r : Rounds} {samples : List ℕ} {flow image : List ℤ} → (a .number ≡ 0 → RunDemand t r samples flow image a) → number ≡ 0 →
+      RunDemand t r samples flow image (told number place outcome moved price floor slack)
+  run-by {t} {r} {samples} {flow} {image} k z = subst (RunDemand t r samples flow image) (sym told-is) (k (sym (h .number) ∙ z))
 
 -- read
 module _ {number place : ℕ} {t : Terms} {r : Rounds} {w : ℕ} {a : ReadAnswer} (h : HandedJob number place t r w a) where

@@ -1,7 +1,7 @@
 -- A job's terms and rounds from plain numbers, and an answer as plain numbers.
 use mathlib.Core.Bool.{cond}
 use mathlib.Core.Path.{_≡_}
-use Prim.Native.Nat.{ℕ}
+use Prim.Native.Nat.{ℕ, zero, suc}
 use lib.IntN.{ℤ, pos}
 use Rattle.model.specs.declared.Terms.{Terms}
 use Rattle.model.specs.declared.Rounds.{Rounds}
@@ -21,6 +21,25 @@ outcomeNumber refused = 0
 outcomeNumber checked = 1
 outcomeNumber settled = 2
 outcomeNumber spent = 3
+
+abbrev pub outcomeOf : ℕ → Outcome
+outcomeOf zero = refused
+outcomeOf (suc zero) = checked
+outcomeOf (suc (suc zero)) = settled
+outcomeOf (suc (suc (suc n))) = spent
+
+-- the answer that plain numbers tell
+abbrev pub told : (number place outcome moved price : ℕ) (floor : ℤ) (slack : ℕ) → Answer
+told number place outcome moved price floor slack =
+    record {
+      outcome = outcomeOf outcome;
+      number = number;
+      place = place;
+      moved = moved;
+      price = pos price;
+      floor = floor;
+      slack = pos slack;
+    }
 
 -- What price, check and run hand out: the plain numbers n, q, o, m, p, f and s are those of an answer
 pub record Handed (n q o m p : ℕ) (f : ℤ) (s : ℕ) (a : Answer) : Type 0 where

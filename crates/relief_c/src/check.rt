@@ -8,7 +8,7 @@ ghost use mathlib.Core.Logic.{_↔_};
 ghost use Rattle.model.specs.Calls.{checkAnswer, checkImage};
 ghost use Rattle.model.specs.Accepted.{CheckAllowed};
 ghost use Rattle.certificate.specs.Demand.{CheckDemand};
-ghost use Rattle.relief_c.specs.Plain.{termsOf, Handed};
+ghost use Rattle.relief_c.specs.Plain.{termsOf, told, Handed};
 
 #[no_mangle]
 pub extern "C" fn relief_check(
@@ -30,7 +30,7 @@ pub extern "C" fn relief_check(
     ensures { λ r. ⌜ Handed r (now (place .exit)) (now (outcome .exit)) (now (moved .exit)) (now (price .exit)) (now (floor .exit)) (now (slack .exit)) (checkAnswer (termsOf width height weight low high) (now (samples .entry)) (now (flow .entry)) (now (image .entry))) ⌝ }
     ensures { λ _. ⌜ now (image .exit) ≡ checkImage (termsOf width height weight low high) (now (samples .entry)) (now (flow .entry)) (now (image .entry)) ⌝ }
     ensures { λ r. ⌜ ((r ≡ 0) ↔ CheckAllowed (termsOf width height weight low high) (now (samples .entry)) (now (flow .entry)) (now (image .entry))) ⌝ }
-    ensures { λ r. ⌜ (r ≡ 0 → CheckDemand (termsOf width height weight low high) (now (samples .entry)) (now (flow .entry)) (now (image .exit)) (checkAnswer (termsOf width height weight low high) (now (samples .entry)) (now (flow .entry)) (now (image .entry)))) ⌝ }
+    ensures { λ r. ⌜ (r ≡ 0 → CheckDemand (termsOf width height weight low high) (now (samples .entry)) (now (flow .entry)) (now (image .exit)) (told r (now (place .exit)) (now (outcome .exit)) (now (moved .exit)) (now (price .exit)) (now (floor .exit)) (now (slack .exit)))) ⌝ }
 {
     let t = Terms {
         width,

@@ -2,8 +2,8 @@
 
 use model::Rounds;
 use model::Terms;
-use tape_read::ReadResult;
-use tape_read::read;
+use tape_read::read::ReadResult;
+use tape_read::read::read;
 ghost use mathlib.Core.Path.{_≡_};
 ghost use mathlib.Core.Logic.{_↔_};
 ghost use Prim.Native.Nat.{_*_};
@@ -40,9 +40,17 @@ fn job_of(a: ReadResult) -> Job
             flowed: flowed as u32,
         },
         ReadResult::Refused { number, place } => {
-            let none = records::tally::fresh();
-            let terms = none.terms;
-            let rounds = none.rounds;
+            let terms = Terms {
+                width: 0,
+                height: 0,
+                weight: 0,
+                low: 0,
+                high: 0,
+            };
+            let rounds = Rounds {
+                quick: 0,
+                allowance: 0,
+            };
             Job {
                 number,
                 place: place as u64,

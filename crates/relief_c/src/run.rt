@@ -9,7 +9,7 @@ ghost use mathlib.Core.Logic.{_↔_};
 ghost use Rattle.model.specs.Calls.{runAnswer, runFlow, runImage, runWork};
 ghost use Rattle.model.specs.Accepted.{RunAllowed};
 ghost use Rattle.certificate.specs.Demand.{RunDemand};
-ghost use Rattle.relief_c.specs.Plain.{termsOf, roundsOf, Handed};
+ghost use Rattle.relief_c.specs.Plain.{termsOf, roundsOf, told, Handed};
 
 #[no_mangle]
 pub extern "C" fn relief_run(
@@ -36,7 +36,7 @@ pub extern "C" fn relief_run(
     ensures { λ _. ⌜ now (image .exit) ≡ runImage (termsOf width height weight low high) (roundsOf quick allowance) (now (samples .entry)) (now (flow .entry)) (now (image .entry)) (now (work .entry)) ⌝ }
     ensures { λ _. ⌜ now (work .exit) ≡ runWork (termsOf width height weight low high) (roundsOf quick allowance) (now (samples .entry)) (now (flow .entry)) (now (image .entry)) (now (work .entry)) ⌝ }
     ensures { λ r. ⌜ ((r ≡ 0) ↔ RunAllowed (termsOf width height weight low high) (roundsOf quick allowance) (now (samples .entry)) (now (flow .entry)) (now (image .entry)) (now (work .entry))) ⌝ }
-    ensures { λ r. ⌜ (r ≡ 0 → RunDemand (termsOf width height weight low high) (roundsOf quick allowance) (now (samples .entry)) (now (flow .exit)) (now (image .exit)) (runAnswer (termsOf width height weight low high) (roundsOf quick allowance) (now (samples .entry)) (now (flow .entry)) (now (image .entry)) (now (work .entry)))) ⌝ }
+    ensures { λ r. ⌜ (r ≡ 0 → RunDemand (termsOf width height weight low high) (roundsOf quick allowance) (now (samples .entry)) (now (flow .exit)) (now (image .exit)) (told r (now (place .exit)) (now (outcome .exit)) (now (moved .exit)) (now (price .exit)) (now (floor .exit)) (now (slack .exit)))) ⌝ }
 {
     let t = Terms {
         width,

@@ -2,8 +2,8 @@
 
 use model::Rounds;
 use model::Terms;
-use tape_write::WriteResult;
-use tape_write::write;
+use tape_write::write::WriteResult;
+use tape_write::write::write;
 ghost use mathlib.Core.Path.{_≡_};
 ghost use mathlib.Core.Logic.{_↔_};
 ghost use lib.ListN.{take};

@@ -23,7 +23,8 @@ use Rattle.runs.proofs.Elements.{within-table}
 use Rattle.runs.proofs.Fill.{table-cong}
 use Rattle.raster.proofs.Model.{step-is, stepped-is}
 use Rattle.momentum.specs.Reciprocal.{Reciprocal}
-use Rattle.advance.specs.Ahead.{aheadOf, gridAhead}
+use Rattle.momentum.specs.Reciprocal.{aheadOf}
+use Rattle.advance.specs.Ahead.{gridAhead}
 use Rattle.rounds.specs.Ready.{held}
 use Rattle.momentum.proofs.Bounds.{extrapolate-is}
 

@@ -17,7 +17,7 @@ use Rattle.primal.specs.Limits.{ImageLimits}
 use Rattle.primal.specs.Image.{imageValue}
 use Rattle.raster.specs.Whole.{GridLimits}
 use Rattle.raster.proofs.Model.{image-is}
-use Rattle.rounds.specs.Ready.{JobLimits}
+use Rattle.model.specs.Accepted.{TermsAllowed}
 use Rattle.rounds.proofs.Model.{image-most}
 
 -- an image has a value for each pixel
@@ -25,7 +25,7 @@ pub image-size : (t : Terms) (samples : List ℕ) (flow : List ℤ) {values : Li
 unfolding imageOf
 image-size t samples flow e = ap length e ∙ length-table (t .width * t .height) (image (grid t samples) (at flow))
 
-module _ (t : Terms) (samples : List ℕ) {flow values : List ℤ} (limits : JobLimits t)
+module _ (t : Terms) (samples : List ℕ) {flow values : List ℤ} (limits : TermsAllowed t)
     (flow-length : length flow ≡ length (gridPairs (t .width) (t .height))) (flow-most : Within (2 ^ 20) flow)
   where
     pub fill-limits : length samples ≡ t .width * t .height → length values ≡ t .width * t .height →

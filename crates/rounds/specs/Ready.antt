@@ -7,14 +7,8 @@ use lib.ListN.{length}
 use Rattle.model.specs.declared.Terms.{Terms}
 use Rattle.model.specs.Grid.{gridPairs}
 use Rattle.model.specs.Rounds.{Quick}
+use Rattle.model.specs.Accepted.{TermsAllowed}
 use Rattle.runs.specs.Limits.{Within}
-
--- an allowed size and weight
-pub record JobLimits (t : Terms) : Type 0 where
-  pub width-least : 1 ≤ t .width
-  pub height-least : 1 ≤ t .height
-  pub pixels-most : t .width * t .height ≤ 2 ^ 20
-  pub weight-most : t .weight ≤ 65280
 
 -- the lengths of the buffers
 pub record JobLengths (t : Terms) (samples : List ℕ) (flow image : List ℤ) : Type 0 where
@@ -24,7 +18,7 @@ pub record JobLengths (t : Terms) (samples : List ℕ) (flow image : List ℤ) :
 
 -- before a quick round: the flow P, the numbers ahead R, and T
 pub record QuickReady (t : Terms) (samples : List ℕ) (flow ahead image : List ℤ) (momentum : ℕ) : Type 0 where
-  pub limits : JobLimits t
+  pub limits : TermsAllowed t
   pub lengths : JobLengths t samples flow image
   pub same-length : length flow ≡ length ahead
   pub flow-most : Within 65280 flow
@@ -38,13 +32,13 @@ held flow ahead momentum = record { iterate = flow; extrapolated = ahead; moment
 
 -- before all quick rounds: an allowed number of them, and a work buffer of two halves
 pub record QuickJob (t : Terms) (quick : ℕ) (samples : List ℕ) (flow image work : List ℤ) : Type 0 where
-  pub limits : JobLimits t
+  pub limits : TermsAllowed t
   pub lengths : JobLengths t samples flow image
   pub quick-most : quick ≤ 4096
   pub work-length : length work ≡ 2 * length flow
 
 -- before steady rounds: a flow within the weight
 pub record SteadyReady (t : Terms) (samples : List ℕ) (flow image : List ℤ) : Type 0 where
-  pub limits : JobLimits t
+  pub limits : TermsAllowed t
   pub lengths : JobLengths t samples flow image
   pub flow-most : Within (t .weight) flow

@@ -1,12 +1,12 @@
 // Whole buffers: cleared, and copied.
 
 ghost use mathlib.Core.Path.{_≡_};
-ghost use lib.IntN.{pos};
-ghost use lib.ListN.{length, replicate};
+ghost use lib.ListN.{length};
+ghost use Rattle.model.specs.Lists.{zeros};
 
 // Only zeros.
 pub fn clear(buffer: &mut [i32])
-    ensures { λ _. ⌜ now (buffer .exit) ≡ replicate (length (now (buffer .entry))) (pos 0) ⌝ }
+    ensures { λ _. ⌜ now (buffer .exit) ≡ zeros (length (now (buffer .entry))) ⌝ }
 {
     let mut i = 0;
     while i < buffer.len() {

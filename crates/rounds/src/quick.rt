@@ -19,7 +19,7 @@ ghost use Rattle.rounds.specs.Left.{quickWork, quickImage};
 
 // One quick round on the flow, which holds P, and the numbers ahead, which are R: from the image of R.
 // Gives the next T.
-fn advance(
+fn advance_round(
     t: Terms,
     samples: &[u8],
     flow: &mut [i32],
@@ -68,7 +68,7 @@ fn quick_round(
 {
     let m = flow.len();
     buffers::copy(&mut work[..m], flow);
-    advance(t, samples, flow, &mut work[m..], image, momentum)
+    advance_round(t, samples, flow, &mut work[m..], image, momentum)
 }
 
 // Quick rounds from the start, P = R = 0 and T = 65,536: the flow gets P, the work buffer the earlier P

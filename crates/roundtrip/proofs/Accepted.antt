@@ -1,6 +1,6 @@
 -- An accepted tape is the bytes of the job that was read. Assumes nothing.
 use mathlib.Core.Path.{_≡_, refl, sym, ap, ap₂, _∙_, subst, subst⁻¹}
-use mathlib.Core.Bool.{Bool, true, false, _&&_, _||_, true≢false}
+use mathlib.Core.Bool.{Bool, true, false, _&&_, _||_}
 use mathlib.Core.List.{List, [], _∷_, _++_, append-nil, append-assoc}
 use mathlib.Core.Logic.{_⊎_, inl, inr, ⊎-elim}
 use Prim.Native.Nat.{ℕ, zero, suc, _+_, _≤_, _<_, zero-le}
@@ -25,6 +25,7 @@ use Rattle.model.specs.Tape.{known, decoded, encoded, Progress, nothing, allowe
 use Rattle.model.proofs.Lists.{last}
 use Rattle.model.proofs.Refusals.{accepted-row}
 use Rattle.model.proofs.Bounds.{both-true}
+use Rattle.model.proofs.Accepted.{neither}
 use Rattle.steps.specs.declared.Lent.{Lent}
 use Rattle.steps.specs.declared.Step.{Step}
 use Rattle.records.proofs.Digits.{four-fits}
@@ -80,10 +81,6 @@ header-only p e f =
     ∙ append-nil (headerBytes (p .header) (p .terms) (p .rounds) ++ [])
     ∙ append-nil (headerBytes (p .header) (p .terms) (p .rounds))
 
-either-false : (a b : Bool) → (a || b) ≡ false → (a ≡ false) × (b ≡ false)
-either-false true b h = absurd (true≢false h)
-either-false false b h = (refl, h)
-
 module _ (lent : Lent) (p : Progress) (s : Sound lent p) (o : ℕ) where
   abbrev Grown : Entry → Type 0
   Grown e = Sound lent (absorbed p e) × (soFar (absorbed p e) ≡ soFar p ++ encoded e)
@@ -103,7 +100,7 @@ module _ (lent : Lent) (p : Progress) (s : Sound lent p) (o : ℕ) where
   grown-size w h z v =
       let empty = s .early (omega arith) in
       let a = accepted-row _ _ v in
-      let b = either-false _ _ (accepted-row _ _ (a .1) .0) in (
+      let b = neither _ _ .0 (accepted-row _ _ (a .1) .0) in (
         record {
           header = omega arith;
           early = λ _. empty;

@@ -35,7 +35,7 @@ module _ (tape : List ℕ) (samples : List ℕ) (flow : List ℤ) where
     unfolding parse
     whole-parse h = ap judged e ∙ ap (λ (v : Verdict). unless v (whole p)) (passed _ _ (le-ltb _ _ h) ∙ accepted)
 
-  -- the answer and the buffers by the reading
+  -- the answer and the buffers by the parse
   module _ {r : Parse} (e : parse tape (length samples) (length flow) ≡ r) where
     pub answer-by : readAnswer tape samples flow ≡ readOf r
     unfolding readAnswer
@@ -63,7 +63,7 @@ turned-number tape lent (suc k) o p {n} {q} e = go (turn tape lent k o p) e (λ 
     go (Turn.done h z) w ih = let z : _≡_ {A = ℕ} 0 1 = cc in absurd (omega arith)
     go (Turn.more h v z) w ih = ih _ _ w
 
--- a reading that passed: the scan passed, and no number is beyond the weight
+-- a parse that passed: the scan passed, and no number is beyond the weight
 unless-whole : (p : Progress) (v : Verdict) {q : Progress} → unless v (whole p) ≡ whole q → (v ≡ Verdict.Accept) × (p ≡ q)
 unless-whole p Verdict.Accept e = (refl, cc)
 unless-whole p (Verdict.Refuse n o) e = (cc, cc)

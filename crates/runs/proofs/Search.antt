@@ -1,20 +1,14 @@
 -- A search from the front: the test failed at every index passed. A loop that looks for the first index at which a test
 -- holds has it for its invariant. Assumes nothing.
-use mathlib.Core.Path.{_≡_, refl, ap, ap₂, _∙_}
-use mathlib.Core.Bool.{Bool, true, false, cond}
-use Prim.Native.Nat.{ℕ, zero, suc, _+_, _-_, _<_}
+use mathlib.Core.Path.{_≡_, ap, _∙_}
+use mathlib.Core.Bool.{Bool, true, false}
+use Prim.Native.Nat.{ℕ, _+_, _-_, _<_}
 use native.Mathlib.Nat.{le-of-lt, le-refl, lt-irrefl}
 use native.Mathlib.Decide.{decLt}
 use native.Mathlib.Omega.{arith}
 use borrow.Author.Count.{below-none, below-more}
 use Rattle.model.specs.Lists.{firstWhere}
 use Rattle.model.proofs.Lists.{firstWhere-is}
-
--- the same answers below n make the same search
-pub search-cong : (n : ℕ) {s t : ℕ → Bool} → ((i : ℕ) → i < n → s i ≡ t i) → firstWhere n s ≡ firstWhere n t
-unfolding firstWhere
-search-cong zero h = refl
-search-cong (suc n) h = ap₂ (λ b k. cond b 0 (suc k)) (h 0 (omega arith)) (search-cong n (λ i l. h (suc i) (omega arith)))
 
 module _ (test : ℕ → Bool) where
   abbrev pub Passed : ℕ → Type 0

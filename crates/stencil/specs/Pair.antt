@@ -1,5 +1,5 @@
 -- What a step makes of one pair, from its number and its pixels' values. That this is the step of crate `model` is proved in
--- raster/proofs/Stencil.antt.
+-- raster/proofs/Model.antt.
 use mathlib.Core.Bool.{Bool, not}
 use lib.IntN.{ℤ, negℤ, _+ℤ_, _-ℤ_}
 use Rattle.integers.specs.Whole.{clamp, sameZ}

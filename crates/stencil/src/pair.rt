@@ -4,7 +4,6 @@ use integers::signed;
 ghost use mathlib.Core.Path.{_≡_};
 ghost use Prim.Native.Nat.{_+_, _^_, _<_};
 ghost use lib.IntN.{natAbs, _-ℤ_, _*ℤ_};
-ghost use Rattle.integers.specs.Whole.{clamp};
 ghost use Rattle.stencil.specs.Pair.{stepValue, moves};
 ghost use Rattle.stencil.specs.Limits.{PairLimits};
 

@@ -129,7 +129,7 @@ fn take(t: Tally, entry: Entry, next: Cursor, at: usize, lent: Lent) -> Step
 }
 
 // The record at an offset, read and taken.
-pub fn advance(tape: &[u8], at: usize, t: Tally, lent: Lent) -> Step
+pub fn take_record(tape: &[u8], at: usize, t: Tally, lent: Lent) -> Step
     requires { ⌜ (t .samples < 2 ^ 63) × (t .flows < 2 ^ 63) ⌝ }
     ensures { λ r. ⌜ r ≡ stepOf (now (tape .entry)) at t lent ⌝ }
 {

@@ -1,6 +1,5 @@
 -- The numbers of an accepted tape, where the code reads them. Assumes nothing.
 use mathlib.Core.Path.{_≡_, sym, ap, _∙_, subst}
-use mathlib.Core.Bool.{Bool}
 use mathlib.Core.List.{List}
 use Prim.Native.Nat.{ℕ, _+_, _*_, _<_}
 use native.Mathlib.Omega.{arith}
@@ -12,7 +11,7 @@ use Rattle.model.specs.declared.Entry.{Entry}
 use Rattle.model.specs.Lists.{at, table, firstWhere}
 use Rattle.model.specs.Calls.{firstBeyond}
 use Rattle.model.specs.Tape.{decoded, fromFour, Progress, tapeOf}
-use Rattle.model.proofs.Lists.{First, firstWhere-first, firstWhere-is, length-table, getD-table}
+use Rattle.model.proofs.Lists.{length-table, getD-table, firstWhere-cong}
 use Rattle.steps.specs.declared.Lent.{Lent}
 use Rattle.tape_read.specs.Places.{numberAt}
 use Rattle.steps.proofs.Turns.{entryAt}
@@ -25,17 +24,6 @@ table-list : {A : Type 0} (xs : List A) (g : ℕ → A) (d : A) → ((i : ℕ) �
 table-list xs g d e =
     ext-getD d (table (length xs) g) xs (length-table (length xs) g)
     (λ i h. let l : i < length xs = subst (λ (n : ℕ). i < n) (length-table (length xs) g) h in getD-table (length xs) g i d l ∙ e i l)
-
--- two tests that agree below n have one first index
-first-cong : (n : ℕ) {f g : ℕ → Bool} → ((i : ℕ) → i < n → f i ≡ g i) → firstWhere n f ≡ firstWhere n g
-first-cong n {f} {g} e =
-    let k : First n g (firstWhere n g) = firstWhere-first n g in
-    firstWhere-is n f (firstWhere n g)
-    (record {
-      within = k .within;
-      before = λ i h. e i (omega (arith, k .within)) ∙ k .before i h;
-      found = λ h. e (firstWhere n g) h ∙ k .found h;
-    })
 
 -- the number of a flow record
 number-here : (tape : List ℕ) (o : ℕ) (z : ℤ) → getD tape o 0 ≡ 5 → entryAt tape o ≡ Entry.Flow z → numberAt tape o ≡ z
@@ -79,4 +67,4 @@ module _ (tape : List ℕ) (lent : Lent) (byte : (i : ℕ) → getD tape i 0 < 2
   pub first-is : (w : ℕ) →
       firstWhere (length (p .flow)) (λ i. ltb w (natAbs (numberAt tape (15 + 2 * length (p .samples) + 5 * i)))) ≡ firstBeyond w (p .flow)
   unfolding firstBeyond
-  first-is w = first-cong (length (p .flow)) (λ i h. ap (λ (z : ℤ). ltb w (natAbs z)) (number-is i h))
+  first-is w = firstWhere-cong (length (p .flow)) (λ i h. ap (λ (z : ℤ). ltb w (natAbs z)) (number-is i h))

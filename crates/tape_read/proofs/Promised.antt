@@ -1,6 +1,6 @@
 -- What a call gave and left is the definition's; so it accepts exactly what is allowed, and the job that it left is written
 -- back. Assumes nothing.
-use mathlib.Core.Path.{_≡_, sym, ap, _∙_}
+use mathlib.Core.Path.{_≡_, ap}
 use mathlib.Core.Logic.{_↔_}
 use mathlib.Core.List.{List}
 use Prim.Native.Nat.{ℕ, _<_}
@@ -8,6 +8,7 @@ use lib.IntN.{ℤ}
 use lib.ListN.{getD, take}
 use Rattle.model.specs.Calls.{pixelsOf}
 use Rattle.model.specs.Tape.{ReadAnswer, readAnswer, readSamples, readFlow}
+use Rattle.model.proofs.Accepted.{zero-by}
 use Rattle.model.specs.Accepted.{ReadAllowed}
 use Rattle.roundtrip.specs.RoundTrip.{WritesBack, flowCount}
 use Rattle.roundtrip.proofs.RoundTrip.{read-number, left-writes-back}
@@ -22,4 +23,4 @@ pub promised : (tape samples : List ℕ) (flow : List ℤ) → ((i : ℕ) → ge
 promised tape samples flow byte e h k =
     let n = read-number tape byte samples flow in
     let same = ap (λ (b : ReadAnswer). b .number) e in
-    (e, (h, (k, ((λ z. n .0 (sym same ∙ z), λ a. same ∙ n .1 a), left-writes-back tape samples flow byte e h k))))
+    (e, (h, (k, (zero-by same n, left-writes-back tape samples flow byte e h k))))

@@ -1,7 +1,7 @@
 -- Document 01's numbers and values for each case of the answer that read gives.
 use mathlib.Core.Bool.{false}
 use Rattle.model.specs.Tape.{nothing, ReadAnswer}
-use Rattle.tape_read.specs.declared.reading.ReadResult.{ReadResult}
+use Rattle.tape_read.specs.declared.read.ReadResult.{ReadResult}
 
 -- Accepted: number and place are 0. Refused: zeros but for number and place
 abbrev pub readAnswerOf : ReadResult → ReadAnswer

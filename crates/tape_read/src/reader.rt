@@ -1,11 +1,11 @@
 // The tape's bytes and the offset of the next record, kept together. Each function over the struct is
-// thin: the work is done by `advance`, on the slice and the number.
+// thin: the work is done by `take_record`, on the slice and the number.
 
 use records::record::Cursor;
 use records::tally::Tally;
 use steps::Lent;
 use steps::Step;
-use steps::advance;
+use steps::take_record;
 ghost use mathlib.Core.Path.{_≡_};
 ghost use Prim.Native.Nat.{_<_, _^_};
 ghost use Rattle.steps.specs.Step.{stepOf};
@@ -27,7 +27,7 @@ pub fn next<'a>(r: Reader<'a>, t: Tally, lent: Lent) -> Step
     requires { ⌜ (t .samples < 2 ^ 63) × (t .flows < 2 ^ 63) ⌝ }
     ensures { λ s. ⌜ s ≡ stepOf (now (r .entry .tape)) (r .entry .at) t lent ⌝ }
 {
-    advance(r.tape, r.at, t, lent)
+    take_record(r.tape, r.at, t, lent)
 }
 
 // The reader moved on to the record at a cursor.

@@ -1,5 +1,5 @@
 -- What a call gave and left is the definition's; so it accepts exactly what is allowed, and its tape reads back. Assumes nothing.
-use mathlib.Core.Path.{_≡_, sym, ap, _∙_}
+use mathlib.Core.Path.{_≡_, ap}
 use mathlib.Core.List.{List}
 use mathlib.Core.Logic.{_↔_}
 use Prim.Native.Nat.{ℕ, _<_}
@@ -8,6 +8,7 @@ use lib.ListN.{take}
 use Rattle.model.specs.declared.Terms.{Terms}
 use Rattle.model.specs.declared.Rounds.{Rounds}
 use Rattle.model.specs.Tape.{WriteAnswer, writeAnswer, writeOutput}
+use Rattle.model.proofs.Accepted.{zero-by}
 use Rattle.model.specs.Accepted.{WriteAllowed}
 use Rattle.roundtrip.specs.RoundTrip.{ReadsBack}
 use Rattle.roundtrip.proofs.WriteRows.{write-number}
@@ -23,4 +24,4 @@ module _ (t : Terms) (r : Rounds) (samples : List ℕ) (numbers : List ℤ) (out
   promised small e h =
       let n = write-number t r samples numbers output in
       let same = ap (λ (b : WriteAnswer). b .number) e in
-      (e, (h, ((λ z. n .0 (sym same ∙ z), λ k. same ∙ n .1 k), left-reads-back t r samples numbers output small e h)))
+      (e, (h, (zero-by same n, left-reads-back t r samples numbers output small e h)))

@@ -1,8 +1,5 @@
 // Writing a job to a tape.
 //     lay      the records of a whole job
-//     writing  write
+//     write    write
 mod lay;
-mod writing;
-
-pub use writing::WriteResult;
-pub use writing::write;
+pub mod write;

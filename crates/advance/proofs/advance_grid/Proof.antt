@@ -1,4 +1,4 @@
--- `rounds::quick::advance_grid` meets its contract: the vertical pairs, then the rows. Assumes nothing.
+-- `advance::advance_grid` meets its contract: the vertical pairs, then the rows. Assumes nothing.
 use mathlib.Core.Path.{_≡_, sym, ap, _∙_}
 use mathlib.Core.List.{_++_}
 use Prim.Native.Nat.{_+_, _-_, _*_, _≤_}

@@ -1,4 +1,4 @@
--- `rounds::quick::advance_pairs` meets its contract. Assumes nothing.
+-- `advance::advance_pairs` meets its contract. Assumes nothing.
 use mathlib.Core.Path.{_≡_, ap, ap₂, _∙_}
 use mathlib.Core.List.{List}
 use Prim.Native.Nat.{ℕ, _+_, _-_}
@@ -17,7 +17,8 @@ use Rattle.runs.proofs.Elements.{element, pair-limits}
 use Rattle.raster.proofs.Steps.{step-most}
 use Rattle.runs.specs.Limits.{Within}
 use Rattle.runs.proofs.Fill.{Filling, filling-none, filling-more, filling-all, filling-rest}
-use Rattle.advance.specs.Ahead.{aheadOf, aheadAt}
+use Rattle.momentum.specs.Reciprocal.{aheadOf}
+use Rattle.advance.specs.Ahead.{aheadAt}
 use Rattle.advance.proofs.advance_pairs.Statement.{statement}
 use Rattle.advance.proofs.advance_pairs.Tie as tie
 

@@ -1,4 +1,4 @@
--- `rounds::quick::advance_rows` meets its contract. Assumes nothing.
+-- `advance::advance_rows` meets its contract. Assumes nothing.
 use mathlib.Core.Path.{_≡_, sym, ap, _∙_}
 use Prim.Native.Nat.{ℕ, _+_, _-_, _*_, _≤_}
 use native.Mathlib.Omega.{arith}

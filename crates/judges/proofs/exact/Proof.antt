@@ -1,4 +1,4 @@
--- `calls::judge::exact` meets its contract. Assumes nothing.
+-- `judges::exact` meets its contract. Assumes nothing.
 use mathlib.Core.Path.{sym, ap, _∙_}
 use mathlib.Core.Bool.{not}
 use mathlib.Core.List.{[]}

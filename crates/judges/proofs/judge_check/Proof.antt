@@ -1,4 +1,4 @@
--- `calls::judge::judge_check` meets its contract. Assumes nothing.
+-- `judges::judge_check` meets its contract. Assumes nothing.
 use mathlib.Core.Path.{_≡_, _∙_}
 use mathlib.Core.List.{List, [], _∷_, _++_}
 use Prim.Native.Nat.{ℕ}

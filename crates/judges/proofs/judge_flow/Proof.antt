@@ -1,4 +1,4 @@
--- `calls::judge::judge_flow` meets its contract. Assumes nothing.
+-- `judges::judge_flow` meets its contract. Assumes nothing.
 use mathlib.Core.Path.{sym, ap, subst, _∙_}
 use mathlib.Core.List.{[]}
 use Prim.Native.Nat.{ℕ, _<_, _≤_}

@@ -1,4 +1,4 @@
--- `calls::judge::judge_image` meets its contract. Assumes nothing.
+-- `judges::judge_image` meets its contract. Assumes nothing.
 use mathlib.Core.Path.{_≡_, sym, ap, ap₂, subst, _∙_}
 use mathlib.Core.Bool.{_||_}
 use mathlib.Core.List.{[]}

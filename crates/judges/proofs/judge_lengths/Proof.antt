@@ -1,4 +1,4 @@
--- `calls::judge::judge_lengths` meets its contract. Assumes nothing.
+-- `judges::judge_lengths` meets its contract. Assumes nothing.
 use mathlib.Core.Path.{ap, _∙_}
 use mathlib.Core.List.{[], _∷_}
 use Prim.Native.Nat.{ℕ}

@@ -1,4 +1,4 @@
--- `calls::judge::judge_price` meets its contract. Assumes nothing.
+-- `judges::judge_price` meets its contract. Assumes nothing.
 use mathlib.Core.Path.{_≡_, ap, _∙_}
 use mathlib.Core.List.{List, [], _∷_, _++_}
 use Prim.Native.Nat.{ℕ}

@@ -1,4 +1,4 @@
--- `calls::judge::judge_rounds` meets its contract. Assumes nothing.
+-- `judges::judge_rounds` meets its contract. Assumes nothing.
 use mathlib.Core.Path.{sym, _∙_}
 use mathlib.Core.List.{[]}
 use borrow.Author.Needs.{needs}

@@ -1,4 +1,4 @@
--- `calls::judge::judge_run` meets its contract. Assumes nothing.
+-- `judges::judge_run` meets its contract. Assumes nothing.
 use native.Mathlib.Omega.{arith}
 use mathlib.Core.Path.{ap, _∙_}
 use mathlib.Core.List.{[], _∷_, _++_}

@@ -1,4 +1,4 @@
--- `calls::judge::lengths_due` meets its contract. Assumes nothing.
+-- `judges::lengths_due` meets its contract. Assumes nothing.
 use mathlib.Core.Path.{sym, ap, _∙_}
 use mathlib.Core.Bool.{Bool, cond}
 use Rattle.model.specs.Calls.{pixelsOf, pairsOf}

@@ -1,4 +1,4 @@
--- `rounds::momentum::extrapolated` meets its contract, by the laws of Ahead.antt. Assumes nothing.
+-- `momentum::extrapolated` meets its contract, by the laws of Ahead.antt. Assumes nothing.
 use mathlib.Core.Path.{_≡_, refl, sym, ap, _∙_}
 use Prim.Native.Nat.{_≤_}
 use borrow.Author.Needs.{needs}

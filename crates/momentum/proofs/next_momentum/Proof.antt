@@ -1,4 +1,4 @@
--- `rounds::momentum::next_momentum` meets its contract: T below 2²⁹ has a square below 2⁵⁸. Assumes nothing.
+-- `momentum::next_momentum` meets its contract: T below 2²⁹ has a square below 2⁵⁸. Assumes nothing.
 use mathlib.Core.Path.{ap}
 use Prim.Native.Nat.{ℕ, _+_, _*_, _/_, _^_, _≤_, _<_}
 use native.Mathlib.Nat.{mul-le-mul}

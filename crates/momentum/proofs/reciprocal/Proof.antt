@@ -1,4 +1,4 @@
--- `rounds::momentum::reciprocal` meets its contract, by the laws of long division. Assumes nothing.
+-- `momentum::reciprocal` meets its contract, by the laws of long division. Assumes nothing.
 use borrow.Author.Needs.{needs}
 use native.Mathlib.Omega.{arith}
 use Rattle.momentum.proofs.Reciprocals.{rest-small, high-most, low-most, reciprocal-is}

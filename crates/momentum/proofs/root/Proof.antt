@@ -1,4 +1,4 @@
--- `rounds::momentum::root` meets its contract. The loop's invariant: the root lies from `low` on, below `low + reach`. The
+-- `momentum::root` meets its contract. The loop's invariant: the root lies from `low` on, below `low + reach`. The
 -- measure is the reach. Assumes nothing.
 use mathlib.Core.Path.{_≡_, subst}
 use Prim.Native.Nat.{ℕ, _+_, _*_, _/_, _^_, _≤_, _<_}

@@ -1,4 +1,4 @@
--- `raster::image::fill_image` meets its contract. Assumes nothing.
+-- `primal::fill_image` meets its contract. Assumes nothing.
 use mathlib.Core.Path.{_≡_, ap}
 use Prim.Native.Nat.{_+_, _-_, _*_, _≤_, _<_}
 use native.Mathlib.Nat.{zero-mul}

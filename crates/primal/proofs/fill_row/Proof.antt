@@ -1,4 +1,4 @@
--- `raster::image::fill_row` meets its contract. Assumes nothing.
+-- `primal::fill_row` meets its contract. Assumes nothing.
 use Prim.Native.Nat.{_*_}
 use native.Mathlib.Omega.{arith}
 use borrow.Author.Needs.{needs}

@@ -1,4 +1,4 @@
--- `tape::step::take` meets its contract. Assumes nothing.
+-- `steps::take` meets its contract. Assumes nothing.
 use mathlib.Core.Path.{_≡_, sym, ap, _∙_}
 use borrow.Author.Needs.{needs}
 use Rattle.model.specs.declared.Entry.{Entry}

@@ -1,4 +1,4 @@
--- `tape::step::take_rounds` meets its contract. Assumes nothing.
+-- `steps::take_rounds` meets its contract. Assumes nothing.
 use mathlib.Core.Path.{sym, _∙_}
 use borrow.Author.Needs.{needs}
 use borrow.Author.Tests.{not-true, not-false}

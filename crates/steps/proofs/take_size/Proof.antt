@@ -1,4 +1,4 @@
--- `tape::step::take_size` meets its contract. Assumes nothing.
+-- `steps::take_size` meets its contract. Assumes nothing.
 use mathlib.Core.Path.{_≡_, sym, ap, ap₂, _∙_}
 use mathlib.Core.Bool.{true, not, _||_}
 use Prim.Native.Nat.{ℕ, _*_}

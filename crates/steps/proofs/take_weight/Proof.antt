@@ -1,4 +1,4 @@
--- `tape::step::take_weight` meets its contract. Assumes nothing.
+-- `steps::take_weight` meets its contract. Assumes nothing.
 use mathlib.Core.Path.{sym, ap, _∙_}
 use mathlib.Core.Bool.{not}
 use borrow.Author.Needs.{needs}

@@ -11,20 +11,18 @@ use lib.ListN.{length, replicate}
 use mir.Syntax.{w64}
 use mir.Val.{toZ, ofZ}
 use Rattle.integers.proofs.Machine.{read}
-use Rattle.model.specs.declared.Terms.{Terms}
 use Rattle.model.specs.declared.Verdict.{Verdict}
 use Rattle.model.specs.Lists.{at}
 use Rattle.model.specs.Problem.{Feasible}
 use Rattle.model.specs.Grid.{grid}
 use Rattle.model.specs.Rounds.{eighth, steadyRounds}
 use Rattle.model.specs.Calls.{Outcome, figures, settled, spent, imageOf, figuresOf, quickFlow, ending, runVerdict, runAnswer, runFlow, runImage, runWork}
-use Rattle.model.specs.Accepted.{TermsAllowed, RunAllowed}
+use Rattle.model.specs.Accepted.{RunAllowed}
 use Rattle.model.proofs.Answers.{run-answer, run-flow, run-image, run-work}
 use Rattle.model.proofs.Accepted.{told, run-accepted, run-number}
 use Rattle.certificate.specs.Demand.{RunDemand}
 use Rattle.certificate.proofs.Grid.{run-demand, ending-flow}
 use Rattle.runs.specs.Limits.{Within}
-use Rattle.rounds.specs.Ready.{JobLimits}
 use Rattle.rounds.proofs.Kept.{iterate-size, iterate-within}
 use Rattle.calls.proofs.Objectives.{figured}
 use Rattle.calls.proofs.run.run.Statement.{statement}
@@ -67,14 +65,11 @@ facts c =
     let s = c .before .before .before .before in
     run-accepted (s .args .t) (s .args .r) (s .args .samples .now) (s .args .flow .now) (s .args .image .now) (s .args .work .now) .0 (accepted c)
 
-limits : (t : Terms) → TermsAllowed t → JobLimits t
-limits t a = record { width-least = a .width-least; height-least = a .height-least; pixels-most = a .pixels-most; weight-most = a .weight-most }
-
 quick-rounds-requires : tie.Need-quick-rounds-requires
 quick-rounds-requires c κs =
     let a = facts (c .before .before .before) in
     record {
-      limits = limits _ (a .terms);
+      limits = a .terms;
       lengths = record { samples-length = a .samples-length; flow-length = a .flow-length; image-length = a .image-length };
       quick-most = omega (arith, a .quick-most);
       work-length = a .work-length ∙ ap (λ (n : ℕ). 2 * n) (sym (a .flow-length));
@@ -99,7 +94,7 @@ steady-rounds-requires c κs =
     let t = s .args .t in
     let b = s .args .samples .now in
     record {
-      limits = limits t (a .terms);
+      limits = a .terms;
       lengths = record { samples-length = a .samples-length; flow-length = ap length (iterate q) ∙ iterate-size eighth (grid t b) (s .args .r .quick); image-length = c .before .before .before .before .before .before .image .given ∙ a .image-length };
       flow-most = subst (Within (t .weight)) (sym (iterate q)) (iterate-within t b (s .args .r .quick));
     }

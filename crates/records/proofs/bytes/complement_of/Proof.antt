@@ -1,4 +1,4 @@
--- `tape::bytes::complement_of` meets its contract. Assumes nothing.
+-- `records::bytes::complement_of` meets its contract. Assumes nothing.
 use mathlib.Core.Path.{_≡_, ap, sym, _∙_}
 use Prim.Native.Nat.{ℕ, suc, _-_, _^_, _<_}
 use native.Mathlib.Omega.{arith}

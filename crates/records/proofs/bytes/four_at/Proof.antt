@@ -1,4 +1,4 @@
--- `tape::bytes::four_at` meets its contract. Assumes nothing.
+-- `records::bytes::four_at` meets its contract. Assumes nothing.
 use mathlib.Core.Path.{_≡_, ap, _∙_}
 use mathlib.Core.List.{List}
 use Prim.Native.Nat.{ℕ, _+_, _*_}

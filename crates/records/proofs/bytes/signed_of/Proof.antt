@@ -1,4 +1,4 @@
--- `tape::bytes::signed_of` meets its contract. Assumes nothing.
+-- `records::bytes::signed_of` meets its contract. Assumes nothing.
 use mathlib.Core.Path.{_≡_, ap, sym, _∙_, subst⁻¹}
 use mathlib.Core.Bool.{Bool}
 use Prim.Native.Nat.{ℕ, suc, _-_, _^_, _≤_, _<_}

@@ -1,4 +1,4 @@
--- `tape::bytes::two_at` meets its contract. Assumes nothing.
+-- `records::bytes::two_at` meets its contract. Assumes nothing.
 use native.Mathlib.Omega.{arith}
 use borrow.Author.Needs.{needs}
 use Rattle.records.proofs.bytes.two_at.Statement.{statement}

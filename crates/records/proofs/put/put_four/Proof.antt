@@ -1,4 +1,4 @@
--- `tape::put::put_four` meets its contract. Assumes nothing.
+-- `records::put::put_four` meets its contract. Assumes nothing.
 use mathlib.Core.Path.{_≡_, ap, _∙_, subst}
 use mathlib.Core.List.{List, [], _∷_}
 use Prim.Native.Nat.{ℕ}

@@ -1,4 +1,4 @@
--- `tape::put::put_number` meets its contract. Assumes nothing.
+-- `records::put::put_number` meets its contract. Assumes nothing.
 use mathlib.Core.Path.{subst}
 use mathlib.Core.List.{_∷_}
 use native.Mathlib.Omega.{arith}

@@ -1,4 +1,4 @@
--- `tape::put::put_pair` meets its contract. Assumes nothing.
+-- `records::put::put_pair` meets its contract. Assumes nothing.
 use native.Mathlib.Omega.{arith}
 use Rattle.output.proofs.Laid.{put-then}
 use borrow.Author.Needs.{needs}

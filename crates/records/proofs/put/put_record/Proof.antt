@@ -1,4 +1,4 @@
--- `tape::put::put_record` meets its contract. Assumes nothing.
+-- `records::put::put_record` meets its contract. Assumes nothing.
 use mathlib.Core.Path.{_≡_, sym, subst}
 use mathlib.Core.List.{List}
 use Prim.Native.Nat.{ℕ, _+_, _≤_}

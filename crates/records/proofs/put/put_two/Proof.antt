@@ -1,4 +1,4 @@
--- `tape::put::put_two` meets its contract. Assumes nothing.
+-- `records::put::put_two` meets its contract. Assumes nothing.
 use mathlib.Core.Path.{_≡_, subst}
 use mathlib.Core.List.{[], _∷_}
 use Prim.Native.Nat.{ℕ, _/_, _%_}

@@ -1,4 +1,4 @@
--- `tape::record::decode` meets its contract: at each kind the table of the definition computes to the arm. Assumes nothing.
+-- `records::record::decode` meets its contract: at each kind the table of the definition computes to the arm. Assumes nothing.
 use mathlib.Core.Path.{_≡_, refl, ap, ap₂, sym, _∙_, subst}
 use mathlib.Core.List.{List}
 use Prim.Native.Nat.{ℕ, zero, suc, _+_, _≤_}

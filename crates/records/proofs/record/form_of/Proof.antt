@@ -1,4 +1,4 @@
--- `tape::record::form_of` meets its contract: at each kind the table of the definition computes to the arm. Assumes nothing.
+-- `records::record::form_of` meets its contract: at each kind the table of the definition computes to the arm. Assumes nothing.
 use mathlib.Core.Path.{_≡_, ap, sym}
 use mathlib.Core.Bool.{Bool, cond}
 use Prim.Native.Nat.{ℕ, _≤_}

@@ -1,4 +1,4 @@
--- `tape::record::judge_body` meets its contract: it goes down the rows. Assumes nothing.
+-- `records::record::judge_body` meets its contract: it goes down the rows. Assumes nothing.
 use mathlib.Core.Path.{_≡_, sym, _∙_}
 use mathlib.Core.Bool.{true, false}
 use Prim.Native.Nat.{_+_}

@@ -1,4 +1,4 @@
--- `tape::record::next_record` meets its contract. Assumes nothing.
+-- `records::record::next_record` meets its contract. Assumes nothing.
 use mathlib.Core.Path.{_≡_, ap, sym, _∙_}
 use mathlib.Core.Bool.{Bool, true}
 use mathlib.Core.List.{List}

@@ -1,4 +1,4 @@
--- `tape::record::whole_record` meets its contract. Assumes nothing.
+-- `records::record::whole_record` meets its contract. Assumes nothing.
 use mathlib.Core.Path.{_≡_, ap, sym, _∙_}
 use Prim.Native.Nat.{ℕ, _+_, _≤_}
 use native.Mathlib.Omega.{arith}

@@ -1,4 +1,4 @@
--- `tape::tally::fresh` meets its contract, by computing. Assumes nothing.
+-- `records::tally::fresh` meets its contract, by computing. Assumes nothing.
 use mathlib.Core.Path.{refl}
 use Rattle.model.specs.Lists.{table, chain}
 use Rattle.model.specs.Grid.{verticalPairs, horizontalPairs, gridPairs}

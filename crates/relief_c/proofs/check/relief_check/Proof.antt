@@ -1,8 +1,10 @@
 -- `relief_c::check::relief_check` meets its contract. Assumes nothing.
 use borrow.Author.Needs.{needs}
 use mir.Syntax.{w64}
+use mathlib.Core.Path.{refl}
 use Rattle.integers.proofs.Machine.{read}
-use Rattle.relief_c.proofs.Says.{same, allowed-by, check-by}
+use Rattle.model.proofs.Accepted.{zero-by}
+use Rattle.relief_c.proofs.Says.{same, check-by}
 use Rattle.relief_c.proofs.check.relief_check.Statement.{statement}
 use Rattle.relief_c.proofs.check.relief_check.Tie as tie
 
@@ -19,8 +21,9 @@ returns : tie.Need-returns
 returns c =
     let k = c .before .before .before .check .ensures in
     let n = c .before .numbers-of in
-    let number = n .ensures .number in
-    (same (k .0) (read w64 (n .ok .1 .1 .1 .1 .1 .1 .1 .0 .1)) (n .ensures), (k .1 .0, (allowed-by number (k .1 .1 .0), check-by number (k .0) (k .1 .1 .1))))
+    let bits = read w64 (n .ok .1 .1 .1 .1 .1 .1 .1 .0 .1) in
+    let given = same refl bits (n .ensures) in
+    (same (k .0) bits (n .ensures), (k .1 .0, (zero-by (given .number) (k .1 .1 .0), check-by given (k .1 .1 .1))))
 
 pub relief-check-spec : {M : Type 1} → statement M
 relief-check-spec = tie.close (tie.spec check-requires numbers-of-requires same-length returns)

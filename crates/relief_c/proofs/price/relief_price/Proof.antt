@@ -2,7 +2,8 @@
 use borrow.Author.Needs.{needs}
 use mir.Syntax.{w64}
 use Rattle.integers.proofs.Machine.{read}
-use Rattle.relief_c.proofs.Says.{same, allowed-by}
+use Rattle.model.proofs.Accepted.{zero-by}
+use Rattle.relief_c.proofs.Says.{same}
 use Rattle.relief_c.proofs.price.relief_price.Statement.{statement}
 use Rattle.relief_c.proofs.price.relief_price.Tie as tie
 
@@ -16,7 +17,7 @@ returns : tie.Need-returns
 returns c =
     let n = c .before .numbers-of in
     let k = c .before .before .price .ensures in
-    (same (k .0) (read w64 (n .ok .1 .1 .1 .1 .1 .1 .1 .0 .1)) (n .ensures), allowed-by (n .ensures .number) (k .1))
+    (same (k .0) (read w64 (n .ok .1 .1 .1 .1 .1 .1 .1 .0 .1)) (n .ensures), zero-by (n .ensures .number) (k .1))
 
 pub relief-price-spec : {M : Type 1} → statement M
 relief-price-spec = tie.close (tie.spec price-requires numbers-of-requires returns)

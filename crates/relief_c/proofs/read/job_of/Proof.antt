@@ -3,7 +3,6 @@ use mathlib.Core.Path.{_≡_, refl, sym, ap}
 use mathlib.Core.Bool.{Bool, true, false, cond}
 use borrow.Author.Needs.{needs}
 use mir.Val.{boolByte}
-use Rattle.records.specs.declared.tally.Tally.{Tally}
 use Rattle.tape_read.specs.Answers.{readAnswerOf}
 use Rattle.relief_c.proofs.Says.{same-job}
 use Rattle.relief_c.proofs.read.job_of.Statement.{statement}
@@ -22,9 +21,6 @@ cast-t11 c = search needs
 enum-known-a-2 : tie.Need-enum-known-a-2
 enum-known-a-2 c = search needs
 
-fresh-requires : tie.Need-fresh-requires
-fresh-requires c κs = search needs
-
 returns : tie.Need-returns
 returns c =
     same-job (record { number = refl; place = refl; terms = refl; rounds = refl; flowed = as-number (c .before .a .given .0 .1 .1 .0) })
@@ -32,10 +28,8 @@ returns c =
 
 returns-2 : tie.Need-returns-2
 returns-2 c =
-    let none = c .before .before .fresh .ensures in
-    same-job
-    (record { number = refl; place = refl; terms = ap (λ (t : Tally). t .terms) none; rounds = ap (λ (t : Tally). t .rounds) none; flowed = refl })
-    (ap readAnswerOf (sym (c .before .before .before .before .a2 .given .1)))
+    same-job (record { number = refl; place = refl; terms = refl; rounds = refl; flowed = refl })
+    (ap readAnswerOf (sym (c .before .a2 .given .1)))
 
 pub job-of-spec : {M : Type 1} → statement M
-job-of-spec = tie.close (tie.spec enum-known-a cast-t11 enum-known-a-2 fresh-requires returns returns-2)
+job-of-spec = tie.close (tie.spec enum-known-a cast-t11 enum-known-a-2 returns returns-2)

@@ -1,6 +1,7 @@
 -- `relief_c::read::relief_read` meets its contract. Assumes nothing.
 use borrow.Author.Needs.{needs}
-use Rattle.relief_c.proofs.Says.{same-job, back-by, allowed-by}
+use Rattle.model.proofs.Accepted.{zero-by}
+use Rattle.relief_c.proofs.Says.{same-job, back-by}
 use Rattle.relief_c.proofs.read.relief_read.Statement.{statement}
 use Rattle.relief_c.proofs.read.relief_read.Tie as tie
 
@@ -21,7 +22,7 @@ returns c =
     let called = c .before .before .before .before .before .before .read in
     let k = called .ensures in
     let n = c .before .before .job-of .ensures in
-    (same-job n (k .0), (k .1 .0, (k .1 .1 .0, (allowed-by (n .number) (k .1 .1 .1 .0), back-by n (called .last .1 .0) (called .last .1 .1 .0) (k .1 .1 .1 .1)))))
+    (same-job n (k .0), (k .1 .0, (k .1 .1 .0, (zero-by (n .number) (k .1 .1 .1 .0), back-by n (called .last .1 .0) (called .last .1 .1 .0) (k .1 .1 .1 .1)))))
 
 pub relief-read-spec : {M : Type 1} → statement M
 relief-read-spec =

@@ -1,8 +1,10 @@
 -- `relief_c::run::relief_run` meets its contract. Assumes nothing.
 use borrow.Author.Needs.{needs}
 use mir.Syntax.{w64}
+use mathlib.Core.Path.{refl}
 use Rattle.integers.proofs.Machine.{read}
-use Rattle.relief_c.proofs.Says.{same, allowed-by, run-by}
+use Rattle.model.proofs.Accepted.{zero-by}
+use Rattle.relief_c.proofs.Says.{same, run-by}
 use Rattle.relief_c.proofs.run.relief_run.Statement.{statement}
 use Rattle.relief_c.proofs.run.relief_run.Tie as tie
 
@@ -25,9 +27,10 @@ returns : tie.Need-returns
 returns c =
     let k = c .before .before .before .before .before .run .ensures in
     let n = c .before .numbers-of in
-    let number = n .ensures .number in
+    let bits = read w64 (n .ok .1 .1 .1 .1 .1 .1 .1 .0 .1) in
+    let given = same refl bits (n .ensures) in
     let left = k .1 .1 .1 in
-    (same (k .0) (read w64 (n .ok .1 .1 .1 .1 .1 .1 .1 .0 .1)) (n .ensures), (k .1 .0, (k .1 .1 .0, (left .0, (allowed-by number (left .1 .0), run-by number (k .0) (left .1 .1))))))
+    (same (k .0) bits (n .ensures), (k .1 .0, (k .1 .1 .0, (left .0, (zero-by (given .number) (left .1 .0), run-by given (left .1 .1))))))
 
 pub relief-run-spec : {M : Type 1} → statement M
 relief-run-spec =

@@ -1,6 +1,7 @@
 -- `relief_c::write::relief_write` meets its contract. Assumes nothing.
 use borrow.Author.Needs.{needs}
-use Rattle.relief_c.proofs.Says.{same-tape, tape-by, allowed-by}
+use Rattle.model.proofs.Accepted.{zero-by}
+use Rattle.relief_c.proofs.Says.{same-tape, tape-by}
 use Rattle.relief_c.proofs.write.relief_write.Statement.{statement}
 use Rattle.relief_c.proofs.write.relief_write.Tie as tie
 
@@ -17,7 +18,7 @@ returns : tie.Need-returns
 returns c =
     let k = c .before .before .before .write .ensures in
     let n = c .written-of .ensures in
-    (same-tape n (k .0), (k .1 .0, (allowed-by (n .number) (k .1 .1 .0), tape-by n _ _ _ _ (c .before .before .before .write .last .1 .1 .1 .1 .0) (k .1 .1 .1))))
+    (same-tape n (k .0), (k .1 .0, (zero-by (n .number) (k .1 .1 .0), tape-by n _ _ _ _ (c .before .before .before .write .last .1 .1 .1 .1 .0) (k .1 .1 .1))))
 
 pub relief-write-spec : {M : Type 1} → statement M
 relief-write-spec = tie.close (tie.spec write-requires written-of-requires same-length returns)

@@ -25,20 +25,20 @@ slice-aggregate-copy c = sym (length-take-le _ _ (shorter (c .before .before)))
 copy-requires : tie.Need-copy-requires
 copy-requires c κs = length-take-le _ _ (shorter (c .before .before .before))
 
-mul-advance : tie.Need-mul-advance
-mul-advance c = search needs
+mul-advance-round : tie.Need-mul-advance-round
+mul-advance-round c = search needs
 
-sub-advance : tie.Need-sub-advance
-sub-advance c = search needs
+sub-advance-round : tie.Need-sub-advance-round
+sub-advance-round c = search needs
 
-part-advance-start : tie.Need-part-advance-start
-part-advance-start c = search needs
+part-advance-round-start : tie.Need-part-advance-round-start
+part-advance-round-start c = search needs
 
-part-advance-end : tie.Need-part-advance-end
-part-advance-end c = search needs
+part-advance-round-end : tie.Need-part-advance-round-end
+part-advance-round-end c = search needs
 
-advance-requires : tie.Need-advance-requires
-advance-requires c κs =
+advance-round-requires : tie.Need-advance-round-requires
+advance-round-requires c κs =
     let k = c .before .before .before .before in
     let s = k .before .before .before .before in
     subst
@@ -62,11 +62,11 @@ returns c =
     let s = k .before .before .before .before in
     let size = ap length (k .copy .ensures) in
     let half = second-half (k .copy .last .0) (s .args .work .now) size in (
-      rw half at (a .advance .ensures .0),
+      rw half at (a .advance-round .ensures .0),
       (
         second-back (k .copy .last .0) (s .args .work .now) size _
-            ∙ ap₂ (λ (l r : List ℤ). l ++ r) (k .copy .ensures) (rw half at (a .advance .ensures .1 .0)),
-        (rw half at (a .advance .ensures .1 .1 .0), rw half at (a .advance .ensures .1 .1 .1)),
+            ∙ ap₂ (λ (l r : List ℤ). l ++ r) (k .copy .ensures) (rw half at (a .advance-round .ensures .1 .0)),
+        (rw half at (a .advance-round .ensures .1 .1 .0), rw half at (a .advance-round .ensures .1 .1 .1)),
       ),
     )
 
@@ -77,11 +77,11 @@ quick-round-spec =
     slice-relend-prefix-copy
     slice-aggregate-copy
     copy-requires
-    mul-advance
-    sub-advance
-    part-advance-start
-    part-advance-end
-    advance-requires
+    mul-advance-round
+    sub-advance-round
+    part-advance-round-start
+    part-advance-round-end
+    advance-round-requires
     same-length
     same-length-2
     same-length-3

@@ -1,4 +1,4 @@
--- `raster::pairs::first_moving` meets its contract. Assumes nothing.
+-- `runs::pairs::first_moving` meets its contract. Assumes nothing.
 use mathlib.Core.Path.{_≡_, sym, _∙_}
 use Prim.Native.Nat.{_+_, _-_, _≤_, _<_}
 use native.Mathlib.Omega.{arith}

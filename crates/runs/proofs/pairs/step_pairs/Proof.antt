@@ -1,4 +1,4 @@
--- `raster::pairs::step_pairs` meets its contract. Assumes nothing.
+-- `runs::pairs::step_pairs` meets its contract. Assumes nothing.
 use Prim.Native.Nat.{_+_, _-_}
 use native.Mathlib.Nat.{le-refl}
 use native.Mathlib.Omega.{arith}

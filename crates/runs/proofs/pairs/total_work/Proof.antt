@@ -1,4 +1,4 @@
--- `raster::pairs::total_work` meets its contract. Assumes nothing.
+-- `runs::pairs::total_work` meets its contract. Assumes nothing.
 use mathlib.Core.Path.{_≡_, sym, _∙_}
 use Prim.Native.Nat.{ℕ, _+_, _-_, _≤_}
 use native.Mathlib.Omega.{arith}

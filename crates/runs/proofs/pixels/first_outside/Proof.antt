@@ -1,4 +1,4 @@
--- `raster::pixels::first_outside` meets its contract. Assumes nothing.
+-- `runs::pixels::first_outside` meets its contract. Assumes nothing.
 use mathlib.Core.Path.{_≡_, sym, _∙_}
 use mathlib.Core.Bool.{Bool, _||_}
 use mathlib.Core.List.{List}

@@ -1,4 +1,4 @@
--- `raster::pixels::misfit` meets its contract. Assumes nothing.
+-- `runs::pixels::misfit` meets its contract. Assumes nothing.
 use mathlib.Core.Path.{_≡_, sym, ap, _∙_}
 use Prim.Native.Nat.{ℕ, _-_, _≤_, _<_}
 use native.Mathlib.Omega.{arith}

@@ -1,4 +1,4 @@
--- `raster::image::column_value` meets its contract. Assumes nothing.
+-- `runs::row::column_value` meets its contract. Assumes nothing.
 use native.Mathlib.Omega.{arith}
 use borrow.Author.Needs.{needs}
 use mir.Syntax.{w32}

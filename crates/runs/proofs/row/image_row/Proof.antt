@@ -1,4 +1,4 @@
--- `raster::image::image_row` meets its contract. Assumes nothing.
+-- `runs::row::image_row` meets its contract. Assumes nothing.
 use mathlib.Core.Path.{_≡_, refl}
 use mathlib.Core.List.{_∷_}
 use Prim.Native.Nat.{_-_, _≤_, zero-le}

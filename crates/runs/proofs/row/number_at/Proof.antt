@@ -1,4 +1,4 @@
--- `raster::image::number_at` meets its contract. Assumes nothing.
+-- `runs::row::number_at` meets its contract. Assumes nothing.
 use mathlib.Core.Path.{sym}
 use Prim.Native.Nat.{_<_}
 use native.Mathlib.Omega.{arith}

@@ -1,4 +1,4 @@
--- `raster::leaf::product` meets its contract. Assumes nothing.
+-- `stencil::pair::product` meets its contract. Assumes nothing.
 use mathlib.Core.Path.{_≡_}
 use Prim.Native.Nat.{ℕ, _*_, _^_, _≤_, _<_}
 use native.Mathlib.Nat.{mul-le-mul}

@@ -1,4 +1,4 @@
--- `raster::leaf::step_value` meets its contract. Assumes nothing.
+-- `stencil::pair::step_value` meets its contract. Assumes nothing.
 use mathlib.Core.Path.{_≡_, _∙_}
 use native.Mathlib.Omega.{arith}
 use borrow.Author.Needs.{needs}

@@ -1,4 +1,4 @@
--- `raster::leaf::variation` meets its contract. Assumes nothing.
+-- `stencil::pair::variation` meets its contract. Assumes nothing.
 use mathlib.Core.Path.{ap, _∙_}
 use borrow.Author.Needs.{needs}
 use lib.IntN.{natAbs, _-ℤ_}

@@ -1,4 +1,4 @@
--- `raster::leaf::would_move` meets its contract. Assumes nothing.
+-- `stencil::pair::would_move` meets its contract. Assumes nothing.
 use borrow.Author.Needs.{needs}
 use mir.Syntax.{w32}
 use mir.ValLaws.{toZ-ofZ}

@@ -1,4 +1,4 @@
--- `raster::leaf::high_end` meets its contract. Assumes nothing.
+-- `stencil::pixel::high_end` meets its contract. Assumes nothing.
 use mathlib.Core.Path.{_∙_}
 use borrow.Author.Needs.{needs}
 use mir.Syntax.{w32}

@@ -1,4 +1,4 @@
--- `raster::leaf::outside` meets its contract. Assumes nothing.
+-- `stencil::pixel::outside` meets its contract. Assumes nothing.
 use mathlib.Core.Path.{_≡_, sym, _∙_}
 use lib.Signed.{ltZ}
 use borrow.Author.Needs.{needs}

@@ -1,4 +1,4 @@
--- `raster::leaf::pixel_value` meets its contract. Assumes nothing.
+-- `stencil::pixel::pixel_value` meets its contract. Assumes nothing.
 use mathlib.Core.Path.{_≡_, _∙_}
 use native.Mathlib.Omega.{arith}
 use borrow.Author.Needs.{needs}

@@ -1,4 +1,4 @@
--- `raster::leaf::reading` meets its contract. Assumes nothing.
+-- `stencil::pixel::reading` meets its contract. Assumes nothing.
 use mathlib.Core.Path.{_∙_}
 use borrow.Author.Needs.{needs}
 use mir.Syntax.{w32}

@@ -1,4 +1,4 @@
--- `raster::leaf::squared_misfit` meets its contract. Assumes nothing.
+-- `stencil::pixel::squared_misfit` meets its contract. Assumes nothing.
 use mathlib.Core.Path.{_≡_, sym, ap, _∙_}
 use Prim.Native.Nat.{ℕ, _*_, _^_, _≤_, _<_}
 use native.Mathlib.Nat.{mul-le-mul}

@@ -1,4 +1,4 @@
--- `tape::fill::beyond_from` meets its contract. The loop's invariant: no number before `j` is beyond the weight.
+-- `tape_read::fill::beyond_from` meets its contract. The loop's invariant: no number before `j` is beyond the weight.
 -- Assumes nothing.
 use mathlib.Core.Path.{_≡_, sym, _∙_, ap}
 use mathlib.Core.Bool.{Bool}

@@ -1,4 +1,4 @@
--- `tape::fill::fill_flow` meets its contract. The loop's invariant: the first `j` numbers have been laid down.
+-- `tape_read::fill::fill_flow` meets its contract. The loop's invariant: the first `j` numbers have been laid down.
 -- Assumes nothing.
 use mathlib.Core.Path.{_≡_, ap, _∙_}
 use mathlib.Core.List.{List}

@@ -1,4 +1,4 @@
--- `tape::fill::fill_samples` meets its contract. The loop's invariant: the first `i` samples have been laid down.
+-- `tape_read::fill::fill_samples` meets its contract. The loop's invariant: the first `i` samples have been laid down.
 -- Assumes nothing.
 use mathlib.Core.Path.{_≡_, refl, ap, _∙_}
 use mathlib.Core.List.{List}

@@ -1,4 +1,4 @@
--- `tape_read::reader::next` meets its contract: a walk of its MIR, by hand. The struct is taken apart, and `advance` is called on the slice, the number, the tally and the lengths. All that the proof knows of `advance` is that it meets its contract.
+-- `tape_read::reader::next` meets its contract: a walk of its MIR, by hand. The struct is taken apart, and `take_record` is called on the slice, the number, the tally and the lengths. All that the proof knows of `take_record` is that it meets its contract.
 -- The struct is Copy: what it owns is had twice, one copy is kept whole for the exit, and of the other what the slice owns goes to the callee, beside the lifetime's token, which comes back. The tally and the lengths hold no reference: what they own is made anew from their facts.
 -- Assumes nothing.
 use mathlib.Core.Path.{_≡_, refl}
@@ -56,10 +56,10 @@ use Rattle.steps.proofs.Lent as Z
 use Rattle.steps.proofs.Lent.Laws as Z′
 use Rattle.records.proofs.tally.Tally as Y
 use Rattle.records.proofs.tally.Tally.Laws as Y′
-use Rattle.steps.proofs.advance as step
-use Rattle.steps.proofs.advance.Symbol as step-def
-use Rattle.steps.proofs.advance.Symbol.{name as #steps·advance}
-use Rattle.steps.proofs.advance.Met as step-thm
+use Rattle.steps.proofs.take_record as step
+use Rattle.steps.proofs.take_record.Symbol as step-def
+use Rattle.steps.proofs.take_record.Symbol.{name as #steps·take-record}
+use Rattle.steps.proofs.take_record.Met as step-thm
 use Rattle.tape_read.proofs.reader.next.Key.{name as #tape-read·next}
 use Rattle.tape_read.proofs.reader.next as next
 use Rattle.tape_read.proofs.reader.next.Statement as stated
@@ -144,7 +144,7 @@ module _ {M : Type 1} (𝓤 : URA M) (H : Heap 𝓤) (A : Atoms 𝓤) (W : Given
       suffices ! _ (ends-at 𝓤 H A next.ended stayed (next.clauses 𝓤 H A mem run) W (((κ, tt), (q, tt), tt, (d, (t, (z, tt))), (mach ∷ [], (tm ∷ [], (zm ∷ [], tt)))), tt) u r (tt, (tt, (tt, tt))) (tt, (tt, (tt, tt)))) $ says ! e $
       move ! (1 ∷ []) $ frame ! $ nothing ! $ owned ! Z.the-row (Is Z.the-row) (LL.makes Z.the-type Z′.the-plain 𝓤 H A) z _ is-z $ fjoin ! $ owned ! Y.the-row (Is Y.the-row) (LL.makes Y.the-type Y′.the-plain 𝓤 H A) t _ is-t $ fjoin ! $ move ! (2 ∷ 0 ∷ []) $ fjoin ! $ frame ! $ done !
 
-  module _ (C : Calls 𝓤 H) (Λ : Loops 𝓤 H) (fm : FmC 𝓤 H (W .laws) C) (known : Triple 𝓤 (C #steps·advance) (Advance 𝓤 H A mem run)) where
+  module _ (C : Calls 𝓤 H) (Λ : Loops 𝓤 H) (fm : FmC 𝓤 H (W .laws) C) (known : Triple 𝓤 (C #steps·take-record) (Advance 𝓤 H A mem run)) where
     walk : Holds (hasTy (T′.mir (named 0)) mach) × WT mach → Holds (hasTy Y′.mir tm) × WT tm → Holds (hasTy Z′.mir zm) × WT zm → Small → ent 𝓤 (onEntry 𝓤 H A next.signature (κ, tt) (q, tt) (d, (t, (z, tt))) (mach ∷ [], (tm ∷ [], (zm ∷ [], tt)))) (WpFn 𝓤 H C Λ code.function (mach ∷ tm ∷ zm ∷ []) Post)
     walk wt tw zw small =
         qed W (raw (onEntry 𝓤 H A next.signature (κ, tt) (q, tt) (d, (t, (z, tt))) (mach ∷ [], (tm ∷ [], (zm ∷ [], tt)))) ∷ []) ∵ enter ! C Λ code.function (mach ∷ tm ∷ zm ∷ []) _ $
@@ -162,13 +162,13 @@ module _ {M : Type 1} (𝓤 : URA M) (H : Heap 𝓤) (A : Atoms 𝓤) (W : Given
         move ! (13 ∷ 14 ∷ []) $ free1 ! $ move ! (11 ∷ 12 ∷ []) $ free1 ! $ move ! (9 ∷ 10 ∷ []) $ free1 ! $ move ! (7 ∷ 8 ∷ []) $ free1 ! $ move ! (5 ∷ 6 ∷ []) $ free1 ! $ move ! (3 ∷ 4 ∷ []) $ free1 ! $ free0 ! $ by ! (exits r u e)))))))))))
 
 module _ {M : Type 1} (𝓤 : URA M) (H : Heap 𝓤) (A : Atoms 𝓤) (W : Given 𝓤 H A) (mem : Memory → SProp 𝓤) (run : Routine → Fun 𝓤) where
-  next-walks : (C : Calls 𝓤 H) (Λ : Loops 𝓤 H) → FmC 𝓤 H (W .laws) C → Triple 𝓤 (C #steps·advance) (Advance 𝓤 H A mem run)
+  next-walks : (C : Calls 𝓤 H) (Λ : Loops 𝓤 H) → FmC 𝓤 H (W .laws) C → Triple 𝓤 (C #steps·take-record) (Advance 𝓤 H A mem run)
       → Walks 𝓤 H A next.ended stayed (WpFn 𝓤 H C Λ code.function) (next.clauses 𝓤 H A mem run)
   next-walks C Λ fm known = walked 𝓤 H A next.ended stayed (next.clauses 𝓤 H A mem run) (WpFn 𝓤 H C Λ code.function) (λ κs. (LL.vals (T.the-type (namedLft 1 0 tt κs)) (T′.the-laws (namedLft 1 0 tt κs)), (LL.vals Y.the-type Y′.the-laws, (LL.vals Z.the-type Z′.the-laws, tt)))) (λ κs. (LL.tells (T.the-type (namedLft 1 0 tt κs)) (T′.the-laws (namedLft 1 0 tt κs)), (LL.tells Y.the-type Y′.the-laws, (LL.tells Z.the-type Z′.the-laws, tt))))
       (λ κs qs bounds a g are. needs 𝓤 _ _ (walk 𝓤 H A W mem run (κs .0) (qs .0) (a .0) (a .1 .0) (are .1 .0) (a .1 .1 .0) (are .1 .1 .0) C Λ fm known (LL.lawful (T.the-type (namedLft 1 0 tt κs)) (T′.the-laws (namedLft 1 0 tt κs)) 𝓤 H A W .typed (a .0) _ (are .0) .0) (LL.lawful Y.the-type Y′.the-laws 𝓤 H A W .typed (a .1 .0) _ (are .1 .0) .0) (LL.lawful Z.the-type Z′.the-laws 𝓤 H A W .typed (a .1 .1 .0) _ (are .1 .1 .0) .0)))
 
 next-meets : {M : Type 1} (𝓤 : URA M) (H : Heap 𝓤) (A : Atoms 𝓤) (W : Given 𝓤 H A) (mem : Memory → SProp 𝓤) (run : Routine → Fun 𝓤) (𝓣 : Tables 𝓤 H)
-    → Triple 𝓤 (𝓣 .C #steps·advance) (Advance 𝓤 H A mem run)
+    → Triple 𝓤 (𝓣 .C #steps·take-record) (Advance 𝓤 H A mem run)
     → Meets 𝓤 H A next.signature (WpFn 𝓤 H (𝓣 .C) (𝓣 .Λ) code.function) (next.spec 𝓤 H A mem run)
 next-meets 𝓤 H A W mem run 𝓣 known-step = walk-meets 𝓤 H A next.ended stayed W (goes-none 𝓤 H A W 1 B yes (λ κs x f. refl), (goes-none 𝓤 H A W 1 (λ _. Y.the-row) yes (λ κs x f. refl), (goes-none 𝓤 H A W 1 (λ _. Z.the-row) yes (λ κs x f. refl), tt))) (next.clauses 𝓤 H A mem run) (WpFn 𝓤 H (𝓣 .C) (𝓣 .Λ) code.function) (WpFn-mono 𝓤 H (W .laws) 𝓣 code.function)
     (next-walks 𝓤 H A W mem run (𝓣 .C) (𝓣 .Λ) (fmOf 𝓤 H (W .laws) 𝓣) known-step)
@@ -179,4 +179,4 @@ next-spec 𝓤 H 𝓜 𝓖 𝓡 =
     entered 𝓤 H (tripleOf 𝓤 H (𝓖 .A) next.signature (next.spec 𝓤 H (𝓖 .A) (𝓜 .mem) (𝓡 .run)))
     (tables 𝓤 H 𝓜 𝓡 code.env .C) (tables 𝓤 H 𝓜 𝓡 code.env .Λ) #tape-read·next code.function (code.unfolded 𝓤 H 𝓜 𝓡)
     (next-meets 𝓤 H (𝓖 .A) (givenOf 𝓤 H 𝓜 𝓖) (𝓜 .mem) (𝓡 .run) (tablesOf 𝓤 H 𝓜 (tables 𝓤 H 𝓜 𝓡 code.env))
-    (cited 𝓤 H (Advance 𝓤 H (𝓖 .A) (𝓜 .mem) (𝓡 .run)) 𝓜 𝓡 code.env #steps·advance step-def.routine code.calls-steps·advance (step-thm.met 𝓤 H 𝓜 𝓖 𝓡)))
+    (cited 𝓤 H (Advance 𝓤 H (𝓖 .A) (𝓜 .mem) (𝓡 .run)) 𝓜 𝓡 code.env #steps·take-record step-def.routine code.calls-steps·take-record (step-thm.met 𝓤 H 𝓜 𝓖 𝓡)))

@@ -2,8 +2,11 @@
 --     At           where the loop stands: the reader with its machine value, the tally, and what is known of them: the reader has the tape passed, and the tally is that of a progress reached at the reader's offset
 --     Entered, Held, Read, Ending      what is owned once the arguments are stored, where the loop stands, where a record has been read, and where the result stands in its local
 --     hears        what a callee gives: its result is picked, and what it ensures is learned
---     begins       the calls before the loop.        loops-on     the loop.        turns        a turn: the function returns, or the loop stands again, nearer to the tape's end
---     matched      the `match` on the step, by its cases: a refusal and the job's end return, and any other record moves the reader on.        leaves       the return
+--     begins       the calls before the loop
+--     loops-on     the loop
+--     turns        a turn: the function returns, or the loop stands again, nearer to the tape's end
+--     matched      the `match` on the step, by its cases: a refusal and the job's end return, and any other record moves the reader on
+--     leaves       the return
 -- In a local of a body MIR erases the lifetime of the struct's type, so the value is shown to have the type at `erased`. What holds no reference owns only facts: it is made anew from them.
 -- Assumes nothing.
 use mathlib.Core.Path.{_≡_, refl, sym, ap, _∙_, subst, subst₂}

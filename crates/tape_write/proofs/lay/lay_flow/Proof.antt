@@ -1,4 +1,4 @@
--- `tape::lay::lay_flow` meets its contract. The loop's invariant: the records before `j` have been laid. Assumes nothing.
+-- `tape_write::lay::lay_flow` meets its contract. The loop's invariant: the records before `j` have been laid. Assumes nothing.
 use mathlib.Core.Path.{_≡_, refl, subst}
 use mathlib.Core.List.{List}
 use Prim.Native.Nat.{ℕ, _+_, _*_, _-_, _≤_, zero-le}

@@ -1,4 +1,4 @@
--- `tape::lay::lay_header` meets its contract. Assumes nothing.
+-- `tape_write::lay::lay_header` meets its contract. Assumes nothing.
 use native.Mathlib.Omega.{arith}
 use Rattle.output.proofs.Laid.{put-then}
 use borrow.Author.Needs.{needs}

@@ -1,4 +1,4 @@
--- `tape::lay::lay_tape` meets its contract. Assumes nothing.
+-- `tape_write::lay::lay_tape` meets its contract. Assumes nothing.
 use mathlib.Core.Path.{_≡_, refl}
 use mathlib.Core.List.{List}
 use Prim.Native.Nat.{ℕ, _+_, _*_, _≤_}

@@ -1,12 +1,12 @@
--- `tape_read::reading::read` meets its contract. Assumes nothing.
+-- `tape_read::read::read` meets its contract. Assumes nothing.
 use mathlib.Core.Path.{sym, _∙_}
 use native.Mathlib.Omega.{arith}
 use Rattle.tape_read.proofs.Promised.{promised}
 use Rattle.tape_read.proofs.Scanned.{scanned-refused}
 use Rattle.roundtrip.proofs.Judged.{refused-parse, answer-by, samples-by, flow-by}
 use borrow.Author.Needs.{needs}
-use Rattle.tape_read.proofs.reading.read.Statement.{statement}
-use Rattle.tape_read.proofs.reading.read.Tie as tie
+use Rattle.tape_read.proofs.read.read.Statement.{statement}
+use Rattle.tape_read.proofs.read.read.Tie as tie
 
 scan-tape-requires : tie.Need-scan-tape-requires
 scan-tape-requires c κs = search needs

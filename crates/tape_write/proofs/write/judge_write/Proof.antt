@@ -1,4 +1,4 @@
--- `tape::writing::judge_write` meets its contract. Assumes nothing.
+-- `tape_write::write::judge_write` meets its contract. Assumes nothing.
 use mathlib.Core.Path.{_≡_, sym, ap, _∙_}
 use mathlib.Core.List.{[], _∷_}
 use lib.ListN.{length}
@@ -6,12 +6,12 @@ use Rattle.model.specs.declared.Verdict.{Verdict}
 use Rattle.model.specs.Verdict.{firstRefusal, decided}
 use Rattle.model.specs.Calls.{sizeRow, weightRow, boxRow}
 use Rattle.model.specs.Tape.{writeRows}
-use Rattle.terms.proofs.Accepted.{accepted-terms}
+use Rattle.terms.proofs.Accepted.{accepted-size}
 use Rattle.tape_write.specs.Writing.{lowerRows}
 use Rattle.tape_write.proofs.Rows.{write-rows}
 use borrow.Author.Needs.{needs}
-use Rattle.tape_write.proofs.writing.judge_write.Statement.{statement}
-use Rattle.tape_write.proofs.writing.judge_write.Tie as tie
+use Rattle.tape_write.proofs.write.judge_write.Statement.{statement}
+use Rattle.tape_write.proofs.write.judge_write.Tie as tie
 
 -- the verdict on the terms decides, or the lower rows do
 rows : (c : tie.Start) {v : Verdict} → let a = c .args in
@@ -33,7 +33,7 @@ enum-told : tie.Need-enum-told
 enum-told c = search needs
 
 judge-lower-requires : tie.Need-judge-lower-requires
-judge-lower-requires c κs = accepted-terms (c .before .before .before .before .args .t) (sym (c .before .before .judge-terms .ensures) ∙ c .enum-told .given .1) .size
+judge-lower-requires c κs = accepted-size (c .before .before .before .before .args .t) (sym (c .before .before .judge-terms .ensures) ∙ c .enum-told .given .1)
 
 returns : tie.Need-returns
 returns c = sym (rows (c .before .before .before .before .before) (sym (c .before .before .before .judge-terms .ensures) ∙ c .before .v .given .1))

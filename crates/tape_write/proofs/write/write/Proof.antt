@@ -1,4 +1,4 @@
--- `tape_write::writing::write` meets its contract. Assumes nothing.
+-- `tape_write::write::write` meets its contract. Assumes nothing.
 use mathlib.Core.Path.{sym, ap, _∙_}
 use Prim.Native.Nat.{ℕ}
 use native.Mathlib.Omega.{arith}
@@ -6,8 +6,8 @@ use Rattle.model.proofs.Accepted.{write-accepted}
 use Rattle.roundtrip.proofs.WriteRows.{written-answer, written-output}
 use Rattle.tape_write.proofs.Promised.{promised}
 use borrow.Author.Needs.{needs}
-use Rattle.tape_write.proofs.writing.write.Statement.{statement}
-use Rattle.tape_write.proofs.writing.write.Tie as tie
+use Rattle.tape_write.proofs.write.write.Statement.{statement}
+use Rattle.tape_write.proofs.write.write.Tie as tie
 
 judge-write-requires : tie.Need-judge-write-requires
 judge-write-requires c κs = search needs

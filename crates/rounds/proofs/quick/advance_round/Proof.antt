@@ -1,7 +1,6 @@
--- `rounds::quick::advance` meets its contract: the image of the numbers ahead, then all pairs. Assumes nothing.
+-- `rounds::quick::advance_round` meets its contract: the image of the numbers ahead, then all pairs. Assumes nothing.
 use mathlib.Core.Path.{_≡_, sym, _∙_}
 use Prim.Native.Nat.{_-_}
-use native.Mathlib.Omega.{arith}
 use borrow.Author.Needs.{needs}
 use lib.ListN.{length}
 use mir.Syntax.{w32}
@@ -12,8 +11,8 @@ use Rattle.model.specs.Calls.{imageOf}
 use Rattle.momentum.specs.Reciprocal.{Reciprocal}
 use Rattle.rounds.proofs.Model.{next-range, factor-most, iterate-is, ahead-is}
 use Rattle.rounds.proofs.Passes.{fill-limits, grid-limits, filled-is}
-use Rattle.rounds.proofs.quick.advance.Statement.{statement}
-use Rattle.rounds.proofs.quick.advance.Tie as tie
+use Rattle.rounds.proofs.quick.advance_round.Statement.{statement}
+use Rattle.rounds.proofs.quick.advance_round.Tie as tie
 
 cast-w : tie.Need-cast-w
 cast-w c = search needs
@@ -113,8 +112,8 @@ returns c =
       ),
     )
 
-pub advance-spec : {M : Type 1} → statement M
-advance-spec =
+pub advance-round-spec : {M : Type 1} → statement M
+advance-round-spec =
     tie.close
     (tie.spec
     cast-w

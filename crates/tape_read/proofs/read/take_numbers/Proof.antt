@@ -1,4 +1,4 @@
--- `tape_read::reading::take_numbers` meets its contract. Assumes nothing.
+-- `tape_read::read::take_numbers` meets its contract. Assumes nothing.
 use mathlib.Core.Path.{_≡_, sym, ap, _∙_, subst}
 use Prim.Native.Nat.{ℕ, _+_, _*_, _≤_, _<_}
 use native.Mathlib.Omega.{arith}
@@ -8,8 +8,8 @@ use Rattle.model.specs.Tape.{turned}
 use Rattle.roundtrip.proofs.Judged.{answer-by, samples-by, flow-by}
 use Rattle.tape_read.proofs.Promised.{promised}
 use Rattle.tape_read.proofs.Passed.{firstOn, room, beyond, left}
-use Rattle.tape_read.proofs.reading.take_numbers.Statement.{statement}
-use Rattle.tape_read.proofs.reading.take_numbers.Tie as tie
+use Rattle.tape_read.proofs.read.take_numbers.Statement.{statement}
+use Rattle.tape_read.proofs.read.take_numbers.Tie as tie
 
 byte : (c : tie.After-shared-slice-known) (i : ℕ) → getD (c .before .args .tape .now) i 0 < 256
 byte c i = omega (arith, c .shared-slice-known .given i)

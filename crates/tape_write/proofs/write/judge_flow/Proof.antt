@@ -1,4 +1,4 @@
--- `tape::writing::judge_flow` meets its contract: it goes down the rows. Assumes nothing.
+-- `tape_write::write::judge_flow` meets its contract: it goes down the rows. Assumes nothing.
 use mathlib.Core.Path.{_≡_, sym, ap, _∙_}
 use mathlib.Core.Bool.{not, _&&_}
 use Prim.Native.Nat.{ℕ}
@@ -11,8 +11,8 @@ use Rattle.model.specs.Calls.{pairsOf}
 use Rattle.model.proofs.Refusals.{accepted, refused, passed}
 use Rattle.terms.proofs.Size.{allowed-size}
 use borrow.Author.Needs.{needs}
-use Rattle.tape_write.proofs.writing.judge_flow.Statement.{statement}
-use Rattle.tape_write.proofs.writing.judge_flow.Tie as tie
+use Rattle.tape_write.proofs.write.judge_flow.Statement.{statement}
+use Rattle.tape_write.proofs.write.judge_flow.Tie as tie
 
 -- the test of the flow's length
 wrong : (c : tie.After-pairs) → let n : ℕ = length (c .before .args .flow .now) in

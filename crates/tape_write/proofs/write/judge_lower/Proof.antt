@@ -1,12 +1,12 @@
--- `tape::writing::judge_lower` meets its contract: it goes down the rows. Assumes nothing.
+-- `tape_write::write::judge_lower` meets its contract: it goes down the rows. Assumes nothing.
 use mathlib.Core.Path.{_≡_, sym, ap, _∙_}
 use mathlib.Core.Bool.{not, false}
 use borrow.Author.Tests.{not-true, not-false, eq-eqb, ne-eqb}
 use Rattle.model.specs.Calls.{pixelsOf}
 use Rattle.model.proofs.Refusals.{refused, passed}
 use borrow.Author.Needs.{needs}
-use Rattle.tape_write.proofs.writing.judge_lower.Statement.{statement}
-use Rattle.tape_write.proofs.writing.judge_lower.Tie as tie
+use Rattle.tape_write.proofs.write.judge_lower.Statement.{statement}
+use Rattle.tape_write.proofs.write.judge_lower.Tie as tie
 
 -- the row of the rounds does not apply
 quick : (c : tie.Else1) → lib.Dec.ltb 4096 (c .before .before .args .r .quick) ≡ false

@@ -1,11 +1,11 @@
--- `tape::step::advance` meets its contract. Assumes nothing.
+-- `steps::take_record` meets its contract. Assumes nothing.
 use mathlib.Core.Path.{_≡_, sym, ap, _∙_}
 use Rattle.records.specs.declared.record.Got.{Got}
 use Rattle.records.specs.Record.{gotAt}
 use Rattle.steps.specs.Step.{taken, stepOf}
 use borrow.Author.Needs.{needs}
-use Rattle.steps.proofs.advance.Statement.{statement}
-use Rattle.steps.proofs.advance.Tie as tie
+use Rattle.steps.proofs.take_record.Statement.{statement}
+use Rattle.steps.proofs.take_record.Tie as tie
 
 next-record-requires : tie.Need-next-record-requires
 next-record-requires c κs = search needs
@@ -35,7 +35,7 @@ returns-2 c =
     ∙ stepped (c .before .before .before .before .before .before)
     (sym (c .before .before .got2 .given .1) ∙ c .before .before .before .before .next-record .ensures)
 
-pub advance-spec : {M : Type 1} → statement M
-advance-spec =
+pub take-record-spec : {M : Type 1} → statement M
+take-record-spec =
     tie.close
     (tie.spec next-record-requires enum-known-got enum-known-got-2 take-requires returns returns-2)
