@@ -5,6 +5,8 @@
 # `N passed, 0 failed`.
 set -euo pipefail
 cd "$(dirname "$0")/.."
+# what is tested is built here, not another library or program that the caller names
+unset RELIEF_LIB_DIR RELIEF_BIN
 proofs=$(mktemp)
 trap 'rm -f "$proofs"' EXIT
 

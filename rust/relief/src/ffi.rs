@@ -40,8 +40,13 @@ impl Answer {
         slack: u64::MAX,
     };
 
-    /// The figures of a call that returned `number`, or its refusal.
-    fn figures(self, number: u32) -> Result<Figures, Refusal> {
+    /// The figures of a call that returned `number`, or its refusal. `promised` tells whether
+    /// the header lets an accepted call give them.
+    fn figures(
+        self,
+        number: u32,
+        promised: impl FnOnce(&Figures) -> bool,
+    ) -> Result<Figures, Refusal> {
         let Answer {
             place,
             outcome,
@@ -52,7 +57,7 @@ impl Answer {
         } = self;
         let zeros = (outcome, moved, price, floor, slack) == (0, 0, 0, 0, 0);
         verdict(number, place, zeros)?;
-        Ok(Figures {
+        let figures = Figures {
             outcome: match outcome {
                 1 => Outcome::Checked,
                 2 => Outcome::Settled,
@@ -63,7 +68,9 @@ impl Answer {
             price,
             floor,
             slack,
-        })
+        };
+        assert!(promised(&figures), "accepted with {figures:?}");
+        Ok(figures)
     }
 }
 

@@ -1,7 +1,7 @@
 //! The calls price and check.
 
 use super::Answer;
-use crate::{Figures, Refusal, Terms};
+use crate::{Figures, Outcome, Refusal, Terms};
 
 unsafe extern "C" {
     fn relief_price(
@@ -66,7 +66,9 @@ pub fn price(terms: &Terms, samples: &[u8], image: &[i32]) -> Result<Figures, Re
             &mut answer.slack,
         )
     };
-    answer.figures(number)
+    answer.figures(number, |f| {
+        (f.outcome, f.moved, f.floor, f.slack) == (Outcome::Checked, 0, 0, 0)
+    })
 }
 
 /// Judges a given flow and fills `image` with its image.
@@ -99,5 +101,5 @@ pub fn check(
             &mut answer.slack,
         )
     };
-    answer.figures(number)
+    answer.figures(number, |f| (f.outcome, f.moved) == (Outcome::Checked, 0))
 }

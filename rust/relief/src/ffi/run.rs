@@ -1,7 +1,7 @@
 //! The call run.
 
 use super::Answer;
-use crate::{Figures, Refusal, Rounds, Terms};
+use crate::{Figures, Outcome, Refusal, Rounds, Terms};
 
 unsafe extern "C" {
     fn relief_run(
@@ -67,5 +67,5 @@ pub fn run(
             &mut answer.slack,
         )
     };
-    answer.figures(number)
+    answer.figures(number, |f| f.outcome != Outcome::Checked)
 }
