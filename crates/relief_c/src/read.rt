@@ -32,13 +32,16 @@ fn job_of(a: ReadResult) -> Job
             terms,
             rounds,
             flowed,
-        } => Job {
-            number: 0,
-            place: 0,
-            terms,
-            rounds,
-            flowed: flowed as u32,
-        },
+        } => {
+            let seen = flowed as u32;
+            Job {
+                number: 0,
+                place: 0,
+                terms,
+                rounds,
+                flowed: seen,
+            }
+        }
         ReadResult::Refused { number, place } => {
             let terms = Terms {
                 width: 0,

@@ -15,8 +15,8 @@ as-number false = refl
 enum-known-a : tie.Need-enum-known-a
 enum-known-a c = search needs
 
-cast-t11 : tie.Need-cast-t11
-cast-t11 c = search needs
+cast-seen : tie.Need-cast-seen
+cast-seen c = search needs
 
 enum-known-a-2 : tie.Need-enum-known-a-2
 enum-known-a-2 c = search needs
@@ -32,4 +32,4 @@ returns-2 c =
     (ap readAnswerOf (sym (c .before .a2 .given .1)))
 
 pub job-of-spec : {M : Type 1} → statement M
-job-of-spec = tie.close (tie.spec enum-known-a cast-t11 enum-known-a-2 returns returns-2)
+job-of-spec = tie.close (tie.spec enum-known-a cast-seen enum-known-a-2 returns returns-2)
