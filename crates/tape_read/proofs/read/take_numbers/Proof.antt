@@ -6,7 +6,6 @@ use borrow.Author.Needs.{needs}
 use lib.ListN.{length, getD}
 use Rattle.model.specs.Tape.{turned}
 use Rattle.roundtrip.proofs.Judged.{answer-by, samples-by, flow-by}
-use Rattle.tape_read.proofs.Promised.{promised}
 use Rattle.tape_read.proofs.Passed.{firstOn, room, beyond, left}
 use Rattle.tape_read.proofs.read.take_numbers.Statement.{statement}
 use Rattle.tape_read.proofs.read.take_numbers.Tie as tie
@@ -34,11 +33,10 @@ returns c =
     let a = k .before .args in
     let first : firstOn (a .tape .now) (a .t) ≡ c .before .before .beyond-from .result = sym (c .before .before .beyond-from .ensures) in
     let far : firstOn (a .tape .now) (a .t) < a .t .flows = omega (arith, first, c .if1 .taken) in
-    let r = beyond (a .tape .now) (byte k) (a .samples .now) (a .flow .now) (k .before .pre) far ∙ ap (turned 8) first in
-    promised (a .tape .now) (a .samples .now) (a .flow .now) (byte k)
-    (sym (answer-by (a .tape .now) (a .samples .now) (a .flow .now) r))
-    (sym (samples-by (a .tape .now) (a .samples .now) (a .flow .now) r))
-    (sym (flow-by (a .tape .now) (a .samples .now) (a .flow .now) r))
+    let r = beyond (a .tape .now) (byte k) (a .samples .now) (a .flow .now) (k .before .pre) far ∙ ap (turned 8) first in (
+      sym (answer-by (a .tape .now) (a .samples .now) (a .flow .now) r),
+      (sym (samples-by (a .tape .now) (a .samples .now) (a .flow .now) r), sym (flow-by (a .tape .now) (a .samples .now) (a .flow .now) r)),
+    )
 
 fill-samples-requires : tie.Need-fill-samples-requires
 fill-samples-requires c κs = omega (arith, fits (c .before .before .before .before .before .before .before .before))
@@ -59,10 +57,7 @@ returns-2 c =
     let tested = c .before .before .before .before .before .before .before .before in
     let first : tested .before .before .beyond-from .result ≡ firstOn (a .tape .now) (a .t) = tested .before .before .beyond-from .ensures in
     let l = left (a .tape .now) (byte k) (a .samples .now) (a .flow .now) (k .before .pre) (subst (λ (n : ℕ). a .t .flows ≤ n) first (tested .if1 .left)) in
-    promised (a .tape .now) (a .samples .now) (a .flow .now) (byte k)
-    (sym (l .0))
-    (c .before .before .before .before .before .before .fill-samples .ensures ∙ sym (l .1))
-    (c .before .before .fill-flow .ensures ∙ sym (l .2))
+    (sym (l .0), (c .before .before .before .before .before .before .fill-samples .ensures ∙ sym (l .1), c .before .before .fill-flow .ensures ∙ sym (l .2)))
 
 pub take-numbers-spec : {M : Type 1} → statement M
 take-numbers-spec =
