@@ -1,44 +1,67 @@
 #!/usr/bin/env python3
-"""Makes a PGM picture from what the cleaning program prints: standard input to standard output.
+"""Makes a PGM picture from what the cleaning program prints.
 
-    target/bin/relief < examples/facade.tape | python3 examples/answer2pgm.py > clean.pgm
+    target/bin/relief < examples/facade.tape > answer.txt
+    python3 examples/answer2pgm.py answer.txt clean.pgm
 
-Image values come in sub-units of 1/256 level and are rounded to levels. The figures, or a refusal,
-go to standard error.
+Reads standard input and writes standard output where no file is named. Image values come in sub-units
+of 1/256 level and are rounded to levels, 0 to 255, or to the scale that --maxval names: 63 for a scan
+of maxval 63, 65280 for the sub-units themselves. The picture is as bright on each. The figures go to
+standard error. An answer whose last rows are missing cannot be told from a smaller picture's.
 """
 
+import re
 import sys
 
 import pgm
+import script
 
+NAME = "answer2pgm"
 HEADING = "outcome moved price floor slack"
+FIGURES = re.compile(r"(settled|spent|checked) \d+ \d+ -?\d+ \d+")
+TOP = 255 * 256  # the largest image value, in sub-units
 
 
-def level(value):
-    """The level nearest to a value in sub-units, the upper one of two."""
-    return (value + 128) // 256
+def arguments():
+    parser = script.Parser(prog=NAME, description="Makes a PGM picture from the cleaning program's answer.")
+    parser.add_argument("--maxval", type=script.number(1, 65535), default=255, metavar="N",
+                        help="the picture's largest sample, 1 to 65535 (else 255)")
+    parser.add_files("answer", "picture")
+    return parser.parse_args()
 
 
-def read(answer):
-    """The figures and the rows of levels. A ValueError says what is wrong."""
-    lines = answer.splitlines()
-    if lines and lines[0].startswith("refused "):
-        raise ValueError(lines[0])
-    if len(lines) < 3 or lines[0] != HEADING:
+def read(data):
+    """The figures and the rows of image values. A ValueError says what is wrong."""
+    lines = data.decode("ascii", "replace").splitlines()
+    if not lines:
+        raise ValueError("empty, not an answer of the cleaning program")
+    if re.fullmatch(r"refused \d+ at \d+", lines[0]):
+        raise ValueError(f"the cleaning program refused the job: {lines[0]} (README.md lists the refusals)")
+    if lines[0] != HEADING or len(lines) < 2 or not FIGURES.fullmatch(lines[1]):
         raise ValueError("not an answer of the cleaning program")
-    rows = [[level(int(value)) for value in line.split()] for line in lines[2:]]
-    if len({len(row) for row in rows}) > 1:
-        raise ValueError("the rows have different lengths")
+    if len(lines) < 3 or not data.endswith(b"\n"):
+        raise ValueError("the answer is cut off")
+    rows = [[image_value(word) for word in line.split()] for line in lines[2:]]
+    if len({len(row) for row in rows}) > 1 or not rows[0]:
+        raise ValueError("the rows of image values differ in length")
     return lines[1], rows
 
 
+def image_value(word):
+    """The number that a word stands for."""
+    if not re.fullmatch(r"\d{1,5}", word, re.ASCII) or int(word) > TOP:
+        raise ValueError(f"an image value is not a number from 0 to {TOP}")
+    return int(word)
+
+
 def main():
-    try:
-        figures, rows = read(sys.stdin.read())
-    except ValueError as error:
-        sys.exit(f"answer2pgm: {error}")
+    options = arguments()
+    with script.naming(NAME, script.source_name(options.source)):
+        figures, rows = read(script.read(options.source))
+    samples = [[pgm.rescaled(value, TOP, options.maxval) for value in row] for row in rows]
+    with script.naming(NAME, script.target_name(options.target)):
+        script.write(options.target, pgm.text(samples, options.maxval).encode())
     print(HEADING, figures, sep="\n", file=sys.stderr)
-    sys.stdout.write(pgm.text(rows))
 
 
 if __name__ == "__main__":

@@ -1,15 +1,20 @@
 #!/usr/bin/env python3
-"""Makes the tape of a job from a PGM picture: standard input to standard output.
+"""Makes the tape of a job from a PGM picture of samples of 8 bits.
 
-    python3 examples/pgm2tape.py --low 30 --high 200 < examples/facade.pgm > examples/facade.tape
+    python3 examples/pgm2tape.py --low 30 --high 200 examples/facade.pgm examples/facade.tape
+
+Reads standard input and writes standard output where no file is named. Samples of a maxval below 255
+are scaled to 0..255 (the nearest), so that the picture comes back as bright as it was; a line on
+standard error says so. Weight and box are then in the scaled levels.
 """
 
-import argparse
 import struct
 import sys
 
 import pgm
+import script
 
+NAME = "pgm2tape"
 PIXELS = 4096  # that the cleaning program takes at most
 
 TERMS = {  # name: default, largest, meaning
@@ -21,41 +26,48 @@ TERMS = {  # name: default, largest, meaning
 }
 
 
+def arguments():
+    parser = script.Parser(prog=NAME, description="Makes a job's tape from a PGM picture.")
+    for name, (default, largest, meaning) in TERMS.items():
+        parser.add_argument(f"--{name}", type=script.number(0, largest), default=default, metavar="N",
+                            help=f"{meaning}, 0 to {largest} (else {default})")
+    parser.add_files("picture", "tape")
+    options = parser.parse_args()
+    if options.low > options.high:
+        parser.error("--low is above --high")
+    return options
+
+
+def read(data):
+    """The rows of levels and the maxval of a picture. A ValueError says why there is no job."""
+    rows, maxval = pgm.read(data)
+    pixels = len(rows) * len(rows[0])
+    if pixels > PIXELS:
+        raise ValueError(f"{pixels} pixels: the cleaning program takes {PIXELS} at most")
+    return [[pgm.rescaled(sample, maxval, 255) for sample in row] for row in rows], maxval
+
+
 def tape(rows, terms):
     """The records: size, weight and box, rounds, samples, end; lowest byte first."""
     records = [
         struct.pack("<BHH", 1, len(rows[0]), len(rows)),
-        struct.pack("<BHBB", 2, terms["weight"], terms["low"], terms["high"]),
-        struct.pack("<BHH", 3, terms["quick"], terms["allowance"]),
+        struct.pack("<BHBB", 2, terms.weight, terms.low, terms.high),
+        struct.pack("<BHH", 3, terms.quick, terms.allowance),
     ]
-    records += [bytes([4, sample]) for row in rows for sample in row]
+    records += [bytes([4, level]) for row in rows for level in row]
     return b"".join(records) + b"\0"
 
 
-def judge(rows, terms):
-    """Raises a ValueError if the cleaning program would refuse the job."""
-    pixels = len(rows) * len(rows[0])
-    if pixels > PIXELS:
-        raise ValueError(f"{pixels} pixels: the cleaning program takes {PIXELS} at most")
-    for name, (_, largest, _) in TERMS.items():
-        if not 0 <= terms[name] <= largest:
-            raise ValueError(f"--{name} must be 0 to {largest}")
-    if terms["low"] > terms["high"]:
-        raise ValueError("--low is above --high")
-
-
 def main():
-    parser = argparse.ArgumentParser(description="Makes a job's tape from a PGM picture.")
-    for name, (default, largest, meaning) in TERMS.items():
-        parser.add_argument(f"--{name}", type=int, default=default,
-                            help=f"{meaning}, 0 to {largest} (else {default})")
-    terms = vars(parser.parse_args())
-    try:
-        rows = pgm.read(sys.stdin.buffer.read())
-        judge(rows, terms)
-    except ValueError as error:
-        sys.exit(f"pgm2tape: {error}")
-    sys.stdout.buffer.write(tape(rows, terms))
+    options = arguments()
+    picture = script.source_name(options.source)
+    with script.naming(NAME, picture):
+        rows, maxval = read(script.read(options.source))
+    with script.naming(NAME, script.target_name(options.target)):
+        script.write(options.target, tape(rows, options))
+    if maxval < 255:
+        print(f"{NAME}: {picture}: maxval {maxval}: samples scaled to 0..255, the levels of weight and box;"
+              f" `answer2pgm.py --maxval {maxval}` scales back", file=sys.stderr)
 
 
 if __name__ == "__main__":
