@@ -1,17 +1,25 @@
 #!/usr/bin/env bash
 # The main job on a sample: cleans the scanned façade examples/facade.tape with the program and shows the answer. The
-# program is proved before it is built: some minutes the first time, a second after that.
+# program is proved before it is built: some minutes the first time, a second after that. The prover's lines go to
+# target/program.log. RELIEF_BIN, if set, is the path of another program: that is taken as it is, and nothing is built.
 set -euo pipefail
+if [ -n "${RELIEF_BIN:-}" ]; then
+    program=$(realpath "$RELIEF_BIN")
+fi
 cd "$(dirname "$0")/.."
+if [ -z "${RELIEF_BIN:-}" ]; then
+    echo "proving and building the program (some minutes the first time)" >&2
+    bash tools/quiet.sh target/program.log rt check relief
+    program=target/bin/relief
+fi
+
 mkdir -p target/examples
-
-echo "proving and building the program (some minutes the first time)" >&2
-rt check relief > target/examples/proof.log 2>&1 || { tail -n 20 target/examples/proof.log >&2; exit 1; }
-
-target/bin/relief < examples/facade.tape > target/examples/facade.txt
-head -n 2 target/examples/facade.txt
-echo "with a line of values in sub-units for each row: target/examples/facade.txt"
-
-# what answer2pgm.py says beside its picture are the two lines above
-python3 examples/answer2pgm.py < target/examples/facade.txt > target/examples/facade-cleaned.pgm 2> /dev/null
-echo "before and after, as pictures: examples/facade.pgm, target/examples/facade-cleaned.pgm"
+answer=target/examples/facade.txt
+picture=target/examples/facade-cleaned.pgm
+rm -f "$answer" "$picture"
+"$program" < examples/facade.tape > "$answer"
+# what the script says beside its picture: the answer's first two lines, or what is wrong
+said=$(python3 examples/answer2pgm.py "$answer" "$picture" 2>&1) || { echo "$said" >&2; exit 1; }
+echo "$said"
+echo "with a line of values in sub-units for each row: $answer"
+echo "before and after, as pictures: examples/facade.pgm, $picture"

@@ -1,5 +1,6 @@
 #!/usr/bin/env bash
-# Builds the static library, then compiles examples/facade.c against it and runs that.
+# Builds the static library, then compiles examples/facade.c against it and runs that: its answer is all that standard
+# output gets.
 set -euo pipefail
 cd "$(dirname "$0")/.."
 features=$(bash tools/library.sh)

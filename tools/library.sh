@@ -1,12 +1,13 @@
 #!/usr/bin/env bash
 # Builds the static library and prints the calls that it defines, as cargo features: judge (price, check), run,
-# tape (read, write). RELIEF_LIB_DIR, if set, is the folder (an absolute path) of another librelief_c.a: that is
-# taken as it is, and nothing is built.
+# tape (read, write). The prover's lines go to target/library.log. RELIEF_LIB_DIR, if set, is the folder (an absolute
+# path) of another librelief_c.a: that is taken as it is, and nothing is built.
 set -euo pipefail
 cd "$(dirname "$0")/.."
 
 if [ -z "${RELIEF_LIB_DIR:-}" ]; then
-    rt staticlib relief_c >&2
+    echo "proving and building the library (some minutes the first time)" >&2
+    bash tools/quiet.sh target/library.log rt staticlib relief_c
 fi
 archive=${RELIEF_LIB_DIR:-target/staticlib}/librelief_c.a
 if [ ! -f "$archive" ]; then

@@ -1,0 +1,266 @@
+#!/usr/bin/env python3
+"""Tests of the picture scripts in examples/ and of tools/quiet.sh.
+
+    python3 tests/scripts.py
+
+RELIEF_BIN, if set, is the path of the cleaning program: pictures then go through it and back, too.
+"""
+
+import os
+import resource
+import signal
+import stat
+import subprocess
+import sys
+import tempfile
+import unittest
+from pathlib import Path
+
+sys.dont_write_bytecode = True
+TOP = Path(__file__).resolve().parent.parent
+sys.path.insert(0, str(TOP / "examples"))
+
+import pgm  # noqa: E402
+
+PROGRAM = os.environ.get("RELIEF_BIN")
+if PROGRAM:
+    PROGRAM = os.path.realpath(PROGRAM)
+
+ANSWER = b"outcome moved price floor slack\nsettled 17 131090 131054 36\n253 259\n"
+REFUSED = "the cleaning program refused the job: refused 8 at 0 (README.md lists the refusals)"
+
+
+class Scripts(unittest.TestCase):
+    """Each test has an empty folder, in which the scripts run."""
+
+    def setUp(self):
+        folder = tempfile.TemporaryDirectory()
+        self.addCleanup(folder.cleanup)
+        self.folder = Path(folder.name)
+
+    def run_script(self, name, *words, data=b"", **more):
+        command = [sys.executable, "-B", str(TOP / "examples" / name), *words]
+        return subprocess.run(command, input=data, capture_output=True, cwd=self.folder, **more)
+
+    def names(self):
+        return sorted(path.name for path in self.folder.iterdir())
+
+    def fails(self, message, name, *words, data=b"", **more):
+        """One line on standard error, exit status 1, nothing written, no file more."""
+        before = {path: path.read_bytes() for path in self.folder.iterdir() if path.is_file()}
+        done = self.run_script(name, *words, data=data, **more)
+        self.assertEqual(done.stderr.decode(), f"{name.removesuffix('.py')}: {message}\n")
+        self.assertEqual((done.returncode, done.stdout), (1, b""))
+        self.assertEqual({path: path.read_bytes() for path in self.folder.iterdir() if path.is_file()}, before)
+
+    def tape(self, picture, *words, said=""):
+        done = self.run_script("pgm2tape.py", *words, data=picture)
+        self.assertEqual((done.returncode, done.stderr.decode()), (0, said))
+        return done.stdout
+
+    def levels(self, picture, **more):
+        """The samples of the picture's tape."""
+        return list(self.tape(picture, **more)[16:-1:2])
+
+
+def scaled(file, maxval):
+    return (f"pgm2tape: {file}: maxval {maxval}: samples scaled to 0..255, the levels of weight and box;"
+            f" `answer2pgm.py --maxval {maxval}` scales back\n")
+
+
+class Tapes(Scripts):
+    def test_sample(self):
+        picture = (TOP / "examples/facade.pgm").read_bytes()
+        tape = (TOP / "examples/facade.tape").read_bytes()
+        words = ["--low", "30", "--high", "200"]
+        self.assertEqual(self.tape(picture, *words), tape)
+        done = self.run_script("pgm2tape.py", *words, str(TOP / "examples/facade.pgm"), "out.tape")
+        self.assertEqual((done.returncode, done.stdout, done.stderr), (0, b"", b""))
+        self.assertEqual((self.folder / "out.tape").read_bytes(), tape)
+        self.assertEqual(self.names(), ["out.tape"])
+
+    def test_maxval(self):
+        self.assertEqual(self.levels(b"P2 4 1 255\n0 1 128 255\n"), [0, 1, 128, 255])
+        self.assertEqual(self.levels(b"P5 4 1 255\n\0\1\x80\xff"), [0, 1, 128, 255])
+        self.assertEqual(self.levels(b"P2 4 1 63\n0 1 32 63\n", said=scaled("standard input", 63)), [0, 4, 130, 255])
+        self.assertEqual(self.levels(b"P5 4 1 63\n\0\1\x20\x3f", said=scaled("standard input", 63)), [0, 4, 130, 255])
+        self.assertEqual(self.levels(b"P2 2 1 1\n1 0\n", said=scaled("standard input", 1)), [255, 0])
+        for maxval in 256, 65535:
+            for kind in "P2", "P5":
+                self.fails(f"standard input: maxval {maxval}: samples of 16 bits are not taken, 255 is the most",
+                           "pgm2tape.py", data=f"{kind} 1 1 {maxval}\n0 ".encode())
+
+    def test_scaling_back(self):
+        for maxval in range(1, 256):
+            for code in range(maxval + 1):
+                level = pgm.rescaled(code, maxval, 255)
+                self.assertLessEqual(abs(level * maxval - code * 255), maxval / 2)
+                self.assertEqual(pgm.rescaled(256 * level, 256 * 255, maxval), code)
+
+    def test_comments(self):
+        plain = b"P2 # a\n#b\n2 # c\r\n1#d\n\n255 # e\n7 # f\n9\n# g"
+        self.assertEqual(self.levels(plain), [7, 9])
+        self.assertEqual(self.levels(b"P5\n# made by hand\n2 1\n# once more\n255\n##"), [35, 35])
+
+    def test_faulty_pictures(self):
+        for data, message in [
+            (b"", "empty, not a PGM picture"),
+            (b"P6 1 1 255\n000", "not a PGM picture (P2 or P5)"),
+            (b"P5 1 1", "not a PGM picture (P2 or P5)"),
+            (b"P2 1 1 255 # open", "0 samples, but 1 x 1 pixels need 1"),
+            (b"P5 2 2 255\n123", "3 samples, but 2 x 2 pixels need 4"),
+            (b"P2 2 2 255\n1 2 3", "3 samples, but 2 x 2 pixels need 4"),
+            (b"P5 2 1 255\n123", "3 samples, but 2 x 1 pixels need 2"),
+            (b"P2 0 5 255\n", "0 x 5 pixels of maxval 255: none may be 0"),
+            (b"P2 1 1 0\n0", "1 x 1 pixels of maxval 0: none may be 0"),
+            (b"P2 2 1 63\n1 64\n", "a sample is not a number from 0 to 63"),
+            (b"P5 1 1 63\n\x40", "a sample is not a number from 0 to 63"),
+            (b"P2 2 1 255\n1 -1\n", "a sample is not a number from 0 to 255"),
+            (b"P2 1 1 255\n" + 9999 * b"1", "a sample is not a number from 0 to 255"),
+            (b"P5 4097 1 255\n" + bytes(4097), "4097 pixels: the cleaning program takes 4096 at most"),
+        ]:
+            with self.subTest(data[:20]):
+                self.fails("standard input: " + message, "pgm2tape.py", data=data)
+                (self.folder / "in.pgm").write_bytes(data)
+                self.fails("in.pgm: " + message, "pgm2tape.py", "in.pgm", "out.tape")
+
+    def test_faulty_terms(self):
+        for words, message in [
+            (["--low", "256"], "argument --low: 256 is not a whole number from 0 to 255"),
+            (["--low", "-1"], "argument --low: -1 is not a whole number from 0 to 255"),
+            (["--weight", "65281"], "argument --weight: 65281 is not a whole number from 0 to 65280"),
+            (["--quick", "4097"], "argument --quick: 4097 is not a whole number from 0 to 4096"),
+            (["--allowance", "x"], "argument --allowance: x is not a whole number from 0 to 65535"),
+            (["--low", "9", "--high", "8"], "--low is above --high"),
+            (["a", "b", "c"], "unrecognized arguments: c"),
+        ]:
+            with self.subTest(words):
+                self.fails(message, "pgm2tape.py", *words, data=b"P2 1 1 255\n0\n")
+
+
+class Pictures(Scripts):
+    def picture(self, *words, answer=ANSWER):
+        done = self.run_script("answer2pgm.py", *words, data=answer)
+        self.assertEqual(done.returncode, 0)
+        self.assertEqual(done.stderr, b"".join(answer.splitlines(keepends=True)[:2]))
+        return done.stdout
+
+    def test_maxval(self):
+        self.assertEqual(self.picture(), b"P2\n2 1\n255\n1 1\n")
+        self.assertEqual(self.picture("--maxval", "65280"), b"P2\n2 1\n65280\n253 259\n")
+        answer = b"outcome moved price floor slack\nspent 0 1 -1 2\n0 127 128\n65151 65152 65280\n"
+        self.assertEqual(self.picture(answer=answer), b"P2\n3 2\n255\n0 0 1\n254 255 255\n")
+        self.assertEqual(self.picture("--maxval", "1", answer=answer), b"P2\n3 2\n1\n0 0 0\n1 1 1\n")
+        for maxval in "0", "65536", "-1", "x":
+            self.fails(f"argument --maxval: {maxval} is not a whole number from 1 to 65535",
+                       "answer2pgm.py", "--maxval", maxval, data=ANSWER)
+
+    def test_levels_as_before(self):
+        for value in range(256 * 255 + 1):
+            self.assertEqual(pgm.rescaled(value, 256 * 255, 255), (value + 128) // 256)
+
+    def test_faulty_answers(self):
+        heading = ANSWER[:ANSWER.index(b"253")]
+        for data, message in [
+            (b"", "empty, not an answer of the cleaning program"),
+            (b"refused 8 at 0\n", REFUSED),
+            (b"\1\2\0\xff", "not an answer of the cleaning program"),
+            (b"outcome moved price floor slack\n", "not an answer of the cleaning program"),
+            (b"outcome moved price floor slack\nsettled 1 2\n0\n", "not an answer of the cleaning program"),
+            (heading, "the answer is cut off"),
+            (ANSWER[:-1], "the answer is cut off"),
+            (heading + b"1 2\n3\n", "the rows of image values differ in length"),
+            (heading + b"\n", "the rows of image values differ in length"),
+            (heading + b"65281\n", "an image value is not a number from 0 to 65280"),
+            (heading + b"x\n", "an image value is not a number from 0 to 65280"),
+        ]:
+            with self.subTest(data[-20:]):
+                self.fails("standard input: " + message, "answer2pgm.py", data=data)
+                (self.folder / "in.txt").write_bytes(data)
+                self.fails("in.txt: " + message, "answer2pgm.py", "in.txt", "out.pgm")
+
+    @unittest.skipUnless(PROGRAM, "RELIEF_BIN is not set")
+    def test_through_the_program(self):
+        for maxval in 1, 63, 254, 255:
+            text = pgm.text([[0, maxval // 3, maxval], [maxval, 1, maxval // 2]], maxval).encode()
+            said = scaled("standard input", maxval) if maxval < 255 else ""
+            tape = self.tape(text, "--weight", "0", said=said)
+            answer = subprocess.run([PROGRAM], input=tape, capture_output=True, check=True).stdout
+            self.assertEqual(self.picture("--maxval", str(maxval), answer=answer), text)
+
+    @unittest.skipUnless(PROGRAM, "RELIEF_BIN is not set")
+    def test_refusal_of_the_program(self):
+        answer = subprocess.run([PROGRAM], input=b"", capture_output=True, check=True).stdout
+        self.fails("standard input: the cleaning program refused the job: refused 13 at 0"
+                   " (README.md lists the refusals)", "answer2pgm.py", data=answer)
+
+
+class Files(Scripts):
+    def test_missing(self):
+        for name in "pgm2tape.py", "answer2pgm.py":
+            self.fails("no/such: No such file or directory", name, "no/such", "out")
+            self.fails(".: Is a directory", name, ".", "out")
+
+    def test_unwritable(self):
+        (self.folder / "in").write_bytes(ANSWER)
+        self.fails("no/out: No such file or directory", "answer2pgm.py", "in", "no/out")
+        self.fails("in/out: Not a directory", "answer2pgm.py", "in", "in/out")
+        self.fails(".: Is a directory", "answer2pgm.py", "in", ".")
+        if os.path.exists("/dev/full"):
+            self.fails("/dev/full: No space left on device", "answer2pgm.py", "in", "/dev/full")
+            with open("/dev/full", "wb") as full:
+                command = [sys.executable, "-B", str(TOP / "examples/answer2pgm.py"), "in"]
+                done = subprocess.run(command, stdout=full, stderr=subprocess.PIPE, cwd=self.folder)
+            self.assertEqual(done.stderr, b"answer2pgm: standard output: No space left on device\n")
+            self.assertEqual(done.returncode, 1)
+
+    @unittest.skipUnless(os.geteuid(), "root may write every file")
+    def test_not_permitted(self):
+        (self.folder / "in").write_bytes(ANSWER)
+        (self.folder / "out").write_bytes(b"kept")
+        (self.folder / "out").chmod(0o444)
+        self.fails("out: Permission denied", "answer2pgm.py", "in", "out")
+
+    def test_half_written(self):
+        """A limit on the size of files ends the writing half way."""
+        (self.folder / "in").write_bytes(ANSWER)
+        (self.folder / "out").write_bytes(b"kept")
+
+        def limit():
+            signal.signal(signal.SIGXFSZ, signal.SIG_IGN)
+            resource.setrlimit(resource.RLIMIT_FSIZE, (5, 5))
+
+        for target in "out", "new":
+            self.fails(f"{target}: File too large", "answer2pgm.py", "in", target, preexec_fn=limit)
+
+    def test_replaced(self):
+        (self.folder / "in").write_bytes(ANSWER)
+        (self.folder / "out").write_bytes(b"earlier")
+        (self.folder / "out").chmod(0o640)
+        (self.folder / "link").symlink_to("out")
+        done = self.run_script("answer2pgm.py", "in", "link")
+        self.assertEqual((done.returncode, done.stdout), (0, b""))
+        self.assertEqual((self.folder / "out").read_bytes(), b"P2\n2 1\n255\n1 1\n")
+        self.assertEqual(stat.S_IMODE((self.folder / "out").stat().st_mode), 0o640)
+        self.assertTrue((self.folder / "link").is_symlink())
+        self.assertEqual(self.names(), ["in", "link", "out"])
+
+
+class Quiet(Scripts):
+    def run_quiet(self, command):
+        words = ["bash", str(TOP / "tools/quiet.sh"), "logs/a.log", "sh", "-c", command]
+        return subprocess.run(words, capture_output=True, text=True, cwd=self.folder)
+
+    def test_success(self):
+        done = self.run_quiet("echo one; echo two >&2")
+        self.assertEqual((done.returncode, done.stdout, done.stderr), (0, "", ""))
+        self.assertEqual((self.folder / "logs/a.log").read_text(), "one\ntwo\n")
+
+    def test_failure(self):
+        done = self.run_quiet("echo one; echo two >&2; exit 3")
+        self.assertEqual((done.returncode, done.stdout), (3, ""))
+        self.assertTrue(done.stderr.startswith("one\ntwo\nfailed with exit status 3: sh "))
+
+
+if __name__ == "__main__":
+    unittest.main()
