@@ -1,4 +1,4 @@
--- Document 01's number and values for each case of the enum that check, price and run give.
+-- Document 01's number and values for each case of the enum that check, price and run give (SPECIFICATION 4.3, 4.4).
 use lib.IntN.{pos}
 use Rattle.calls.specs.declared.answer.Answer.{Answer}
 use Rattle.calls.specs.declared.answer.Answer.the-variants.{Refused, Checked, Settled, Spent}

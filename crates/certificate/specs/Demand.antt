@@ -1,4 +1,4 @@
--- Demand 3, said of the numbers that a call gives and of what the lent buffers hold when it returns.
+-- Demand 3, said of the numbers that a call gives and of what the lent buffers hold when it returns (SPECIFICATION 8.4 to 8.8).
 use mathlib.Core.List.{List}
 use mathlib.Core.Logic.{_↔_}
 use mathlib.Core.Path.{_≡_}
@@ -14,7 +14,7 @@ use Rattle.model.specs.Grid.{grid}
 use Rattle.model.specs.Calls as Calls
 use Rattle.model.specs.Calls.{Answer, pairsOf, quickFlow}
 
--- x is the image of flow f, and price, floor and slack are those that document 01 defines for them
+-- x is the image of flow f, and price, floor and slack are those that document 01 defines for them (SPECIFICATION 8.4)
 pub record Figures (p : Problem) (f x : ℕ → ℤ) (price floor slack : ℤ) : Type 0 where
   pub images : (i : ℕ) → i < p .pixels → x i ≡ Model.image p f i
   pub prices : price ≡ Model.price p x
@@ -22,7 +22,7 @@ pub record Figures (p : Problem) (f x : ℕ → ℤ) (price floor slack : ℤ) :
   pub slacks : slack ≡ Model.slack p f
 
 -- Image x, of this price, against every image y of the box: returned price + squared distance ≤ other price + slack; and
--- at slack 0 the two are equal exactly when their prices are (an optimality certificate)
+-- at slack 0 the two are equal exactly when their prices are (an optimality certificate) (SPECIFICATION 8.4, 8.5)
 pub record Certified (p : Problem) (x : ℕ → ℤ) (price slack : ℤ) : Type 0 where
   pub close : (y : ℕ → ℤ) → InBox p y → (price +ℤ distance p x y) ≤ℤ (Model.price p y +ℤ slack)
   pub exact :
@@ -30,7 +30,7 @@ pub record Certified (p : Problem) (x : ℕ → ℤ) (price slack : ℤ) : Type 
       (price ≡ Model.price p y) ↔ ((i : ℕ) → i < p .pixels → x i ≡ y i)
 
 -- The certificate of an answer, of the flow and the image in the buffers: on the grid itself, and on every whole division
--- k of it, where the image is k times as large, and price, floor and slack are k² times as large
+-- k of it, where the image is k times as large, and price, floor and slack are k² times as large (SPECIFICATION 8.6)
 pub record Certificate (p : Problem) (flow image : List ℤ) (a : Answer) : Type 0 where
   pub figures : Figures p (at flow) (at image) (a .price) (a .floor) (a .slack)
   pub here : Certified p (at image) (a .price) (a .slack)
@@ -42,13 +42,13 @@ pub record Certificate (p : Problem) (flow image : List ℤ) (a : Answer) : Type
       (k : ℕ) → 1 ≤ k →
       Certified (divided k p) (times k (at image)) (pos (k * k) *ℤ a .price) (pos (k * k) *ℤ a .slack)
 
--- Demand 3 for check: the certificate of the flow that it was lent and of the image that it leaves
+-- Demand 3 for check: the certificate of the flow that it was lent and of the image that it leaves (SPECIFICATION 8.4)
 abbrev pub CheckDemand : Terms → List ℕ → List ℤ → List ℤ → Answer → Type 0
 CheckDemand t samples flow image a = Certificate (grid t samples) flow image a
 
 -- Demand 3 for run: the certificate of the flow and the image that it leaves; moved × 8 is at most the slack of the flow
 -- that the quick rounds leave; a run settles whenever 8 × (allowance + 1) exceeds that slack; and a settled run's slack is
--- at most 28 × weight × pairs
+-- at most 28 × weight × pairs (SPECIFICATION 8.7, 8.8)
 pub record RunDemand (t : Terms) (r : Rounds) (samples : List ℕ) (flow image : List ℤ) (a : Answer) : Type 0 where
   pub certificate : Certificate (grid t samples) flow image a
   pub moved : pos (8 * a .moved) ≤ℤ Model.slack (grid t samples) (at (quickFlow t r samples))

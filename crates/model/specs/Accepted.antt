@@ -1,6 +1,6 @@
 -- What an accepted call has been lent: allowed terms, exact lengths and allowed contents, in the words of demand 2. That
 -- a call is accepted exactly when this holds stands in the calls' promises (proved in proofs/Accepted.antt; of the tape in
--- crate `roundtrip`).
+-- crate `roundtrip`). The records are the points of SPECIFICATION 8.3.
 use mathlib.Core.List.{List}
 use mathlib.Core.Logic.{_⊎_}
 use mathlib.Core.Path.{_≡_}

@@ -1,5 +1,6 @@
 -- The calls check, price and run: where each turns back, its answer, and what it leaves in each lent buffer. `Rounds`,
--- declared in src/lib.rt, are the other numbers of a job: quick rounds and the allowance of steady rounds.
+-- declared in src/lib.rt, are the other numbers of a job: quick rounds and the allowance of steady rounds
+-- (docs/SPECIFICATION.md, sections 4 and 6).
 use mathlib.Core.Bool.{not, _||_, cond}
 use mathlib.Core.List.{List, [], _∷_}
 use Prim.Native.Nat.{ℕ, _*_}
@@ -14,11 +15,12 @@ use Rattle.model.specs.Grid.{Terms, sizeAllowed, weightAllowed, boxAllow
 use Rattle.model.specs.Rounds.{eighth, quickRounds, Steady, steadyRounds}
 use Rattle.model.specs.Verdict.{Verdict, Row, row, firstRefusal, decided, left}
 
--- How a call ended
+-- How a call ended (SPECIFICATION 4.4)
 pub data Outcome : Type 0 where
   refused checked settled spent : Outcome
 
 -- What check, price and run give. Accepted: number and place are 0. Refused: zeros but for number and place
+-- (SPECIFICATION 4.3, 4.4)
 pub record Answer : Type 0 where
   pub outcome : Outcome
   pub number : ℕ
@@ -35,14 +37,15 @@ refusal n p =
 abbrev pub figures : Outcome → ℕ → ℤ → ℤ → ℤ → Answer
 figures o m p f s = record { outcome = o; number = 0; place = 0; moved = m; price = p; floor = f; slack = s }
 
--- The size of a job in pixels and in pairs
+-- The size of a job in pixels and in pairs (SPECIFICATION 1.2, 1.8)
 abbrev pub pixelsOf : Terms → ℕ
 pixelsOf t = t .width * t .height
 
 abbrev pub pairsOf : Terms → ℕ
 pairsOf t = length (gridPairs (t .width) (t .height))
 
--- Terms: 1 size; 2 weight; 3 low above high; 10 quick rounds over 4,096. The place is 0 in a call, the record's offset in a tape
+-- Terms: 1 size; 2 weight; 3 low above high; 10 quick rounds over 4,096. The place is 0 in a call, the record's offset in a
+-- tape (SPECIFICATION 6.2, 6.3)
 abbrev pub sizeRow : Terms → ℕ → Row
 sizeRow t place = row (not (sizeAllowed (t .width) (t .height))) 1 place
 
@@ -55,11 +58,11 @@ boxRow t place = row (not (boxAllowed (t .low) (t .high))) 3 place
 abbrev pub roundsRow : Rounds → ℕ → Row
 roundsRow r place = row (ltb 4096 (r .quick)) 10 place
 
--- Lent lengths, which must be exact: 4 samples; 5 flow; 6 image; 7 work
+-- Lent lengths, which must be exact: 4 samples; 5 flow; 6 image; 7 work (SPECIFICATION 6.2)
 abbrev pub lengthRow : {A : Type 0} → ℕ → List A → ℕ → Row
 lengthRow number buffer due = row (not (eqb (length buffer) due)) number 0
 
--- Contents: 8 flow number beyond ±W, 9 image value outside the box; the place is the first index
+-- Contents: 8 flow number beyond ±W, 9 image value outside the box; the place is the first index (SPECIFICATION 6.2, 6.3)
 unfoldable pub firstBeyond : ℕ → List ℤ → ℕ
 firstBeyond weight flow = firstWhere (length flow) (λ j. ltb weight (natAbs (at flow j)))
 
@@ -73,7 +76,7 @@ flowRow weight flow = row (ltb (firstBeyond weight flow) (length flow)) 8 (first
 abbrev pub imageRow : Terms → List ℤ → Row
 imageRow t values = row (ltb (firstOutside t values) (length values)) 9 (firstOutside t values)
 
--- The image and the figures of a flow of this job
+-- The image and the figures of a flow of this job (SPECIFICATION 2.5, 4.5)
 unfoldable pub imageOf : Terms → List ℕ → List ℤ → List ℤ
 imageOf t samples flow = table (pixelsOf t) (image (grid t samples) (at flow))
 
@@ -82,7 +85,7 @@ figuresOf o moved t samples flow =
     figures o moved (price (grid t samples) (image (grid t samples) (at flow))) (floor (grid t samples) (at flow))
     (slack (grid t samples) (at flow))
 
--- Check judges a given flow and fills the image
+-- Check judges a given flow and fills the image (SPECIFICATION 4.5, 6.4)
 unfoldable pub checkVerdict : Terms → List ℕ → List ℤ → List ℤ → Verdict
 checkVerdict t samples flow values =
     firstRefusal
@@ -102,7 +105,7 @@ checkAnswer t samples flow values =
 unfoldable pub checkImage : Terms → List ℕ → List ℤ → List ℤ → List ℤ
 checkImage t samples flow values = left (checkVerdict t samples flow values) (imageOf t samples flow) values
 
--- Price judges a given image, and gives floor and slack as 0
+-- Price judges a given image, and gives floor and slack as 0 (SPECIFICATION 4.6, 6.4)
 unfoldable pub priceVerdict : Terms → List ℕ → List ℤ → Verdict
 priceVerdict t samples values =
     firstRefusal
@@ -120,7 +123,8 @@ priceAnswer t samples values =
     (figures checked 0 (price (grid t samples) (at values)) (pos 0) (pos 0))
     refusal
 
--- Run does the rounds and fills flow and image. The flow that its quick rounds leave, and how its steady rounds end:
+-- Run does the rounds and fills flow and image (SPECIFICATION 4.7, 6.4). The flow that its quick rounds leave (3.7), and how
+-- its steady rounds end (3.11):
 unfoldable pub quickFlow : Terms → Rounds → List ℕ → List ℤ
 quickFlow t r samples = quickRounds eighth (grid t samples) (r .quick) .iterate
 
@@ -154,7 +158,7 @@ unfoldable pub runImage : Terms → Rounds → List ℕ → List ℤ → List �
 runImage t r samples flow values work =
     left (runVerdict t r samples flow values work) (imageOf t samples (ending t r samples .flow)) values
 
--- The work buffer holds only zeros after an accepted run
+-- The work buffer holds only zeros after an accepted run (SPECIFICATION 4.7)
 unfoldable pub runWork : Terms → Rounds → List ℕ → List ℤ → List ℤ → List ℤ → List ℤ
 runWork t r samples flow values work =
     left (runVerdict t r samples flow values work) (zeros (2 * pairsOf t)) work

@@ -1,5 +1,6 @@
--- The grid of document 01 as a problem: sizes, readings, box and pairs. `Terms`, declared in src/lib.rt, are the numbers
--- of a job without its rounds: width, height, weight W, and the box's ends low and high.
+-- The grid of document 01 as a problem: sizes, readings, box and pairs (docs/SPECIFICATION.md, section 1). `Terms`, declared
+-- in src/lib.rt, are the numbers of a job without its rounds: width, height, weight W, and the box's ends low and high
+-- (SPECIFICATION 1.10).
 use mathlib.Core.Bool.{Bool, _&&_}
 use mathlib.Core.List.{List, _++_}
 use Prim.Native.Nat.{ℕ, _+_, _-_, _*_}
@@ -10,34 +11,34 @@ pub use Rattle.model.specs.declared.Terms.{Terms}
 use Rattle.model.specs.Lists.{table, chain}
 use Rattle.model.specs.Problem.{Pair, Problem}
 
--- Width and height are each 1 to 4,096, their product at most 1,048,576
+-- Width and height are each 1 to 4,096, their product at most 1,048,576 (SPECIFICATION 1.1)
 unfoldable pub sizeAllowed : ℕ → ℕ → Bool
 sizeAllowed w h = leb 1 w && leb w 4096 && (leb 1 h && leb h 4096) && leb (w * h) 1048576
 
--- The weight W is 0 to 65,280 sub-units
+-- The weight W is 0 to 65,280 sub-units (SPECIFICATION 1.5)
 unfoldable pub weightAllowed : ℕ → Bool
 weightAllowed weight = leb weight 65280
 
--- The box is low to high, low at most high (each end is a byte, 0 to 255 levels, by its type)
+-- The box is low to high, low at most high (each end is a byte, 0 to 255 levels, by its type) (SPECIFICATION 1.6)
 unfoldable pub boxAllowed : ℕ → ℕ → Bool
 boxAllowed low high = leb low high
 
--- A sub-unit is 1/256 level. Sample s stands for B = 256 × s
+-- A sub-unit is 1/256 level. Sample s stands for B = 256 × s (SPECIFICATION 1.4)
 unfoldable pub readingOf : ℕ → ℤ
 readingOf s = pos (256 * s)
 
--- Image values run from 256 × low to 256 × high
+-- Image values run from 256 × low to 256 × high (SPECIFICATION 1.6)
 unfoldable pub lowEnd : ℕ → ℤ
 lowEnd low = pos (256 * low)
 
 unfoldable pub highEnd : ℕ → ℤ
 highEnd high = pos (256 * high)
 
--- Pixels run row by row: pixel (row, column) has number row × width + column
+-- Pixels run row by row: pixel (row, column) has number row × width + column (SPECIFICATION 1.2)
 abbrev pub pixel : ℕ → ℕ → ℕ → ℕ
 pixel w row column = row * w + column
 
--- Pairs: every (pixel, pixel below), in row order of the upper pixel ..
+-- Pairs: every (pixel, pixel below), in row order of the upper pixel .. (SPECIFICATION 1.7)
 unfoldable pub verticalPairs : ℕ → ℕ → List Pair
 verticalPairs w h = table (w * (h - 1)) (λ i. record { first = i; second = i + w })
 
@@ -49,7 +50,7 @@ horizontalPairs w h =
 unfoldable pub gridPairs : ℕ → ℕ → List Pair
 gridPairs w h = verticalPairs w h ++ horizontalPairs w h
 
--- The problem of a raster: one weight at every pair
+-- The problem of a raster: one weight at every pair (SPECIFICATION 1.10)
 abbrev pub grid : Terms → List ℕ → Problem
 grid t samples =
     record {

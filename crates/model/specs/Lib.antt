@@ -1,5 +1,6 @@
 -- Document 01 as definitions, in its order. A comment gives the document's word and, where it differs, the field's
--- standard term. Numbers are ℕ or ℤ without limits; machine widths enter with the calls' types.
+-- standard term, and the paragraph of docs/SPECIFICATION.md that says the same in words. Numbers are ℕ or ℤ without
+-- limits; machine widths enter with the calls' types.
 --     Lists       buffers as lists: reading, tabulating, the first index
 --     Problem     readings, box and weighted pairs of any shape: fall, price, flow, image, floor, slack, divisions
 --     Grid        document 01's raster as such a problem

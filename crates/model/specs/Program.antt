@@ -1,4 +1,4 @@
--- The cleaning program: the text that it prints for the bytes that it reads.
+-- The cleaning program: the text that it prints for the bytes that it reads (docs/SPECIFICATION.md, section 7).
 use mathlib.Core.Bool.{true, false, cond}
 use mathlib.Core.List.{List, _++_}
 use Prim.Native.Nat.{ℕ, _*_}
@@ -23,7 +23,7 @@ word spent = "spent"
 abbrev pub field : List ℕ → List ℕ
 field digits = ascii " " ++ digits
 
--- A refusal prints only its number and place
+-- A refusal prints only its number and place (SPECIFICATION 7.5)
 unfoldable pub refusalText : Answer → List ℕ
 refusalText a = ascii "refused " ++ decimal (a .number) ++ ascii " at " ++ decimal (a .place) ++ ascii "\n"
 
@@ -36,7 +36,7 @@ numbersText moved price floor slack =
     ++ field (signedDecimal slack)
     ++ ascii "\n"
 
--- The header line and the line of numbers
+-- The header line and the line of numbers (SPECIFICATION 7.4)
 unfoldable pub figuresText : Answer → List ℕ
 figuresText a =
     ascii "outcome moved price floor slack\n"
@@ -49,7 +49,7 @@ rowText width value =
     chain width (λ column. cond (eqb column 0) (signedDecimal (value column)) (field (signedDecimal (value column))))
     ++ ascii "\n"
 
--- One line of image values for each row
+-- One line of image values for each row (SPECIFICATION 7.4)
 unfoldable pub imageText : Terms → List ℤ → List ℕ
 imageText t values =
     chain (t .height) (λ row. rowText (t .width) (λ column. at values (pixel (t .width) row column)))
@@ -63,7 +63,7 @@ answerText a t values = elim (a .outcome) [
   | spent ↦ figuresText a ++ imageText t values
 ]
 
--- With flow records it checks, else it runs: the job's answer, and the image that it leaves
+-- With flow records it checks, else it runs: the job's answer, and the image that it leaves (SPECIFICATION 7.3)
 unfoldable pub jobAnswer : Progress → Answer
 jobAnswer p =
     let t : Terms = p .terms in
@@ -84,6 +84,7 @@ readText (turned number place) = refusalText (refusal number place)
 readText (whole p) = answerText (jobAnswer p) (p .terms) (jobImage p)
 
 -- It reads one tape; 17 over 65,536 bytes. Its tables hold 4,096 samples and 8,064 flow values
+-- (SPECIFICATION 7.1, 7.2)
 unfoldable pub programText : List ℕ → List ℕ
 programText input = elim (ltb 65536 (length input)) [
   | true ↦ refusalText (refusal 17 0)

@@ -1,4 +1,5 @@
--- The whole square root: the largest whole number whose square is at most n (proved of it in proofs/Root.antt).
+-- The whole square root: the largest whole number whose square is at most n (proved of it in proofs/Root.antt)
+-- (SPECIFICATION 3.3).
 use mathlib.Core.Bool.{cond}
 use Prim.Native.Nat.{ℕ, zero, suc, _+_, _*_, _/_}
 use lib.Dec.{leb}

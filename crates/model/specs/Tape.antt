@@ -1,4 +1,4 @@
--- The job tape: its records, reading and writing, on lists of bytes.
+-- The job tape: its records, reading and writing, on lists of bytes (docs/SPECIFICATION.md, sections 5 and 6).
 use mathlib.Core.Bool.{Bool, true, false, not, _&&_, _||_, cond}
 use mathlib.Core.List.{List, [], _∷_, _++_}
 use Prim.Native.Nat.{ℕ, zero, suc, _+_, _-_, _*_, _/_, _%_, _^_}
@@ -12,7 +12,7 @@ use Rattle.model.specs.Grid.{Terms}
 use Rattle.model.specs.Verdict.{Verdict, Accept, Refuse, Row, row, firstRefusal, left}
 use Rattle.model.specs.Calls.{Rounds, pixelsOf, pairsOf, sizeRow, weightRow, boxRow, roundsRow, lengthRow, flowRow}
 
--- ---- Numbers in bytes, lowest byte first
+-- ---- Numbers in bytes, lowest byte first (SPECIFICATION 5.2)
 
 -- byte i of a number
 abbrev pub byteOf : ℕ → ℕ → ℕ
@@ -41,7 +41,7 @@ fromFour b0 b1 b2 b3 = signed (b0 + 256 * (b1 + 256 * (b2 + 256 * b3)))
 -- ---- Records
 
 -- A record (`Entry`, declared in src/lib.rt) is its kind with its numbers: 0 end, 1 size, 2 weight and box, 3 rounds,
--- 4 one sample, 5 one flow number
+-- 4 one sample, 5 one flow number (SPECIFICATION 5.1)
 
 -- the length of the body, for kinds 0 to 5
 abbrev pub bodyLengths : List ℕ
@@ -67,7 +67,7 @@ decoded kind b =
     kind
     End
 
--- ---- The order allowed
+-- ---- The order allowed (SPECIFICATION 5.3)
 
 -- terms of this size alone, and terms with this weight and this box
 abbrev pub sized : ℕ → ℕ → Terms
@@ -158,7 +158,7 @@ absorbed p (Flow f) =
       flow = p .flow ++ (f ∷ []);
     }
 
--- ---- Where reading turns back
+-- ---- Where reading turns back (SPECIFICATION 6.5)
 
 -- Per record at offset o, where `may` tells which kinds are allowed: 12 unknown kind; 14 kind not allowed here; 13 the
 -- input ends before the record does; 15 a byte after the end. Where the input ends and a record is due there is no kind
@@ -186,7 +186,7 @@ entryRows o samplesLent flowLent (RoundLimits q a) = roundsRow (record { quick =
 entryRows o samplesLent flowLent (Sample s) = []
 entryRows o samplesLent flowLent (Flow f) = []
 
--- ---- Reading: the tape parsed
+-- ---- Reading: the tape parsed (SPECIFICATION 5.5)
 
 -- A refusal, or the whole job
 pub data Parse : Type 0 where
@@ -212,7 +212,7 @@ parseFrom (suc k) tape samplesLent flowLent o p =
           ]
     ]
 
--- 8 is judged only when the whole tape has passed
+-- 8 is judged only when the whole tape has passed (SPECIFICATION 6.5)
 abbrev pub judged : Parse → Parse
 judged (turned number place) = turned number place
 judged (whole p) = unless (firstRefusal (flowRow (p .terms .weight) (p .flow) ∷ [])) (whole p)
@@ -222,7 +222,7 @@ parse tape samplesLent flowLent =
     judged (parseFrom (suc (length tape)) tape samplesLent flowLent 0 nothing)
 
 -- What read gives: the job's terms and rounds, and whether a flow was there (no, where there are no pairs). Accepted:
--- number and place are 0. Refused: zeros but for number and place
+-- number and place are 0. Refused: zeros but for number and place (SPECIFICATION 4.3, 4.8)
 pub record ReadAnswer : Type 0 where
   pub number : ℕ
   pub place : ℕ
@@ -257,7 +257,7 @@ abbrev pub flowAfter : Parse → List ℤ → List ℤ
 flowAfter (turned number place) former = former
 flowAfter (whole p) former = overwritten (p .flow) former
 
--- Read: its answer, the sample buffer and the flow buffer (untouched without flow records)
+-- Read: its answer, the sample buffer and the flow buffer (untouched without flow records) (SPECIFICATION 4.8)
 unfoldable pub readAnswer : List ℕ → List ℕ → List ℤ → ReadAnswer
 readAnswer tape samples flow = readOf (parse tape (length samples) (length flow))
 
@@ -277,7 +277,7 @@ encoded (RoundLimits q a) = 3 ∷ twoBytes q ++ twoBytes a
 encoded (Sample s) = 4 ∷ s ∷ []
 encoded (Flow f) = 5 ∷ fourBytes f
 
--- The tape of a job; a flow of length 0 is none
+-- The tape of a job; a flow of length 0 is none (SPECIFICATION 5.4)
 unfoldable pub tapeOf : Terms → Rounds → List ℕ → List ℤ → List ℕ
 tapeOf t r samples numbers =
     encoded (Size (t .width) (t .height))
@@ -287,7 +287,7 @@ tapeOf t r samples numbers =
     ++ chain (length numbers) (λ j. encoded (Flow (at numbers j)))
     ++ encoded End
 
--- Where write turns back, `room` being its output's length: 16 after the other lengths, 8 last
+-- Where write turns back, `room` being its output's length: 16 after the other lengths, 8 last (SPECIFICATION 6.4)
 abbrev pub writeRows : Terms → Rounds → List ℕ → List ℤ → ℕ → List Row
 writeRows t r samples numbers room =
     sizeRow t 0
@@ -304,6 +304,7 @@ unfoldable pub writeVerdict : Terms → Rounds → List ℕ → List ℤ → Lis
 writeVerdict t r samples numbers output = firstRefusal (writeRows t r samples numbers (length output))
 
 -- What write gives: the byte count. Accepted: number and place are 0. Refused: zeros but for number and place
+-- (SPECIFICATION 4.3, 4.9)
 pub record WriteAnswer : Type 0 where
   pub number : ℕ
   pub place : ℕ

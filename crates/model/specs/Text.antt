@@ -1,4 +1,4 @@
--- Text as ASCII bytes.
+-- Text as ASCII bytes (SPECIFICATION 7.4).
 use mathlib.Core.Bool.{true, false}
 use mathlib.Core.List.{List, [], _∷_, _++_}
 use Prim.Native.Nat.{ℕ, zero, suc, _+_, _/_, _%_}

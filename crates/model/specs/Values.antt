@@ -1,7 +1,7 @@
 -- The values that document 01 marks to be proved (●), in its order: what is asked, and what is to be given; after them
 -- the text that it prints for the 2 by 1 job, and a 2 by 2 job of our own, worked by hand, in which the order of the
 -- pairs tells. One theorem, `values` of proofs/Values.antt, says that the definitions give
--- it in every case.
+-- it in every case (docs/SPECIFICATION.md, section 9).
 use mathlib.Core.List.{List, [], _∷_}
 use Prim.Native.Nat.{ℕ, _*_}
 use lib.IntN.{ℤ, pos, negℤ}
@@ -49,7 +49,7 @@ ask t samples (momentum k) = number (quickRounds eighth (grid t samples) k .mome
 ask t samples (printing quick allowance) =
     text (programText (tapeOf t (record { quick = quick; allowance = allowance }) samples []))
 
--- The 2 by 1 job: samples 0 and 2, weight 256, box 0 to 255
+-- The 2 by 1 job: samples 0 and 2, weight 256, box 0 to 255 (SPECIFICATION 9.1, 9.2, 9.9)
 abbrev pub twoByOne : Asked → Given → Case
 twoByOne a g =
     record {
@@ -59,7 +59,7 @@ twoByOne a g =
       expected = g;
     }
 
--- Samples 0 and 20, weight 1280, box 8 to 12
+-- Samples 0 and 20, weight 1280, box 8 to 12 (SPECIFICATION 9.3)
 abbrev pub narrowBox : Asked → Given → Case
 narrowBox a g =
     record {
@@ -69,7 +69,7 @@ narrowBox a g =
       expected = g;
     }
 
--- 1 by 1, sample 7, other terms as in the 2 by 1 job
+-- 1 by 1, sample 7, other terms as in the 2 by 1 job (SPECIFICATION 9.4)
 abbrev pub onePixel : Asked → Given → Case
 onePixel a g =
     record {
@@ -80,6 +80,7 @@ onePixel a g =
     }
 
 -- 2 by 2, samples 0, 10, 20 and 40, weight 256, box 0 to 255: its pairs are (0, 2), (1, 3), (0, 1), (2, 3)
+-- (SPECIFICATION 9.5)
 abbrev pub twoByTwo : Asked → Given → Case
 twoByTwo a g =
     record {

@@ -1,5 +1,5 @@
 -- Refusals: a call goes down the rows of document 01's table and is refused at the first that applies. `Verdict`, declared
--- in src/lib.rt, is `Accept`, or `Refuse` with a number and a place.
+-- in src/lib.rt, is `Accept`, or `Refuse` with a number and a place (SPECIFICATION 4.3, 6.1).
 use mathlib.Core.Bool.{Bool, true, false}
 use mathlib.Core.List.{List, [], _∷_}
 use Prim.Native.Nat.{ℕ}

@@ -1,5 +1,5 @@
 -- The round trip, as the contracts of read and write cite it: given long enough buffers, a job written to tape reads back as
--- that job, and an accepted tape written again gives its own bytes.
+-- that job, and an accepted tape written again gives its own bytes (SPECIFICATION 8.9).
 use mathlib.Core.Bool.{not, cond}
 use mathlib.Core.List.{List}
 use mathlib.Core.Path.{_≡_}
