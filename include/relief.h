@@ -57,7 +57,8 @@
  *
  * Every call is thread-safe and reentrant: it works in what it is lent, has no global state,
  * allocates nothing, makes no system call and keeps nothing after it returns. Calls may be made at
- * the same time, as long as nothing that one of them writes to is lent to another.
+ * the same time, as long as nothing that one of them writes to is lent to another. (Not proved, but
+ * seen in the compiled library: it has no data that can be written and names no function but memset.)
  *
  * ANSWERS
  *
@@ -123,8 +124,8 @@ extern "C" {
          : (size_t)0)
 
 /* Lengths of samples and of flow that are enough to read any tape of so many bytes; relief_read says
-   in what sense. A tape has 16 bytes beside its samples, and 2 for each of these; the pairs are at
-   most 2 * (pixels - 1), with or without flow records. */
+   in what sense. A tape has at least 16 bytes and 2 for each sample, and there are at most
+   2 * (pixels - 1) pairs. */
 #define RELIEF_READ_SAMPLES(tape_len) \
     ((size_t)(tape_len) < 18 \
          ? (size_t)0 \
