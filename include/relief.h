@@ -30,15 +30,16 @@
  *
  * Quick rounds (Beck and Teboulle's FGP) start from P[0] = R[1] = 0 at every pair and T[1] = 65,536.
  * Round k makes
- *   P[k] = the step on R[k], which itself may pass the weight;
+ *   P[k] = the step on R[k] (R[k] itself may pass the weight);
  *   T[k + 1] = (65,536 + root) / 2, rounded down, where root is the largest whole number whose
  *     square is at most 65,536^2 + 4 * T[k]^2;
  *   R[k + 1] = P[k] + (T[k] - 65,536) * (P[k] - P[k - 1]) / T[k + 1], this quotient alone rounded
  *     toward zero.
  *
- * Steady rounds go on from the last P: each replaces the flow by its step. A test comes before each
- * of them, and once more when the allowance is used up. If no pair would move, the run has settled.
- * If the allowance is used up and some pair would still move, it is spent. Nothing else ends a run.
+ * Steady rounds go on from the last P (P[0] without quick rounds): each replaces the flow by its
+ * step. A test comes before each of them, and once more when the allowance is used up. If no pair
+ * would move, the run has settled. If the allowance is used up and some pair would still move, it is
+ * spent. Nothing else ends a run.
  *
  * BUFFERS
  *
