@@ -85,7 +85,8 @@ int main(void)
         WIDTH, HEIGHT, weight, low, high, quick, allowance, samples, pixels, flow, pairs, image, pixels,
         work, 2 * pairs, &place, &outcome, &moved, &price, &floor, &slack);
     if (number != RELIEF_ACCEPTED) {
-        printf("refused %" PRIu32 " at %" PRIu64 "\n", number, place);
+        printf(
+            "refused %" PRIu32 " at %" PRIu64 ": %s\n", number, place, relief_refusal_text(number));
         return EXIT_FAILURE;
     }
     printf("outcome moved price floor slack\n");

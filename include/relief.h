@@ -1,7 +1,8 @@
 /*
  * The relief cleaner as a library: the calls price, check, run, read and write.
  *
- * Link target/staticlib/librelief_c.a, which `rt staticlib relief_c` writes (x86-64 Linux).
+ * Link target/staticlib/librelief_c.a, which `rt staticlib relief_c` writes (x86-64 Linux). Of the
+ * C library it uses memset alone. This header is C11 and C++.
  *
  * TERMS
  *
@@ -17,17 +18,48 @@
  * - flow: one number for each pair, from -weight to weight. Its pull on a pixel is the sum of the
  *   numbers where the pixel is first minus those where it is second; its image is 256 * sample
  *   minus pull at each pixel, clamped to the box.
- * - quick: the number of quick rounds, 0 to 4,096. allowance: the most steady rounds. What a round
- *   does is defined in crates/model/specs/Rounds.antt.
+ * - quick: the number of quick rounds, 0 to 4,096. allowance: the most steady rounds, 0 to 65,535.
+ *
+ * low, high and allowance are as narrow as their types: C cuts a larger number without a word, and
+ * no call can refuse it.
+ *
+ * ROUNDS
+ *
+ * A step on a flow takes the flow's image and adds to each number fall / 8, rounded toward zero; the
+ * result is clamped to -weight .. weight. A pair would move if a step changes its number.
+ *
+ * Quick rounds (Beck and Teboulle's FGP) start from P[0] = R[1] = 0 at every pair and T[1] = 65,536.
+ * Round k makes
+ *   P[k] = the step on R[k] (R[k] itself may pass the weight);
+ *   T[k + 1] = (65,536 + root) / 2, rounded down, where root is the largest whole number whose
+ *     square is at most 65,536^2 + 4 * T[k]^2;
+ *   R[k + 1] = P[k] + (T[k] - 65,536) * (P[k] - P[k - 1]) / T[k + 1], this quotient alone rounded
+ *     toward zero.
+ *
+ * Steady rounds go on from the last P (P[0] without quick rounds): each replaces the flow by its
+ * step. A test comes before each of them, and once more when the allowance is used up. If no pair
+ * would move, the run has settled. If the allowance is used up and some pair would still move, it is
+ * spent. Nothing else ends a run.
  *
  * BUFFERS
  *
  * Every buffer is a pointer and then its length in values. Lengths must be exact, but for those of
- * relief_read and for relief_write's output. Pointers are never null, also where the length is 0;
- * what a call writes to overlaps nothing else that it is lent. Nothing is kept after a call.
+ * relief_read and for relief_write's output.
+ * - Alignment: every pointer, to a buffer or to a number, has the natural alignment of its type.
+ * - Null: no pointer is ever null, also where the length is 0. Any aligned pointer does there, such
+ *   as the address of a variable of that type; malloc(0) may give null.
+ * - Overlap: what a call writes to, buffers and numbers, overlaps nothing else that it is lent.
+ *   Buffers that are const may overlap each other.
  *
  * Contents are read only after terms and lengths have passed: price, check, run and write touch no
  * buffer when they are refused with 1 to 7, 10 or 16.
+ *
+ * THREADS
+ *
+ * Every call is thread-safe and reentrant: it works in what it is lent, has no global state,
+ * allocates nothing, makes no system call and keeps nothing after it returns. Calls may be made at
+ * the same time, as long as nothing that one of them writes to is lent to another. (Not proved, but
+ * seen in the compiled library: it has no data that can be written and names no function but memset.)
  *
  * ANSWERS
  *
@@ -47,37 +79,129 @@
 extern "C" {
 #endif
 
-/* The number of pixels: the length of samples and image. */
-#define RELIEF_PIXELS(width, height) ((size_t)(width) * (size_t)(height))
+/* The version. Before 1.0.0 a change that callers must follow raises MINOR. */
+#define RELIEF_VERSION_MAJOR 0
+#define RELIEF_VERSION_MINOR 1
+#define RELIEF_VERSION_PATCH 0
+#define RELIEF_VERSION_STRING "0.1.0"
 
-/* The number of pairs: the length of flow, and half that of work. 0 when width and height are 1. */
+/* The limits: the largest number of each kind that is allowed. */
+#define RELIEF_MAX_SIDE 4096           /* width and height; the smallest is 1 */
+#define RELIEF_MAX_PIXELS 1048576      /* width * height */
+#define RELIEF_MAX_PAIRS 2095104       /* those of 1,024 by 1,024 pixels */
+#define RELIEF_MAX_LEVEL 255           /* low and high, by their type */
+#define RELIEF_MAX_WEIGHT 65280        /* in sub-units */
+#define RELIEF_MAX_QUICK 4096
+#define RELIEF_MAX_ALLOWANCE 65535     /* by its type */
+#define RELIEF_MAX_TAPE_BYTES 12572688 /* a tape of that many pixels and pairs */
+
+/*
+ * Counts, of type size_t, and constant where the arguments are. An argument may be evaluated more
+ * than once. Beyond the limits each gives what it says, and never a number that has wrapped.
+ */
+
+/* Whether a size is allowed. The calls refuse any other with RELIEF_REFUSED_SIZE, whatever is lent. */
+#define RELIEF_SIZE_ALLOWED(width, height) \
+    ((size_t)(width) - 1 < RELIEF_MAX_SIDE && (size_t)(height) - 1 < RELIEF_MAX_SIDE && \
+     (size_t)(width) * (size_t)(height) <= RELIEF_MAX_PIXELS)
+
+/* The number of pixels: the length of samples and image. 0 for a size that is not allowed. */
+#define RELIEF_PIXELS(width, height) \
+    (RELIEF_SIZE_ALLOWED(width, height) ? (size_t)(width) * (size_t)(height) : (size_t)0)
+
+/* The number of pairs: the length of flow, and half that of work. 0 when width and height are 1, and
+   for a size that is not allowed. */
 #define RELIEF_PAIRS(width, height) \
-    (2 * RELIEF_PIXELS(width, height) - (size_t)(width) - (size_t)(height))
+    (RELIEF_SIZE_ALLOWED(width, height) \
+         ? 2 * (size_t)(width) * (size_t)(height) - (size_t)(width) - (size_t)(height) \
+         : (size_t)0)
 
-/* The bytes of a tape with so many samples and so many flow numbers (0: no flow records). */
+/* The bytes of a tape with so many samples and so many flow numbers (0: no flow records). 0 for no
+   samples, and for more than RELIEF_MAX_PIXELS of them or than RELIEF_MAX_PAIRS flow numbers. */
 #define RELIEF_TAPE_BYTES(samples_len, flow_len) \
-    (16 + 2 * (size_t)(samples_len) + 5 * (size_t)(flow_len))
+    ((size_t)(samples_len) - 1 < RELIEF_MAX_PIXELS && \
+             RELIEF_MAX_PAIRS - (size_t)(flow_len) <= RELIEF_MAX_PAIRS \
+         ? 16 + 2 * (size_t)(samples_len) + 5 * (size_t)(flow_len) \
+         : (size_t)0)
+
+/* Lengths of samples and of flow that are enough to read any tape of so many bytes; relief_read says
+   in what sense. A tape has at least 16 bytes and 2 for each sample, and there are at most
+   2 * (pixels - 1) pairs. */
+#define RELIEF_READ_SAMPLES(tape_len) \
+    ((size_t)(tape_len) < 18 \
+         ? (size_t)0 \
+         : ((size_t)(tape_len) - 16) / 2 < RELIEF_MAX_PIXELS ? ((size_t)(tape_len) - 16) / 2 \
+                                                             : (size_t)RELIEF_MAX_PIXELS)
+#define RELIEF_READ_FLOW(tape_len) \
+    ((size_t)(tape_len) < 18 \
+         ? (size_t)0 \
+         : 2 * (RELIEF_READ_SAMPLES(tape_len) - 1) < RELIEF_MAX_PAIRS \
+               ? 2 * (RELIEF_READ_SAMPLES(tape_len) - 1) \
+               : (size_t)RELIEF_MAX_PAIRS)
 
 /* What the calls return. The place is 0 unless named. */
 enum relief_refusal {
     RELIEF_ACCEPTED = 0,
-    RELIEF_SIZE = 1,             /* width or height not 1 to 4,096, or over 1,048,576 pixels */
-    RELIEF_WEIGHT = 2,           /* weight over 65,280 */
-    RELIEF_BOX = 3,              /* low above high */
-    RELIEF_SAMPLES_LENGTH = 4,   /* samples_len is not the number of pixels */
-    RELIEF_FLOW_LENGTH = 5,      /* flow_len is not the number of pairs */
-    RELIEF_IMAGE_LENGTH = 6,     /* image_len is not the number of pixels */
-    RELIEF_WORK_LENGTH = 7,      /* work_len is not 2 * the number of pairs */
-    RELIEF_FLOW_VALUE = 8,       /* flow number beyond -weight to weight; place: the first index */
-    RELIEF_IMAGE_VALUE = 9,      /* image value outside the box; place: the first index */
-    RELIEF_QUICK_ROUNDS = 10,    /* more than 4,096 quick rounds */
-    RELIEF_UNKNOWN_KIND = 12,    /* unknown kind of record; place: the record's offset */
-    RELIEF_INPUT_ENDS = 13,      /* the tape ends before the record does, or where one is due;
-                                    place: the tape's length */
-    RELIEF_KIND_NOT_ALLOWED = 14, /* kind not allowed here; place: the record's offset */
-    RELIEF_BYTE_AFTER_END = 15,  /* a byte after the end record; place: its offset */
-    RELIEF_BUFFER_TOO_SHORT = 16 /* a buffer that a tape is read into or written to is too short */
+    RELIEF_REFUSED_SIZE = 1,             /* width or height not 1 to 4,096, or over 1,048,576 pixels */
+    RELIEF_REFUSED_WEIGHT = 2,           /* weight over 65,280 */
+    RELIEF_REFUSED_BOX = 3,              /* low above high */
+    RELIEF_REFUSED_SAMPLES_LENGTH = 4,   /* samples_len is not the number of pixels */
+    RELIEF_REFUSED_FLOW_LENGTH = 5,      /* flow_len is not the number of pairs */
+    RELIEF_REFUSED_IMAGE_LENGTH = 6,     /* image_len is not the number of pixels */
+    RELIEF_REFUSED_WORK_LENGTH = 7,      /* work_len is not 2 * the number of pairs */
+    RELIEF_REFUSED_FLOW_VALUE = 8,       /* flow number beyond -weight to weight;
+                                            place: the first index */
+    RELIEF_REFUSED_IMAGE_VALUE = 9,      /* image value outside the box; place: the first index */
+    RELIEF_REFUSED_QUICK_ROUNDS = 10,    /* more than 4,096 quick rounds */
+    RELIEF_REFUSED_UNKNOWN_KIND = 12,    /* unknown kind of record; place: the record's offset */
+    RELIEF_REFUSED_INPUT_ENDS = 13,      /* the tape ends before the record does, or where one is
+                                            due; place: the tape's length */
+    RELIEF_REFUSED_KIND_NOT_ALLOWED = 14, /* kind not allowed here; place: the record's offset */
+    RELIEF_REFUSED_BYTE_AFTER_END = 15,  /* a byte after the end record; place: its offset */
+    RELIEF_REFUSED_BUFFER_TOO_SHORT = 16 /* a buffer that a tape is read into or written to is too
+                                            short */
 };
+
+/* What a call returned, in words: one line without an end, never null. */
+static inline const char *relief_refusal_text(uint32_t refusal)
+{
+    switch (refusal) {
+    case RELIEF_ACCEPTED:
+        return "accepted";
+    case RELIEF_REFUSED_SIZE:
+        return "width or height is not 1 to 4,096, or there are over 1,048,576 pixels";
+    case RELIEF_REFUSED_WEIGHT:
+        return "the weight is over 65,280";
+    case RELIEF_REFUSED_BOX:
+        return "low is above high";
+    case RELIEF_REFUSED_SAMPLES_LENGTH:
+        return "the length of samples is not the number of pixels";
+    case RELIEF_REFUSED_FLOW_LENGTH:
+        return "the length of flow is not the number of pairs";
+    case RELIEF_REFUSED_IMAGE_LENGTH:
+        return "the length of image is not the number of pixels";
+    case RELIEF_REFUSED_WORK_LENGTH:
+        return "the length of work is not twice the number of pairs";
+    case RELIEF_REFUSED_FLOW_VALUE:
+        return "a flow number is beyond -weight to weight";
+    case RELIEF_REFUSED_IMAGE_VALUE:
+        return "an image value is outside the box";
+    case RELIEF_REFUSED_QUICK_ROUNDS:
+        return "there are over 4,096 quick rounds";
+    case RELIEF_REFUSED_UNKNOWN_KIND:
+        return "the record's kind is unknown";
+    case RELIEF_REFUSED_INPUT_ENDS:
+        return "the tape ends inside a record, or where one is due";
+    case RELIEF_REFUSED_KIND_NOT_ALLOWED:
+        return "the record's kind is not allowed here";
+    case RELIEF_REFUSED_BYTE_AFTER_END:
+        return "a byte follows the end record";
+    case RELIEF_REFUSED_BUFFER_TOO_SHORT:
+        return "a buffer that the tape is read into or written to is too short";
+    default:
+        return "not a refusal of this library";
+    }
+}
 
 /* How an accepted call ended; 0 when refused. The outcome of price and check is checked. */
 enum relief_outcome {
@@ -130,9 +254,11 @@ uint32_t relief_check(
 
 /*
  * Run does the quick rounds from flow 0, then steady rounds until no pair would move or the
- * allowance is used up, and fills flow and image.
+ * allowance is used up (ROUNDS, above), and fills flow and image. It settles whenever
+ * 8 * (allowance + 1) is more than the slack after the quick rounds, and a settled run's slack is at
+ * most 28 * weight * pairs.
  *
- * quick      the number of quick rounds
+ * quick      the number of quick rounds, at most RELIEF_MAX_QUICK
  * allowance  the most steady rounds
  * samples    one for each pixel
  * flow       one number for each pair; what it holds before does not matter; filled with the last flow
@@ -172,6 +298,11 @@ uint32_t relief_run(
  *          the rest left, and all of it is left without flow records
  * *width, *height, *weight, *low, *high, *quick, *allowance   the job's terms and rounds
  * *flowed  1 when there were flow records, else 0 (so also where there are no pairs)
+ *
+ * Lengths before the tape is read: RELIEF_READ_SAMPLES(tape_len) and RELIEF_READ_FLOW(tape_len). A
+ * tape that is refused in these with 16 is accepted in none: it names a size with more samples than
+ * its bytes can hold, and longer buffers get it another number, such as 13. In buffers of
+ * RELIEF_MAX_PIXELS and RELIEF_MAX_PAIRS no tape is refused with 16.
  *
  * Refusals: at each record 12, 14, 13, then its terms (1, 2, 3 or 10; place: the record's offset),
  * and 16 right after 1; then 15; then 8. The first faulty record wins.

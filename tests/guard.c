@@ -273,16 +273,16 @@ static const struct fault {
     const char *name;
     void (*spoil)(struct job *);
 } FAULTS[] = {
-    {RELIEF_SIZE, "width 0", no_width},
-    {RELIEF_SIZE, "height 4,097", too_high},
-    {RELIEF_WEIGHT, "weight 65,281", too_heavy},
-    {RELIEF_BOX, "low above high", crossed},
-    {RELIEF_QUICK_ROUNDS, "4,097 quick rounds", too_quick},
-    {RELIEF_SAMPLES_LENGTH, "samples_len 4 times as large", sample_bytes},
-    {RELIEF_FLOW_LENGTH, "flow_len in bytes", flow_bytes},
-    {RELIEF_IMAGE_LENGTH, "image_len in bytes", image_bytes},
-    {RELIEF_WORK_LENGTH, "work_len in bytes", work_bytes},
-    {RELIEF_BUFFER_TOO_SHORT, "output_len one too small", short_output},
+    {RELIEF_REFUSED_SIZE, "width 0", no_width},
+    {RELIEF_REFUSED_SIZE, "height 4,097", too_high},
+    {RELIEF_REFUSED_WEIGHT, "weight 65,281", too_heavy},
+    {RELIEF_REFUSED_BOX, "low above high", crossed},
+    {RELIEF_REFUSED_QUICK_ROUNDS, "4,097 quick rounds", too_quick},
+    {RELIEF_REFUSED_SAMPLES_LENGTH, "samples_len 4 times as large", sample_bytes},
+    {RELIEF_REFUSED_FLOW_LENGTH, "flow_len in bytes", flow_bytes},
+    {RELIEF_REFUSED_IMAGE_LENGTH, "image_len in bytes", image_bytes},
+    {RELIEF_REFUSED_WORK_LENGTH, "work_len in bytes", work_bytes},
+    {RELIEF_REFUSED_BUFFER_TOO_SHORT, "output_len one too small", short_output},
 };
 
 static void expect_refusal(const struct call *call, const struct fault *fault, enum lent lent)
@@ -393,12 +393,12 @@ static const struct damage {
     uint32_t number;
     uint64_t place;
 } DAMAGES[] = {
-    {"width 0, no more records", 5, 1, 0, RELIEF_SIZE, 0},
-    {"4,352 quick rounds, no more records", 15, 12, 17, RELIEF_QUICK_ROUNDS, 10},
-    {"kind 6 as the last byte", 20, 19, 6, RELIEF_UNKNOWN_KIND, 19},
-    {"a third sample's kind as the last byte", 20, 19, 4, RELIEF_KIND_NOT_ALLOWED, 19},
-    {"a byte after the end", 26, 25, 0, RELIEF_BYTE_AFTER_END, 25},
-    {"flow -512", 25, 21, 254, RELIEF_FLOW_VALUE, 0},
+    {"width 0, no more records", 5, 1, 0, RELIEF_REFUSED_SIZE, 0},
+    {"4,352 quick rounds, no more records", 15, 12, 17, RELIEF_REFUSED_QUICK_ROUNDS, 10},
+    {"kind 6 as the last byte", 20, 19, 6, RELIEF_REFUSED_UNKNOWN_KIND, 19},
+    {"a third sample's kind as the last byte", 20, 19, 4, RELIEF_REFUSED_KIND_NOT_ALLOWED, 19},
+    {"a byte after the end", 26, 25, 0, RELIEF_REFUSED_BYTE_AFTER_END, 25},
+    {"flow -512", 25, 21, 254, RELIEF_REFUSED_FLOW_VALUE, 0},
 };
 
 static void refused_read(void)
@@ -406,7 +406,7 @@ static void refused_read(void)
     for (size_t length = 0; length < sizeof TAPE; length++) {
         char input[50];
         snprintf(input, sizeof input, "a tape cut to %zu bytes", length);
-        expect_unread(taped(length, 2, 1), input, RELIEF_INPUT_ENDS, length);
+        expect_unread(taped(length, 2, 1), input, RELIEF_REFUSED_INPUT_ENDS, length);
     }
     for (size_t d = 0; d < sizeof DAMAGES / sizeof *DAMAGES; d++) {
         const struct damage *damage = &DAMAGES[d];
@@ -415,9 +415,9 @@ static void refused_read(void)
         expect_unread(j, damage->name, damage->number, damage->place);
     }
     /* 16 comes right after the first record, which here is the last one, too */
-    expect_unread(taped(5, 1, 1), "samples_len one too small", RELIEF_BUFFER_TOO_SHORT, 0);
-    expect_unread(taped(5, 2, 0), "flow_len one too small", RELIEF_BUFFER_TOO_SHORT, 0);
-    expect_unread(taped(sizeof TAPE, 0, 0), "no buffers", RELIEF_BUFFER_TOO_SHORT, 0);
+    expect_unread(taped(5, 1, 1), "samples_len one too small", RELIEF_REFUSED_BUFFER_TOO_SHORT, 0);
+    expect_unread(taped(5, 2, 0), "flow_len one too small", RELIEF_REFUSED_BUFFER_TOO_SHORT, 0);
+    expect_unread(taped(sizeof TAPE, 0, 0), "no buffers", RELIEF_REFUSED_BUFFER_TOO_SHORT, 0);
     end_group("read, refused");
 }
 

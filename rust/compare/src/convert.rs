@@ -28,7 +28,7 @@ pub fn rounds(rounds: &Rounds) -> relief::Rounds {
 
 pub fn refusal(refusal: relief::Refusal) -> Refusal {
     Refusal {
-        number: refusal.number,
+        number: refusal.number(),
         place: refusal.place,
     }
 }

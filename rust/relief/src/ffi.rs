@@ -2,7 +2,7 @@
 //!
 //! Nothing checks these declarations against the library's source. So every number that a
 //! call is to set starts as the largest of its type, and a call panics where the header's
-//! promise of zeros, of an outcome or of a yes or no is not kept.
+//! promise of zeros, of an outcome, of a yes or no or of a refusal's number is not kept.
 
 #![allow(unsafe_code)]
 
@@ -13,9 +13,9 @@ pub mod run;
 #[cfg(feature = "tape")]
 pub mod tape;
 
-use crate::Refusal;
 #[cfg(any(feature = "judge", feature = "run"))]
 use crate::{Figures, Outcome};
+use crate::{Reason, Refusal};
 
 /// The numbers that price, check and run set.
 #[cfg(any(feature = "judge", feature = "run"))]
@@ -82,5 +82,8 @@ fn verdict(number: u32, place: u64, zeros: bool) -> Result<(), Refusal> {
         return Ok(());
     }
     assert!(zeros, "refused {number} at {place} with other numbers");
-    Err(Refusal { number, place })
+    let Some(reason) = Reason::from_number(number) else {
+        panic!("refused {number} at {place}, which the header does not name");
+    };
+    Err(Refusal { reason, place })
 }

@@ -2,25 +2,53 @@
 //!
 //! The calls work in buffers that the caller lends. Each answers with its figures or
 //! with a [`Refusal`], after which every buffer is as it was. `include/relief.h` says
-//! what each number means, which lengths the buffers have, and when a call is refused.
+//! what each number means and what the rounds are.
 //!
 //! A call is there with its feature: `judge` (price, check), `run`, `tape` (read, write).
 //!
+//! Lengths of buffers are counted in values and must be exact, unless a call says
+//! otherwise. [`Terms::pixel_count`], [`Terms::pair_count`], [`tape_bytes`],
+//! [`read_samples_len`] and [`read_flow_len`] give them.
+//!
+//! The calls have no global state and allocate nothing, so any number of them may run at
+//! the same time.
+//!
 //! ```
-//! let terms = relief::Terms {
+//! # #[cfg(feature = "run")] {
+//! use relief::{Outcome, Rounds, Terms};
+//!
+//! let terms = Terms {
 //!     width: 2,
 //!     height: 1,
 //!     weight: 256,
 //!     low: 0,
 //!     high: 255,
 //! };
-//! let (samples, flow, mut image) = ([0, 2], [-256], [0; 2]);
-//! let figures = relief::check(&terms, &samples, &flow, &mut image).unwrap();
-//! assert_eq!(image, [256, 256]);
-//! assert_eq!((figures.price, figures.slack), (131_072, 0));
+//! let rounds = Rounds {
+//!     quick: 0,
+//!     allowance: 100,
+//! };
+//! let samples = [0, 2];
+//! let mut flow = vec![0; terms.pair_count()];
+//! let mut image = vec![0; terms.pixel_count()];
+//! let mut work = vec![0; 2 * terms.pair_count()];
+//! let figures = relief::run(&terms, &rounds, &samples, &mut flow, &mut image, &mut work)?;
+//! assert_eq!(figures.outcome, Outcome::Settled);
+//! assert_eq!((figures.price, figures.slack), (131_090, 36));
+//! assert_eq!(image, [253, 259]);
+//! # }
+//! # Ok::<(), relief::Refusal>(())
 //! ```
 
+mod counts;
 mod ffi;
+mod refusal;
+
+pub use counts::{
+    pair_count, pixel_count, read_flow_len, read_samples_len, tape_bytes, MAX_ALLOWANCE, MAX_PAIRS,
+    MAX_PIXELS, MAX_QUICK, MAX_SIDE, MAX_TAPE_BYTES, MAX_WEIGHT,
+};
+pub use refusal::{Reason, Refusal};
 
 #[cfg(feature = "judge")]
 pub use ffi::judge::{check, price};
@@ -32,22 +60,22 @@ pub use ffi::tape::{read, write};
 /// Size, weight and box of a job.
 #[derive(Clone, Copy, Debug, Default, PartialEq, Eq)]
 pub struct Terms {
-    /// Pixels in a row.
+    /// Pixels in a row, 1 to [`MAX_SIDE`].
     pub width: u32,
-    /// Rows.
+    /// Rows, 1 to [`MAX_SIDE`]; at most [`MAX_PIXELS`] pixels in all.
     pub height: u32,
-    /// The weight in sub-units.
+    /// The weight in sub-units of 1/256 level, at most [`MAX_WEIGHT`].
     pub weight: u32,
     /// The low end of the box in levels.
     pub low: u8,
-    /// The high end of the box in levels.
+    /// The high end of the box in levels, not below the low one.
     pub high: u8,
 }
 
 /// How many rounds a run may make.
 #[derive(Clone, Copy, Debug, Default, PartialEq, Eq)]
 pub struct Rounds {
-    /// The number of quick rounds.
+    /// The number of quick rounds, at most [`MAX_QUICK`].
     pub quick: u32,
     /// The most steady rounds.
     pub allowance: u16,
@@ -88,13 +116,4 @@ pub struct Job {
     pub rounds: Rounds,
     /// Whether the tape has flow records.
     pub has_flow: bool,
-}
-
-/// The answer of a call that turned back.
-#[derive(Clone, Copy, Debug, PartialEq, Eq)]
-pub struct Refusal {
-    /// The number of the condition.
-    pub number: u32,
-    /// A tape offset, an index or 0.
-    pub place: u64,
 }

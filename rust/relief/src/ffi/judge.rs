@@ -44,6 +44,16 @@ unsafe extern "C" {
 }
 
 /// Judges a given image.
+///
+/// # Lengths
+///
+/// - `samples`: [`Terms::pixel_count`].
+/// - `image`: [`Terms::pixel_count`]. Values in sub-units of 1/256 level, each within the box.
+///
+/// # Errors
+///
+/// Refused for size, weight, box; then the lengths of samples and image; then an image value,
+/// in this order.
 pub fn price(terms: &Terms, samples: &[u8], image: &[i32]) -> Result<Figures, Refusal> {
     let mut answer = Answer::UNSET;
     // SAFETY: each buffer comes with its own length, and the numbers are locals.
@@ -72,6 +82,19 @@ pub fn price(terms: &Terms, samples: &[u8], image: &[i32]) -> Result<Figures, Re
 }
 
 /// Judges a given flow and fills `image` with its image.
+///
+/// # Lengths
+///
+/// - `samples`: [`Terms::pixel_count`].
+/// - `flow`: [`Terms::pair_count`]. Numbers from -weight to weight: first those of every pair
+///   (pixel, pixel below), row by row of the upper pixel, then those of every pair (pixel,
+///   pixel to its right), row by row of the left one.
+/// - `image`: [`Terms::pixel_count`]. What it holds before does not matter.
+///
+/// # Errors
+///
+/// Refused for size, weight, box; then the lengths of samples, flow and image; then a flow
+/// number, in this order.
 pub fn check(
     terms: &Terms,
     samples: &[u8],

@@ -29,8 +29,21 @@ unsafe extern "C" {
     ) -> u32;
 }
 
-/// Does the rounds, starting from flow 0, and fills `flow` and `image`. `work`, of two
-/// values for each pair, holds only zeros after an accepted run.
+/// Does the rounds, starting from flow 0, and fills `flow` and `image`.
+///
+/// # Lengths
+///
+/// - `samples`: [`Terms::pixel_count`].
+/// - `flow`: [`Terms::pair_count`].
+/// - `image`: [`Terms::pixel_count`].
+/// - `work`: 2 × [`Terms::pair_count`]. It holds only zeros after an accepted run.
+///
+/// What flow, image and work hold before does not matter.
+///
+/// # Errors
+///
+/// Refused for size, weight, box, quick rounds; then the lengths of samples, flow, image and
+/// work, in this order.
 pub fn run(
     terms: &Terms,
     rounds: &Rounds,

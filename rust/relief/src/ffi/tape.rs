@@ -41,9 +41,22 @@ unsafe extern "C" {
     ) -> u32;
 }
 
-/// Reads a tape of one job, its samples and flow into the front of the buffers.
+/// Reads a tape of one job, its samples and flow into the front of the buffers. The rest of
+/// them is left as it was, and without flow records all of `flow`.
 ///
-/// Without flow records the flow buffer is untouched.
+/// # Lengths
+///
+/// - `samples`: at least the job's [`Terms::pixel_count`]. [`read_samples_len`] is enough.
+/// - `flow`: at least the job's [`Terms::pair_count`], with or without flow records.
+///   [`read_flow_len`] is enough.
+///
+/// # Errors
+///
+/// Refused at the first faulty record: its kind, its end, its terms, and at the first record
+/// the buffers' lengths; then a byte after the end; then a flow number.
+///
+/// [`read_samples_len`]: crate::read_samples_len
+/// [`read_flow_len`]: crate::read_flow_len
 pub fn read(tape: &[u8], samples: &mut [u8], flow: &mut [i32]) -> Result<Job, Refusal> {
     let mut terms = Terms {
         width: u32::MAX,
@@ -91,9 +104,21 @@ pub fn read(tape: &[u8], samples: &mut [u8], flow: &mut [i32]) -> Result<Job, Re
     })
 }
 
-/// Writes a job's tape into the front of `output` and gives its byte count.
+/// Writes a job's tape into the front of `output` and gives its byte count. The rest of
+/// `output` is left as it was.
 ///
-/// A flow of length 0 is none.
+/// # Lengths
+///
+/// - `samples`: [`Terms::pixel_count`].
+/// - `flow`: [`Terms::pair_count`], or 0 for no flow records.
+/// - `output`: at least [`tape_bytes`] of the lengths of samples and flow.
+///
+/// # Errors
+///
+/// Refused for size, weight, box, quick rounds; then the lengths of samples, flow and output;
+/// then a flow number, in this order.
+///
+/// [`tape_bytes`]: crate::tape_bytes
 pub fn write(
     terms: &Terms,
     rounds: &Rounds,
