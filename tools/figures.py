@@ -1,0 +1,91 @@
+#!/usr/bin/env python3
+"""Works out the figures that README.md and docs/BENCHMARKS.md give for the sample, with target/bin/relief (or the program
+that RELIEF_BIN names): what its slack bounds, how far a solution in floating point really is, and what a weight does to
+joints and noise. It takes some seconds.
+
+    python3 tools/figures.py
+"""
+
+import math
+import os
+import pathlib
+import random
+import subprocess
+import sys
+
+TOP = pathlib.Path(__file__).resolve().parent.parent
+sys.path.insert(0, str(TOP / "examples"))
+import make_facade  # noqa: E402: the surface without noise is known there
+
+PROGRAM = os.environ.get("RELIEF_BIN", TOP / "target/bin/relief")
+WIDTH, HEIGHT = make_facade.WIDTH, make_facade.HEIGHT
+SURFACE = [make_facade.facade(x, y) for y in range(HEIGHT) for x in range(WIDTH)]
+
+
+def clean(samples, weight, low=0, high=255):
+    """The slack and the image, in levels, that the program gives for samples."""
+    picture = f"P2\n{WIDTH} {HEIGHT}\n255\n{' '.join(map(str, samples))}\n".encode()
+    terms = ["--weight", str(weight), "--low", str(low), "--high", str(high)]
+    tape = subprocess.run([sys.executable, TOP / "examples/pgm2tape.py", *terms],
+                          input=picture, stdout=subprocess.PIPE, check=True).stdout
+    words = subprocess.run([PROGRAM], input=tape, stdout=subprocess.PIPE, check=True).stdout.split()
+    return int(words[9]), [int(value) / 256 for value in words[10:]]
+
+
+def rms(one, other):
+    """The root mean square of the differences."""
+    return math.sqrt(sum((a - b) ** 2 for a, b in zip(one, other)) / len(one))
+
+
+def solve(samples, weight, low, high, rounds=500):
+    """The best raster in levels, by FGP in floating point, and a bound on its own distance (root mean square)."""
+    pairs = [(i, i + WIDTH) for i in range(WIDTH * (HEIGHT - 1))]
+    pairs += [(i, i + 1) for i in range(WIDTH * HEIGHT) if (i + 1) % WIDTH]
+    most = weight / 256
+
+    def image(flow):
+        values = list(samples)
+        for (i, j), number in zip(pairs, flow):
+            values[i] -= number
+            values[j] += number
+        return [min(max(value, low), high) for value in values]
+
+    flow, ahead, momentum = [0.0] * len(pairs), [0.0] * len(pairs), 1.0
+    for _ in range(rounds):
+        at = image(ahead)
+        step = [min(max(r + (at[i] - at[j]) / 8, -most), most) for (i, j), r in zip(pairs, ahead)]
+        longer = (1 + math.sqrt(1 + 4 * momentum ** 2)) / 2
+        ahead = [p + (momentum - 1) / longer * (p - q) for p, q in zip(step, flow)]
+        flow, momentum = step, longer
+    best = image(flow)
+    slack = sum(2 * (most * abs(best[i] - best[j]) - p * (best[i] - best[j])) for (i, j), p in zip(pairs, flow))
+    return best, math.sqrt(max(slack, 0) / len(best))
+
+
+def main():
+    scan = [int(word) for word in (TOP / "examples/facade.pgm").read_text().split()[4:]]
+    pixels, weight, low, high = WIDTH * HEIGHT, 1024, 30, 200
+    slack, cleaned = clean(scan, weight, low, high)
+    print(f"sample: {pixels} pixels, weight {weight}, slack {slack}; in levels at most")
+    print(f"  root mean square {math.sqrt(slack / pixels) / 256:.3f}")
+    print(f"  mean over 100 pixels {math.sqrt(slack / 100) / 256:.2f}")
+    print(f"  one pixel {math.sqrt(slack) / 256:.1f}")
+    print(f"  root mean square of any settled run of this weight {math.sqrt(56 * weight) / 256:.2f}")
+    best, own = solve(scan, weight, low, high)
+    print(f"distance to a solution in floating point (itself within {own:.4f} of the best):")
+    print(f"  root mean square {rms(cleaned, best):.3f}, one pixel {max(abs(a - b) for a, b in zip(cleaned, best)):.2f}")
+    joints = [i for i, height in enumerate(SURFACE) if height == make_facade.JOINT]
+    print("mean over the joints:", *(f"{name} {sum(raster[i] for i in joints) / len(joints):.1f}"
+                                     for name, raster in (("scan", scan), ("cleaned", cleaned))))
+    print("noise, and distance (root mean square) of scan and cleaned rasters to the surface without noise:")
+    shares = (0.25, 0.5, 0.75, 1)
+    print("  noise  scan ", *(f"{share:5}" for share in shares), "(weight / 256 as a share of the noise)")
+    for noise in (2, 5, 10, 20):
+        source = random.Random(1)
+        noisy = [min(max(round(height + source.gauss(0, noise)), 0), 255) for height in SURFACE]
+        after = [rms(clean(noisy, round(256 * noise * share))[1], SURFACE) for share in shares]
+        print(f"  {noise:5}  {rms(noisy, SURFACE):5.2f}", *(f"{distance:5.2f}" for distance in after))
+
+
+if __name__ == "__main__":
+    main()
