@@ -1,8 +1,9 @@
 #!/usr/bin/env bash
-# All tests. First every proof from nothing, with the must-fail edits and the program's stored answer (`rt ci`); then what
-# was proved there is compared with the second implementation on about one input in twenty, called with guard pages
-# behind its buffers, and the examples run. Any step that fails ends it. The last line is the last line of `rt ci`:
-# `N passed, 0 failed`.
+# All tests. First the layout, the header and the second implementation's own tests; then every proof from nothing, with
+# the must-fail edits and the program's stored answer (`rt ci`); then what was proved there is compared with the second
+# implementation on about one input in twenty, called with guard pages behind its buffers, and called through the Rust
+# wrapper; the picture scripts are tested and the examples run. Any step that fails ends it. The last line is the last
+# line of `rt ci`: `N passed, 0 failed`.
 set -euo pipefail
 cd "$(dirname "$0")/.."
 # what is tested is built here, not another library or program that the caller names
@@ -12,6 +13,9 @@ trap 'rm -f "$proofs"' EXIT
 
 echo "== layout of the Rattle files"
 rt fmt --check
+
+echo "== the C header"
+bash tools/header.sh
 
 echo "== the second implementation (Rust, offline)"
 (cd rust && cargo test --offline --quiet)
@@ -28,11 +32,15 @@ bash tools/static.sh quick
 echo "== the static library with a guard page behind every buffer"
 bash tools/guard.sh
 
+echo "== the Rust wrapper"
+(cd rust && cargo test --offline --quiet -p relief)
+
 echo "== the program beside the second implementation"
 bash tools/program.sh quick
 
 echo "== the examples"
 python3 examples/pgm2tape.py --low 30 --high 200 < examples/facade.pgm | cmp - examples/facade.tape
+python3 tests/scripts.py
 bash tools/clean-sample.sh
 bash tools/example.sh
 
