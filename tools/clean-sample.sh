@@ -17,7 +17,7 @@ mkdir -p target/examples
 answer=target/examples/facade.txt
 picture=target/examples/facade-cleaned.pgm
 rm -f "$answer" "$picture"
-"$program" < examples/facade.tape > "$answer"
+"$program" < examples/facade.tape > "$answer" || { rm -f "$answer"; exit 1; }
 # what the script says beside its picture: the answer's first two lines, or what is wrong
 said=$(python3 examples/answer2pgm.py "$answer" "$picture" 2>&1) || { echo "$said" >&2; exit 1; }
 echo "$said"
