@@ -5,7 +5,7 @@ use mathlib.Core.List.{List}
 use Prim.Native.Nat.{ℕ, zero, suc, _+_, _*_, _≤_, _<_, zero-le}
 use native.Mathlib.Omega.{arith}
 use lib.IntN.{ℤ, pos, natAbs, _+ℤ_, _*ℤ_}
-use lib.ListN.{length, length-replicate, getD-replicate}
+use lib.ListN.{length, getD-replicate}
 use lib.Signed.{_≤ℤ_, _<ℤ_}
 use Rattle.integers.specs.Sum.{total}
 use Rattle.integers.proofs.Order.{≤→pos}
@@ -17,6 +17,7 @@ use Rattle.model.specs.Grid.{lowEnd, highEnd, grid}
 use Rattle.model.specs.Rounds.{eighth, quickStart, quickRound, quickRounds}
 use Rattle.model.specs.Calls.{Outcome, checked, settled, spent, Answer, pairsOf, imageOf, figuresOf, checkAnswer, checkImage, quickFlow, ending, runAnswer, runFlow, runImage}
 use Rattle.model.specs.Accepted.{CheckAllowed, RunAllowed}
+use Rattle.model.proofs.Sizes.{iterate-size}
 use Rattle.model.proofs.Pairs.{neighbours, first-inside, second-inside}
 use Rattle.model.proofs.Degree.{degree, degree-at-most-4}
 use Rattle.model.proofs.Answers.{check-answer, check-image, runFigures, run-answer, run-flow, run-image, held-image}
@@ -26,7 +27,7 @@ use Rattle.certificate.proofs.Lagrangian.{Sound}
 use Rattle.certificate.proofs.Congruence.{price-cong}
 use Rattle.certificate.proofs.Division.{certificate}
 use Rattle.certificate.proofs.Rounding.{eighth-rounding}
-use Rattle.certificate.proofs.Steady.{step-length, step-feasible, steady-ends, moved-bound, settled-bound, settles}
+use Rattle.certificate.proofs.Steady.{step-feasible, steady-ends, moved-bound, settled-bound, settles}
 
 -- the grid is a sound pair system
 pub grid-sound : (t : Terms) (samples : List ℕ) → t .low ≤ t .high → Sound (grid t samples)
@@ -62,12 +63,7 @@ check-demand t samples flow former {values} {a} e g none =
     certificate (grid t samples) (grid-sound t samples box) flow values a (check-feasible t samples flow former allowed)
     (held t samples box flow checked 0 (g ∙ check-image t samples flow former yes) (e ∙ check-answer t samples flow former yes))
 
--- the flow that quick rounds leave is P, never R: it has a number for each pair, within the weights
-pub quick-size : (share : ℤ → ℤ) (p : Problem) (k : ℕ) → length (quickRounds share p k .iterate) ≡ pairCount p
-unfolding quickRounds quickStart quickRound
-quick-size share p zero = length-replicate (pairCount p) (pos 0)
-quick-size share p (suc k) = step-length share p (quickRounds share p k .extrapolated)
-
+-- the flow that quick rounds leave is P, never R: its numbers are within the weights
 pub quick-feasible : (share : ℤ → ℤ) (p : Problem) (k : ℕ) → Feasible p (at (quickRounds share p k .iterate))
 unfolding quickRounds quickStart quickRound
 quick-feasible share p zero j l =
@@ -88,7 +84,7 @@ ending-flow t r samples box =
     let p : Problem = grid t samples in
     let e =
     steady-ends eighth p (grid-sound t samples box) 4 8 7 eighth-rounding (λ i _. degree-at-most-4 t samples i) (r .allowance)
-    (quickRounds eighth p (r .quick) .iterate) (quick-size eighth p (r .quick)) (quick-feasible eighth p (r .quick))
+    (quickRounds eighth p (r .quick) .iterate) (iterate-size eighth p (r .quick)) (quick-feasible eighth p (r .quick))
     in
     (e .size, e .feasible)
 
@@ -102,7 +98,7 @@ run-bounds t r samples box =
     let p : Problem = grid t samples in
     let sound : Sound p = grid-sound t samples box in
     let start : List ℤ = quickRounds eighth p (r .quick) .iterate in
-    let size = quick-size eighth p (r .quick) in
+    let size = iterate-size eighth p (r .quick) in
     let within = quick-feasible eighth p (r .quick) in
     let degrees : (i : ℕ) → i < p .pixels → degree p i ≤ 4 = λ i _. degree-at-most-4 t samples i in (
       moved-bound eighth p sound 4 8 7 eighth-rounding degrees (r .allowance) start size within,

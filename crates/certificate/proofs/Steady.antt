@@ -18,7 +18,8 @@ use Rattle.integers.proofs.Order.{sameZ-true, sameZ-false}
 use Rattle.model.specs.Lists.{at}
 use Rattle.model.specs.Problem.{Problem, pairCount, Feasible, image, price, floor, slack}
 use Rattle.model.specs.Rounds.{stepped, step, wouldMove, firstMoving, Steady, oneMore, steadyRounds}
-use Rattle.model.proofs.Lists.{length-table, getD-table, firstWhere-first}
+use Rattle.model.proofs.Lists.{getD-table, firstWhere-first}
+use Rattle.model.proofs.Sizes.{step-size}
 use Rattle.model.proofs.Degree.{degree}
 use Rattle.certificate.proofs.Lagrangian.{Sound, image-in-box}
 use Rattle.certificate.proofs.Congruence.{floor-cong}
@@ -31,10 +32,6 @@ module _ (share : ℤ → ℤ) (p : Problem) where
   pub step-at : (flow : List ℤ) (j : ℕ) → j < pairCount p → at (step share p flow) j ≡ stepped share p (at flow) j
   unfolding step
   step-at flow j l = getD-table (pairCount p) (stepped share p (at flow)) j (pos 0) l
-
-  pub step-length : (flow : List ℤ) → length (step share p flow) ≡ pairCount p
-  unfolding step
-  step-length flow = length-table (pairCount p) (stepped share p (at flow))
 
   pub step-feasible : (flow : List ℤ) → Feasible p (at (step share p flow))
   step-feasible flow j l =
@@ -122,7 +119,7 @@ module _ (share : ℤ → ℤ) (p : Problem) (sound : Sound p) (d r c : ℕ) (la
         twice-not false = refl
     steady-ends (suc a) flow size within =
         go (ltb (firstMoving share p (at flow)) (pairCount p)) refl
-        (steady-ends a (step share p flow) (step-length share p flow) (step-feasible share p flow))
+        (steady-ends a (step share p flow) (step-size share p flow) (step-feasible share p flow))
       where
         go : (b : Bool) → ltb (firstMoving share p (at flow)) (pairCount p) ≡ b →
             Ended share p r a (step share p flow) (steadyRounds share p a (step share p flow)) →

@@ -1,4 +1,5 @@
 -- The laws of the definitions.
+--     Sizes       a step and quick rounds have a number for each pair
 --     Values      the values marked ● in document 01
 --     Refusals    of the first refusal
 --     Lists       of `table`, `chain` and `firstWhere`
@@ -8,6 +9,7 @@
 --     Bounds      price, floor and slack of an allowed job fit 64 bits
 --     Answers     what check, price and run give and leave, by their verdict
 --     Accepted    check, price, run and write are accepted exactly when terms, lengths and contents are allowed
+pub mod Sizes
 pub mod Values
 pub mod Refusals
 pub mod Lists

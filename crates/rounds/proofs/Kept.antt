@@ -1,47 +1,20 @@
--- What quick rounds keep: a number for each pair in P and in R, P within the weight and R within three times the weight.
--- Assumes nothing.
-use mathlib.Core.Path.{_≡_, subst}
+-- What quick rounds keep: P within the weight and R within three times the weight. Assumes nothing.
+use mathlib.Core.Path.{subst}
 use mathlib.Core.List.{List}
 use Prim.Native.Nat.{ℕ, zero, suc, _*_, zero-le}
-use lib.IntN.{ℤ, pos}
-use lib.ListN.{length, replicate, length-replicate}
+use lib.IntN.{pos}
+use lib.ListN.{replicate}
 use Rattle.model.specs.declared.Terms.{Terms}
 use Rattle.model.specs.Lists.{at}
-use Rattle.model.specs.Problem.{Problem, pairCount}
+use Rattle.model.specs.Problem.{pairCount}
 use Rattle.model.specs.Grid.{grid}
-use Rattle.model.specs.Rounds.{eighth, stepped, step, nextMomentum, Quick, quickStart, quickRound, quickRounds}
-use Rattle.model.proofs.Lists.{length-table, table-constant}
+use Rattle.model.specs.Rounds.{eighth, step, nextMomentum, Quick, quickStart, quickRound, quickRounds}
+use Rattle.model.proofs.Lists.{table-constant}
 use Rattle.model.proofs.Root.{momentum-least}
 use Rattle.runs.specs.Limits.{Within}
 use Rattle.runs.proofs.Elements.{within-table}
 use Rattle.momentum.proofs.Bounds.{extrapolate-bound, momentum-low}
 use Rattle.rounds.proofs.Model.{step-within}
-
-module _ (share : ℤ → ℤ) (p : Problem) where
-  pub step-size : (flow : List ℤ) → length (step share p flow) ≡ pairCount p
-  unfolding step
-  step-size flow = length-table (pairCount p) (stepped share p (at flow))
-
-  -- a round
-  module _ (s : Quick) where
-    pub round-iterate : length (quickRound share p s .iterate) ≡ pairCount p
-    unfolding quickRound
-    round-iterate = step-size (s .extrapolated)
-
-    pub round-ahead : length (quickRound share p s .extrapolated) ≡ pairCount p
-    unfolding quickRound
-    round-ahead = length-table (pairCount p) _
-
-  -- k rounds
-  pub iterate-size : (k : ℕ) → length (quickRounds share p k .iterate) ≡ pairCount p
-  unfolding quickRounds quickStart
-  iterate-size zero = length-replicate (pairCount p) (pos 0)
-  iterate-size (suc k) = round-iterate (quickRounds share p k)
-
-  pub ahead-size : (k : ℕ) → length (quickRounds share p k .extrapolated) ≡ pairCount p
-  unfolding quickRounds quickStart
-  ahead-size zero = length-replicate (pairCount p) (pos 0)
-  ahead-size (suc k) = round-ahead (quickRounds share p k)
 
 zeros-within : (n w : ℕ) → Within w (replicate n (pos 0))
 zeros-within n w = subst (Within w) (table-constant n (pos 0)) (within-table n (λ _. pos 0) (λ _ _. zero-le))

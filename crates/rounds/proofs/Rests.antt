@@ -15,7 +15,7 @@ use Rattle.model.specs.Rounds.{eighth, step, firstMoving, Steady, oneMore, stea
 use Rattle.model.specs.Calls.{imageOf}
 use Rattle.runs.specs.Limits.{Within}
 use Rattle.rounds.specs.Ready.{SteadyReady}
-use Rattle.rounds.proofs.Kept.{step-size}
+use Rattle.model.proofs.Sizes.{step-size}
 use Rattle.rounds.proofs.Model.{step-within}
 
 -- whether some pair would move

@@ -23,7 +23,8 @@ use Rattle.model.proofs.Accepted.{told, run-accepted, run-number}
 use Rattle.certificate.specs.Demand.{RunDemand}
 use Rattle.certificate.proofs.Grid.{run-demand, ending-flow}
 use Rattle.runs.specs.Limits.{Within}
-use Rattle.rounds.proofs.Kept.{iterate-size, iterate-within}
+use Rattle.model.proofs.Sizes.{iterate-size}
+use Rattle.rounds.proofs.Kept.{iterate-within}
 use Rattle.calls.proofs.Objectives.{figured}
 use Rattle.calls.proofs.run.run.Statement.{statement}
 use Rattle.calls.proofs.run.run.Tie as tie

@@ -16,7 +16,7 @@ use Rattle.model.specs.Rounds.{eighth, step, Steady}
 use Rattle.runs.specs.Limits.{Within}
 use Rattle.raster.proofs.Model.{stepped-is}
 use Rattle.rounds.proofs.Model.{step-within}
-use Rattle.rounds.proofs.Kept.{step-size}
+use Rattle.model.proofs.Sizes.{step-size}
 use Rattle.rounds.proofs.Passes.{image-size, grid-limits}
 use Rattle.rounds.proofs.Rests.{Rested, rested-none, rested-more, rested-end}
 use Rattle.rounds.proofs.steady.steady_rounds.Statement.{statement}
