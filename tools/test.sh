@@ -41,7 +41,8 @@ bash tools/program.sh quick
 echo "== the examples"
 python3 examples/pgm2tape.py --low 30 --high 200 < examples/facade.pgm | cmp - examples/facade.tape
 python3 tests/scripts.py
-bash tools/clean-sample.sh
+# the first command of the README, as it stands there: the program is proved already
+env -u RELIEF_BIN bash tools/clean-sample.sh
 bash tools/example.sh
 
 echo "== all steps passed"
