@@ -2,10 +2,12 @@
 // iterate P and the next R, which lies ahead of it.
 
 use stencil::pair;
+use stencil::pair::Round;
 ghost use Prim.Native.Nat.{_*_};
 ghost use mathlib.Core.Path.{_≡_};
 ghost use lib.ListN.{length};
 ghost use Rattle.model.specs.Lists.{table};
+ghost use Rattle.model.specs.Rounds.{eighth};
 ghost use Rattle.runs.specs.Run.{stepAt};
 ghost use Rattle.raster.specs.Whole.{rowStep, gridStep};
 ghost use Rattle.advance.specs.Ahead.{aheadAt, rowAhead, gridAhead, AdvanceLimits, RowAdvance, GridAdvance};
@@ -21,12 +23,12 @@ fn advance_pairs(
     m: u64,
 )
     requires { ⌜ AdvanceLimits (now flow) (now ahead) (now image) stride weight m ⌝ }
-    ensures { λ _. ⌜ now (flow .exit) ≡ table (length (now (flow .entry))) (stepAt weight (now (ahead .entry)) (now (image .entry)) stride) ⌝ }
+    ensures { λ _. ⌜ now (flow .exit) ≡ table (length (now (flow .entry))) (stepAt eighth weight (now (ahead .entry)) (now (image .entry)) stride) ⌝ }
     ensures { λ _. ⌜ now (ahead .exit) ≡ table (length (now (flow .entry))) (aheadAt weight m (now (flow .entry)) (now (ahead .entry)) (now (image .entry)) stride) ⌝ }
 {
     let mut j = 0;
     while j < flow.len() {
-        let next = pair::step_value(ahead[j], image[j], image[j + stride], weight);
+        let next = pair::step_value(Round::Quick, ahead[j], image[j], image[j + stride], weight);
         ahead[j] = momentum::extrapolated(flow[j], next, m);
         flow[j] = next;
         j += 1;
@@ -44,7 +46,7 @@ fn advance_rows(
     m: u64,
 )
     requires { ⌜ RowAdvance width height (now flow) (now ahead) (now image) weight m ⌝ }
-    ensures { λ _. ⌜ now (flow .exit) ≡ table (length (now (flow .entry))) (rowStep width weight (now (ahead .entry)) (now (image .entry))) ⌝ }
+    ensures { λ _. ⌜ now (flow .exit) ≡ table (length (now (flow .entry))) (rowStep eighth width weight (now (ahead .entry)) (now (image .entry))) ⌝ }
     ensures { λ _. ⌜ now (ahead .exit) ≡ table (length (now (flow .entry))) (rowAhead width weight m (now (flow .entry)) (now (ahead .entry)) (now (image .entry))) ⌝ }
 {
     let across = width - 1;
@@ -77,7 +79,7 @@ pub fn advance_grid(
     m: u64,
 )
     requires { ⌜ GridAdvance width height (now flow) (now ahead) (now image) weight m ⌝ }
-    ensures { λ _. ⌜ now (flow .exit) ≡ table (length (now (flow .entry))) (gridStep width height weight (now (ahead .entry)) (now (image .entry))) ⌝ }
+    ensures { λ _. ⌜ now (flow .exit) ≡ table (length (now (flow .entry))) (gridStep eighth width height weight (now (ahead .entry)) (now (image .entry))) ⌝ }
     ensures { λ _. ⌜ now (ahead .exit) ≡ table (length (now (flow .entry))) (gridAhead width height weight m (now (flow .entry)) (now (ahead .entry)) (now (image .entry))) ⌝ }
 {
     let vertical = width * (height - 1);

@@ -6,20 +6,20 @@ use Prim.Native.Nat.{ℕ}
 use lib.IntN.{ℤ}
 use Rattle.integers.proofs.Order.{true-leZ}
 use mathlib.Core.List.{map}
-use Rattle.integers.specs.Whole.{clamp}
+use Rattle.integers.specs.Whole.{clamp, nearest}
 use Rattle.integers.specs.Sum.{total}
 use Rattle.model.specs.Lists.{table, chain, firstWhere}
 use Rattle.model.specs.Problem.{Problem, InBox, fall, misfit, price, pull, image, floor, slack, distance}
 use Rattle.model.specs.Grid.{readingOf, lowEnd, highEnd, verticalPairs, horizontalPairs, gridPairs}
 use Rattle.model.specs.Root.{rootBy, root}
-use Rattle.model.specs.Rounds.{eighth, stepped, step, nextMomentum, extrapolate, quickStart, quickRound, quickRounds, wouldMove, firstMoving, steadyRounds}
+use Rattle.model.specs.Rounds.{eighth, nearestEighth, stepped, step, nextMomentum, extrapolate, quickStart, quickRound, quickRounds, wouldMove, firstMoving, steadyRounds}
 use Rattle.certificate.specs.Demand.{Certified}
 use Rattle.certificate.specs.Counterexamples.{Alteration, close, certified, alike, alikeAtZero, settledWithin, movedWithin, settlesWhen, distanceRows, divisionRows, settledRows, movedRows, settlesRows, rows, metExactly}
 
 pub counterexamples : (map (λ (r : Alteration). r .statement) rows ≡ map (λ _. true) rows)
     × (map (λ (r : Alteration). r .altered) rows ≡ map (λ _. false) rows)
     × (metExactly ≡ map (λ _. true) metExactly)
-unfolding clamp total table chain firstWhere fall misfit price pull image floor slack distance readingOf lowEnd highEnd verticalPairs horizontalPairs gridPairs rootBy root eighth stepped step nextMomentum extrapolate quickStart quickRound quickRounds wouldMove firstMoving steadyRounds close certified alike alikeAtZero settledWithin movedWithin settlesWhen distanceRows divisionRows settledRows movedRows settlesRows rows metExactly
+unfolding clamp nearest total table chain firstWhere fall misfit price pull image floor slack distance readingOf lowEnd highEnd verticalPairs horizontalPairs gridPairs rootBy root eighth nearestEighth stepped step nextMomentum extrapolate quickStart quickRound quickRounds wouldMove firstMoving steadyRounds close certified alike alikeAtZero settledWithin movedWithin settlesWhen distanceRows divisionRows settledRows movedRows settlesRows rows metExactly
 counterexamples = (refl, refl, refl)
 
 -- The distance test is demand 3's statement: a certified image passes it against every image of the box, so an image that

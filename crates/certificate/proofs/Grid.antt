@@ -14,7 +14,7 @@ use Rattle.model.specs.Problem.{Problem, pairCount, Feasible, slack}
 use Rattle.model.specs.declared.Terms.{Terms}
 use Rattle.model.specs.declared.Rounds.{Rounds}
 use Rattle.model.specs.Grid.{lowEnd, highEnd, grid}
-use Rattle.model.specs.Rounds.{eighth, quickStart, quickRound, quickRounds}
+use Rattle.model.specs.Rounds.{eighth, nearestEighth, quickStart, quickRound, quickRounds}
 use Rattle.model.specs.Calls.{Outcome, checked, settled, spent, Answer, pairsOf, imageOf, figuresOf, checkAnswer, checkImage, quickFlow, ending, runAnswer, runFlow, runImage}
 use Rattle.model.specs.Accepted.{CheckAllowed, RunAllowed}
 use Rattle.model.proofs.Sizes.{iterate-size}
@@ -26,7 +26,7 @@ use Rattle.certificate.specs.Demand.{Figures, CheckDemand, RunDemand}
 use Rattle.certificate.proofs.Lagrangian.{Sound}
 use Rattle.certificate.proofs.Congruence.{price-cong}
 use Rattle.certificate.proofs.Division.{certificate}
-use Rattle.certificate.proofs.Rounding.{eighth-rounding}
+use Rattle.certificate.proofs.Rounding.{nearest-eighth-rounding}
 use Rattle.certificate.proofs.Steady.{step-feasible, steady-ends, moved-bound, settled-bound, settles}
 
 -- the grid is a sound pair system
@@ -83,16 +83,16 @@ unfolding ending quickFlow
 ending-flow t r samples box =
     let p : Problem = grid t samples in
     let e =
-    steady-ends eighth p (grid-sound t samples box) 4 8 7 eighth-rounding (λ i _. degree-at-most-4 t samples i) (r .allowance)
+    steady-ends nearestEighth p (grid-sound t samples box) 4 2 4 nearest-eighth-rounding (λ i _. degree-at-most-4 t samples i) (r .allowance)
     (quickRounds eighth p (r .quick) .iterate) (iterate-size eighth p (r .quick)) (quick-feasible eighth p (r .quick))
     in
     (e .size, e .feasible)
 
 -- the bounds of a run's rounds, whatever the scan and the terms
 run-bounds : (t : Terms) (r : Rounds) (samples : List ℕ) → t .low ≤ t .high →
-    (pos (8 * ending t r samples .moved) ≤ℤ slack (grid t samples) (at (quickFlow t r samples)))
-    × (slack (grid t samples) (at (quickFlow t r samples)) <ℤ pos (8 * (r .allowance + 1)) → ending t r samples .settled ≡ true)
-    × (ending t r samples .settled ≡ true → slack (grid t samples) (at (ending t r samples .flow)) ≤ℤ pos (28 * (t .weight * pairsOf t)))
+    (pos (2 * ending t r samples .moved) ≤ℤ slack (grid t samples) (at (quickFlow t r samples)))
+    × (slack (grid t samples) (at (quickFlow t r samples)) <ℤ pos (2 * (r .allowance + 1)) → ending t r samples .settled ≡ true)
+    × (ending t r samples .settled ≡ true → slack (grid t samples) (at (ending t r samples .flow)) ≤ℤ pos (16 * (t .weight * pairsOf t)))
 unfolding ending quickFlow
 run-bounds t r samples box =
     let p : Problem = grid t samples in
@@ -101,11 +101,11 @@ run-bounds t r samples box =
     let size = iterate-size eighth p (r .quick) in
     let within = quick-feasible eighth p (r .quick) in
     let degrees : (i : ℕ) → i < p .pixels → degree p i ≤ 4 = λ i _. degree-at-most-4 t samples i in (
-      moved-bound eighth p sound 4 8 7 eighth-rounding degrees (r .allowance) start size within,
-      settles eighth p sound 4 8 7 eighth-rounding degrees (r .allowance) start size within,
+      moved-bound nearestEighth p sound 4 2 4 nearest-eighth-rounding degrees (r .allowance) start size within,
+      settles nearestEighth p sound 4 2 4 nearest-eighth-rounding degrees (r .allowance) start size within,
       λ e.
-          subst (λ (s : ℤ). slack p (at (ending t r samples .flow)) ≤ℤ (pos 28 *ℤ s)) (constant (pairCount p) (t .weight))
-          (settled-bound eighth p sound 4 8 7 eighth-rounding degrees (r .allowance) start size within e),
+          subst (λ (s : ℤ). slack p (at (ending t r samples .flow)) ≤ℤ (pos 16 *ℤ s)) (constant (pairCount p) (t .weight))
+          (settled-bound nearestEighth p sound 4 2 4 nearest-eighth-rounding degrees (r .allowance) start size within e),
     )
 
 -- the outcome tells whether the rounds settled
@@ -136,6 +136,6 @@ run-demand t r samples former formerImage work {flow} {values} {a} e f g none =
       settles = λ h. outcome ∙ ap (λ (b : Bool). cond b settled spent) (run-bounds t r samples box .1 h);
       settled =
           λ h.
-          subst (λ (s : ℤ). s ≤ℤ pos (28 * (t .weight * pairsOf t))) (sym (ap (λ (x : Answer). x .slack) given))
+          subst (λ (s : ℤ). s ≤ℤ pos (16 * (t .weight * pairsOf t))) (sym (ap (λ (x : Answer). x .slack) given))
           (run-bounds t r samples box .2 (told-settled (ending t r samples .settled) (sym outcome ∙ h)));
     }

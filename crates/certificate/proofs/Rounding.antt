@@ -1,18 +1,17 @@
--- What a rounding of the step must give, and that the eighth toward zero gives it. Assumes nothing.
-use mathlib.Core.Path.{_≡_, sym, subst}
+-- What a rounding of the step must give, one law for every rounding of a quotient that document 01's rounds may use, and its
+-- instances. Assumes nothing.
+use mathlib.Core.Path.{_≡_, sym, _∙_, subst}
 use mathlib.Core.Logic.{_≢_, ⊎-elim}
-use Prim.Native.Nat.{ℕ, zero, _≤_, _<_}
-use native.Mathlib.Nat.{eq-zero-or-pos, mul-le-mul}
+use Prim.Native.Nat.{ℕ, _+_, _-_, _*_, _≤_, _<_}
 use native.Mathlib.Omega.{arith}
-use lib.Dec.{lit<}
+use lib.Dec.{lit<, lit≤}
 use lib.IntN.{ℤ, pos, natAbs, _-ℤ_, _*ℤ_}
 use lib.Signed.{_≤ℤ_, _<ℤ_}
-use Rattle.integers.specs.Whole.{square, quotient}
-use Rattle.integers.proofs.Parts.{parts, whole, by-≤, of-≤}
-use Rattle.integers.proofs.Order.{≤ℤ-total, <ℤ→≤ℤ, ≤→pos}
-use Rattle.integers.proofs.Absolute.{natAbs-zero, square-natAbs}
-use Rattle.integers.proofs.Quotient.{step-progress, zero-quotient, quotient-nonneg, quotient-nonpos}
-use Rattle.model.specs.Rounds.{eighth}
+use Rattle.integers.specs.Whole.{square}
+use Rattle.integers.proofs.Parts.{whole}
+use Rattle.integers.proofs.Order.{≤ℤ-total, <ℤ→≤ℤ}
+use Rattle.integers.proofs.Rounded.{rounded, quotient-rounded, nearest-rounded, zero-rounded, rounded-nonneg, rounded-nonpos, step-gain}
+use Rattle.model.specs.Rounds.{eighth, nearestEighth}
 
 -- A step adds `share d` of a fall d and is cut off by the clamp, so that it changes the flow by some e from 0 to that.
 -- Against a curvature b (twice the largest degree), each change gains at least r; a fall that moves nothing is at most c;
@@ -23,26 +22,36 @@ pub record Rounding (share : ℤ → ℤ) (b r c : ℕ) : Type 0 where
   pub rising : (d : ℤ) → pos 0 <ℤ share d → pos 0 ≤ℤ d
   pub falling : (d : ℤ) → share d <ℤ pos 0 → d ≤ℤ pos 0
 
--- a whole number that is not 0 has a square of at least 1
-square-positive : (e : ℤ) → e ≢ pos 0 → pos 1 ≤ℤ square e
-square-positive e h =
-    ⊎-elim (λ (z : natAbs e ≡ 0). absurd (h (natAbs-zero z)))
-    (λ (l : zero < natAbs e). subst (λ (s : ℤ). pos 1 ≤ℤ s) (sym (square-natAbs e)) (≤→pos (mul-le-mul l l)))
-    (eq-zero-or-pos (natAbs e))
+-- A share that is the quotient by b = r + 2 h of the fall, its size raised by h: a change gains r, and a fall moves nothing
+-- while it is below b − h
+module _ (share : ℤ → ℤ) (h r : ℕ) (positive : 0 < r) (is : (d : ℤ) → share d ≡ rounded h (r + 2 * h) d) where
+  pub rounding : Rounding share (r + 2 * h) r (r + h - 1)
+  rounding = record { gain = gain; rest = rest; rising = rising; falling = falling }
+    where
+      gain : (d e : ℤ) → pos 0 ≤ℤ (e *ℤ (share d -ℤ e)) → e ≢ pos 0 → pos r ≤ℤ (pos 2 *ℤ (e *ℤ d) -ℤ pos (r + 2 * h) *ℤ square e)
+      gain d e between = step-gain h r d e positive (subst (λ (s : ℤ). pos 0 ≤ℤ (e *ℤ (s -ℤ e))) (is d) between)
 
--- d / 8 toward zero, where each pixel lies in at most 4 pairs: a change gains at least 8, and a fall of 8 moves
+      rest : (d : ℤ) → share d ≡ pos 0 → natAbs d ≤ r + h - 1
+      rest d z = omega (arith, zero-rounded h (r + 2 * h) d (omega arith) (sym (is d) ∙ z))
+
+      rising : (d : ℤ) → pos 0 <ℤ share d → pos 0 ≤ℤ d
+      rising d l =
+          ⊎-elim (λ k. k)
+          (λ (k : d <ℤ pos 0). absurd (omega (whole, rw (is d) at l, rounded-nonpos h (r + 2 * h) d (omega arith) (<ℤ→≤ℤ k))))
+          (≤ℤ-total (pos 0) d)
+
+      falling : (d : ℤ) → share d <ℤ pos 0 → d ≤ℤ pos 0
+      falling d l =
+          ⊎-elim (λ k. k)
+          (λ (k : pos 0 <ℤ d). absurd (omega (whole, rw (is d) at l, rounded-nonneg h (r + 2 * h) d (<ℤ→≤ℤ k))))
+          (≤ℤ-total d (pos 0))
+
+-- Where each pixel lies in at most 4 pairs, b = 8. d / 8 toward zero: a change gains at least 8, and a fall of 8 moves
 pub eighth-rounding : Rounding eighth 8 8 7
 unfolding eighth
-eighth-rounding = record { gain = gain; rest = rest; rising = rising; falling = falling }
-  where
-    gain : (d e : ℤ) → pos 0 ≤ℤ (e *ℤ (quotient d (pos 8) -ℤ e)) → e ≢ pos 0 → pos 8 ≤ℤ (pos 2 *ℤ (e *ℤ d) -ℤ pos 8 *ℤ square e)
-    gain d e h k = by-≤ (search parts depth 12) (omega (whole, of-≤ (step-progress d 8 e h) (search parts depth 12), of-≤ (square-positive e k) (search parts depth 12)))
+eighth-rounding = rounding eighth 0 8 (lit< tt) (λ d. quotient-rounded d 8)
 
-    rest : (d : ℤ) → quotient d (pos 8) ≡ pos 0 → natAbs d ≤ 7
-    rest d e = omega (arith, zero-quotient d (lit< tt) e)
-
-    rising : (d : ℤ) → pos 0 <ℤ quotient d (pos 8) → pos 0 ≤ℤ d
-    rising d h = ⊎-elim (λ l. l) (λ (l : d <ℤ pos 0). absurd (omega (whole, quotient-nonpos d 8 (<ℤ→≤ℤ l)))) (≤ℤ-total (pos 0) d)
-
-    falling : (d : ℤ) → quotient d (pos 8) <ℤ pos 0 → d ≤ℤ pos 0
-    falling d h = ⊎-elim (λ l. l) (λ (l : pos 0 <ℤ d). absurd (omega (whole, quotient-nonneg d 8 (<ℤ→≤ℤ l)))) (≤ℤ-total d (pos 0))
+-- d / 8 to the nearest, a half toward zero: a change gains at least 2, and a fall of 5 moves
+pub nearest-eighth-rounding : Rounding nearestEighth 8 2 4
+unfolding nearestEighth
+nearest-eighth-rounding = rounding nearestEighth 3 2 (lit< tt) (nearest-rounded 3 8 (lit< tt) (lit≤ tt))

@@ -2,21 +2,21 @@
 -- theorem, `counterexamples` of proofs/Counterexamples.antt, says that in every row the first holds and the second fails,
 -- and that the bounds listed last are met exactly.
 --
--- What holds, and so has no row: 29 for 28; in the distance law, the slack taken before the clamp (a fall is no larger
--- after the clamp, so neither is the slack); and 9 to 14 for 8: a round that moves one pair raises the floor by 16 − 2 at
--- least, one that moves more by 8 for each of them (by hand, not proved here). So 8 × moved meets the starting slack only
--- where both are 0, and 8 × (allowance + 1) of a spent run never does.
+-- What holds, and so has no row: 17 for 16; in the distance law, the slack taken before the clamp (a fall is no larger
+-- after the clamp, so neither is the slack); and 3 to 8 for 2: a round raises the floor by at least 10 − 2 where it moves one
+-- pair, 20 − 6 for two, 30 − 12 for three, and 2 for each of four or more (by hand, not proved here). So 2 × moved meets the
+-- starting slack only where both are 0, and 2 × (allowance + 1) of a spent run never does.
 use mathlib.Core.Bool.{Bool, not, _&&_, _||_}
 use mathlib.Core.List.{List, [], _∷_, _++_}
 use Prim.Native.Nat.{ℕ, _+_, _*_}
 use lib.IntN.{ℤ, pos, negℤ, _+ℤ_, _*ℤ_}
 use lib.ListN.{getD}
 use lib.Signed.{leZ, ltZ, shrZ}
-use Rattle.integers.specs.Whole.{quotient, sameZ}
+use Rattle.integers.specs.Whole.{quotient, sign, sameZ}
 use Rattle.model.specs.Lists.{at}
 use Rattle.model.specs.Problem.{Problem, price, image, floor, slack, distance, divided, times}
 use Rattle.model.specs.Grid.{gridPairs, grid}
-use Rattle.model.specs.Rounds.{eighth, quickRounds, Steady, steadyRounds}
+use Rattle.model.specs.Rounds.{eighth, nearestEighth, quickRounds, Steady, steadyRounds}
 use Rattle.model.specs.Values.{one, pair}
 
 -- A statement and the same altered, each as a test that computes
@@ -29,19 +29,26 @@ beside s a = record { statement = s; altered = a }
 
 -- ---- Runs
 
--- The flow P that quick rounds leave, the R ahead of it, and how a run ends whose steps add this share of a fall
-abbrev pub start : (ℤ → ℤ) → Problem → ℕ → ℕ → ℤ
-start share p quick = at (quickRounds share p quick .iterate)
+-- The flow P that quick rounds leave, the R ahead of it, and how a run ends whose steady rounds add this share of a fall
+abbrev pub start : Problem → ℕ → ℕ → ℤ
+start p quick = at (quickRounds eighth p quick .iterate)
 
-abbrev pub ahead : (ℤ → ℤ) → Problem → ℕ → ℕ → ℤ
-ahead share p quick = at (quickRounds share p quick .extrapolated)
+abbrev pub ahead : Problem → ℕ → ℕ → ℤ
+ahead p quick = at (quickRounds eighth p quick .extrapolated)
 
-abbrev pub run : (ℤ → ℤ) → Problem → ℕ → ℕ → Steady
-run share p quick allowance = steadyRounds share p allowance (quickRounds share p quick .iterate)
+abbrev pub ends : (ℤ → ℤ) → Problem → ℕ → ℕ → Steady
+ends share p quick allowance = steadyRounds share p allowance (quickRounds eighth p quick .iterate)
 
--- d / 8 rounded down
+-- .. and how document 01's run ends, as request F-1 has it
+abbrev pub run : Problem → ℕ → ℕ → Steady
+run = ends nearestEighth
+
+-- d / 8 rounded down, and away from zero
 abbrev pub eighthDown : ℤ → ℤ
 eighthDown d = shrZ d 8
+
+abbrev pub eighthAway : ℤ → ℤ
+eighthAway d = quotient (d +ℤ pos 7 *ℤ sign d) (pos 8)
 
 -- ---- Demand 3's statements as tests
 
@@ -79,7 +86,7 @@ movedWithin r p f e = leZ (pos (r * e .moved)) (slack p f)
 -- A run settles whenever r × (allowance + 1) exceeds the slack of the flow that its quick rounds leave
 unfoldable pub settlesWhen : ℕ → (ℤ → ℤ) → Problem → ℕ → ℕ → Bool
 settlesWhen r share p quick allowance =
-    not (ltZ (slack p (start share p quick)) (pos (r * (allowance + 1)))) || run share p quick allowance .settled
+    not (ltZ (slack p (start p quick)) (pos (r * (allowance + 1)))) || ends share p quick allowance .settled
 
 -- ---- Jobs, flows and images
 
@@ -88,26 +95,27 @@ abbrev pub scanTwoByOne : ℕ → ℕ → ℕ → Problem
 scanTwoByOne weight low high =
     grid (record { width = 2; height = 1; weight = weight; low = low; high = high }) (0 ∷ 2 ∷ [])
 
--- 2 by 2: two such rows, which fall alike
-abbrev pub scanTwoByTwo : ℕ → ℕ → ℕ → Problem
-scanTwoByTwo weight low high =
-    grid (record { width = 2; height = 2; weight = weight; low = low; high = high }) (0 ∷ 2 ∷ 0 ∷ 2 ∷ [])
+-- 2 by 2, with samples
+abbrev pub scanTwoByTwo : ℕ → ℕ → ℕ → List ℕ → Problem
+scanTwoByTwo weight low high samples =
+    grid (record { width = 2; height = 2; weight = weight; low = low; high = high }) samples
 
 -- 3 by 1, samples 0, 0 and 2, weight 1
 abbrev pub scanThreeByOne : Problem
 scanThreeByOne = grid (record { width = 3; height = 1; weight = 1; low = 0; high = 255 }) (0 ∷ 0 ∷ 2 ∷ [])
 
--- 3 by 2, samples 0 1 0 above 2 1 2, weight 3
-abbrev pub scanThreeByTwo : Problem
-scanThreeByTwo =
-    grid (record { width = 3; height = 2; weight = 3; low = 0; high = 255 }) (0 ∷ 1 ∷ 0 ∷ 2 ∷ 1 ∷ 2 ∷ [])
+-- 3 by 3, samples 0 2 0, 2 1 2 and 0 1 0, weight 1
+abbrev pub scanThreeByThree : Problem
+scanThreeByThree =
+    grid (record { width = 3; height = 3; weight = 1; low = 0; high = 255 })
+    (0 ∷ 2 ∷ 0 ∷ 2 ∷ 1 ∷ 2 ∷ 0 ∷ 1 ∷ 0 ∷ [])
 
--- 4 by 1, weight 1, readings 22, 14, 7 and 0: no sample stands for these, but the laws are of any readings
+-- 4 by 1, weight 1, readings 0, 5, 9 and 13: no sample stands for these, but the laws are of any readings
 abbrev pub readingsFourByOne : Problem
 readingsFourByOne =
     record {
       pixels = 4;
-      reading = λ i. pos (getD (22 ∷ 14 ∷ 7 ∷ 0 ∷ []) i 0);
+      reading = λ i. pos (getD (0 ∷ 5 ∷ 9 ∷ 13 ∷ []) i 0);
       low = pos 0;
       high = pos 65280;
       pairs = gridPairs 4 1;
@@ -137,7 +145,7 @@ distanceRows =
     -- an image outside the box
     ∷ beside (certified narrow f (other 256 256)) (certified narrow f (other 0 512))
     -- R certified: P is −70 with slack 0, R is −71 with slack −740
-    ∷ beside (certified light (start eighth light 2) (other 70 442)) (certified light (ahead eighth light 2) (other 70 442))
+    ∷ beside (certified light (start light 2) (other 70 442)) (certified light (ahead light 2) (other 70 442))
     -- the weight left out of price and slack: 64 at weight 256, −4016 at weight 1
     ∷ beside (certified p g (other 252 260)) (certified (scanTwoByOne 1 0 255) g (other 252 260))
     -- equal prices said to mean equal images at any slack: at slack 262144, where the statement claims nothing, the image
@@ -161,50 +169,53 @@ divisionRows =
     ∷ beside (certified q g (other 768 768)) (close (slack p f) q (image q g) (other 768 768))
     ∷ []
 
--- A settled slack is at most 28 × weight × pairs
+-- A settled slack is at most 16 × weight × pairs
 unfoldable pub settledRows : List Alteration
 settledRows =
     let p : Problem = scanTwoByOne 256 0 255 in
-    let q : Problem = scanTwoByOne 263 0 1 in
-    let two : Problem = scanTwoByTwo 263 0 1 in
+    let q : Problem = scanTwoByOne 260 0 1 in
+    let two : Problem = scanTwoByTwo 260 0 1 (0 ∷ 2 ∷ 0 ∷ 2 ∷ []) in
     let narrow : Problem = scanTwoByOne 256 1 1 in
-    -- 27 for 28: twelve quick rounds leave the flow −263 and the image 256 249, whose fall of 7 does not move it back
-    beside (settledWithin (28 * (263 * 1)) q (run eighth q 12 0)) (settledWithin (27 * (263 * 1)) q (run eighth q 12 0))
-    -- the weight left out: document 01's run, which settles with slack 36
-    ∷ beside (settledWithin (28 * (256 * 1)) p (run eighth p 0 17)) (settledWithin (28 * 1) p (run eighth p 0 17))
-    -- the pairs left out: two of the four have the fall of 7
-    ∷ beside (settledWithin (28 * (263 * 4)) two (run eighth two 12 0)) (settledWithin (28 * 263) two (run eighth two 12 0))
+    -- 15 for 16: twelve quick rounds leave the flow −260 and the image 256 252, whose fall of 4 does not move it back
+    beside (settledWithin (16 * (260 * 1)) q (run q 12 0)) (settledWithin (15 * (260 * 1)) q (run q 12 0))
+    -- the weight left out
+    ∷ beside (settledWithin (16 * (260 * 1)) q (run q 12 0)) (settledWithin (16 * 1) q (run q 12 0))
+    -- the pairs left out: two of the four have the fall of 4
+    ∷ beside (settledWithin (16 * (260 * 4)) two (run two 12 0)) (settledWithin (16 * 260) two (run two 12 0))
     -- the slack before the clamp: settled at flow 0 with slack 0, but 262144 in the wider box
-    ∷ beside (settledWithin (28 * (256 * 1)) narrow (run eighth narrow 0 0))
-    (settledWithin (28 * (256 * 1)) p (run eighth narrow 0 0))
+    ∷ beside (settledWithin (16 * (256 * 1)) narrow (run narrow 0 0)) (settledWithin (16 * (256 * 1)) p (run narrow 0 0))
     ∷ []
 
--- 8 × moved is at most the slack of the flow that the quick rounds leave
+-- 2 × moved is at most the slack of the flow that the quick rounds leave
 unfoldable pub movedRows : List Alteration
 movedRows =
     let p : Problem = scanTwoByOne 125 0 255 in
-    let q : Problem = scanThreeByTwo in
+    let q : Problem = scanThreeByThree in
     let r : Problem = readingsFourByOne in
     -- the slack of R: P is −112 with slack 7488, R is −125 with slack 0, and one round moves
-    beside (movedWithin 8 p (start eighth p 2) (run eighth p 2 1)) (movedWithin 8 p (ahead eighth p 2) (run eighth p 2 1))
-    -- 17 for 8: three quick rounds leave slack 16, and one round moves
-    ∷ beside (movedWithin 8 q (start eighth q 3) (run eighth q 3 1)) (movedWithin 17 q (start eighth q 3) (run eighth q 3 1))
-    -- 15 for 8, of the law for any readings (a search found no run of a job below 16): slack 44, and three rounds move a
+    beside (movedWithin 2 p (start p 2) (run p 2 1)) (movedWithin 2 p (ahead p 2) (run p 2 1))
+    -- 11 for 2: one quick round leaves slack 10, and one round moves
+    ∷ beside (movedWithin 2 q (start q 1) (run q 1 1)) (movedWithin 11 q (start q 1) (run q 1 1))
+    -- 9 for 2, of the law for any readings (a search found no run of a job below 11): slack 26, and three rounds move a
     -- pair each
-    ∷ beside (movedWithin 8 r (start eighth r 0) (run eighth r 0 3)) (movedWithin 15 r (start eighth r 0) (run eighth r 0 3))
+    ∷ beside (movedWithin 2 r (start r 0) (run r 0 3)) (movedWithin 9 r (start r 0) (run r 0 3))
     ∷ []
 
--- A run settles whenever 8 × (allowance + 1) exceeds that slack
+-- A run settles whenever 2 × (allowance + 1) exceeds that slack
 unfoldable pub settlesRows : List Alteration
 settlesRows =
     let p : Problem = scanThreeByOne in
-    let q : Problem = scanThreeByTwo in
+    let box : Problem = scanTwoByTwo 1 1 255 (0 ∷ 2 ∷ 1 ∷ 1 ∷ []) in
+    let q : Problem = scanThreeByThree in
     let r : Problem = readingsFourByOne in
-    -- d / 8 rounded down: one quick round leaves the flow 0 −1 either way, with slack 2 and a fall of −1, which moves then
-    beside (settlesWhen 8 eighth p 1 0) (settlesWhen 8 eighthDown p 1 0)
-    -- 17 and 15 for 8: the runs above, with one round fewer; at these slacks, 16 and 44, the statement claims nothing
-    ∷ beside (settlesWhen 8 eighth q 3 0) (settlesWhen 17 eighth q 3 0)
-    ∷ beside (settlesWhen 8 eighth r 0 2) (settlesWhen 15 eighth r 0 2)
+    -- d / 8 rounded away from zero in steady rounds: one quick round leaves the flow 0 −1, with slack 2 and a fall of −1,
+    -- which then moves, to a fall of 1, and back
+    beside (settlesWhen 2 nearestEighth p 1 1) (settlesWhen 2 eighthAway p 1 1)
+    -- d / 8 rounded down: one quick round leaves slack 2, and two rounds move
+    ∷ beside (settlesWhen 2 nearestEighth box 1 1) (settlesWhen 2 eighthDown box 1 1)
+    -- 11 and 9 for 2: the runs above, with one round fewer; at these slacks, 10 and 26, the statement claims nothing
+    ∷ beside (settlesWhen 2 nearestEighth q 1 0) (settlesWhen 11 nearestEighth q 1 0)
+    ∷ beside (settlesWhen 2 nearestEighth r 0 2) (settlesWhen 9 nearestEighth r 0 2)
     ∷ []
 
 unfoldable pub rows : List Alteration
@@ -214,7 +225,7 @@ rows = distanceRows ++ divisionRows ++ settledRows ++ movedRows ++ settlesRows
 unfoldable pub metExactly : List Bool
 metExactly =
     let p : Problem = scanTwoByOne 256 0 255 in
-    let q : Problem = scanTwoByOne 263 0 1 in
+    let q : Problem = scanTwoByOne 260 0 1 in
     let f : ℕ → ℤ = flow (pos 0) in
     let g : ℕ → ℤ = flow (negℤ (pos 256)) in
     -- price + squared distance = other price + slack, 393216
@@ -223,6 +234,6 @@ metExactly =
     ∷ sameZ (slack p g) (pos 0)
     ∷ sameZ (price p (image p g)) (price p (other 256 256))
     ∷ sameZ (distance p (image p g) (other 256 256)) (pos 0)
-    -- the slack of a settled run = 28 × weight × pairs, 7364
-    ∷ sameZ (slack q (at (run eighth q 12 0 .flow))) (pos (28 * (263 * 1)))
+    -- the slack of a settled run = 16 × weight × pairs, 4160
+    ∷ sameZ (slack q (at (run q 12 0 .flow))) (pos (16 * (260 * 1)))
     ∷ []

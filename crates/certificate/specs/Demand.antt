@@ -46,13 +46,13 @@ pub record Certificate (p : Problem) (flow image : List ℤ) (a : Answer) : Type
 abbrev pub CheckDemand : Terms → List ℕ → List ℤ → List ℤ → Answer → Type 0
 CheckDemand t samples flow image a = Certificate (grid t samples) flow image a
 
--- Demand 3 for run: the certificate of the flow and the image that it leaves; moved × 8 is at most the slack of the flow
--- that the quick rounds leave; a run settles whenever 8 × (allowance + 1) exceeds that slack; and a settled run's slack is
--- at most 28 × weight × pairs (SPECIFICATION 8.7, 8.8)
+-- Demand 3 for run: the certificate of the flow and the image that it leaves; 2 × moved is at most the slack of the flow
+-- that the quick rounds leave; a run settles whenever 2 × (allowance + 1) exceeds that slack; and a settled run's slack is
+-- at most 16 × weight × pairs (SPECIFICATION 8.7, 8.8)
 pub record RunDemand (t : Terms) (r : Rounds) (samples : List ℕ) (flow image : List ℤ) (a : Answer) : Type 0 where
   pub certificate : Certificate (grid t samples) flow image a
-  pub moved : pos (8 * a .moved) ≤ℤ Model.slack (grid t samples) (at (quickFlow t r samples))
+  pub moved : pos (2 * a .moved) ≤ℤ Model.slack (grid t samples) (at (quickFlow t r samples))
   pub settles :
-      Model.slack (grid t samples) (at (quickFlow t r samples)) <ℤ pos (8 * (r .allowance + 1)) →
+      Model.slack (grid t samples) (at (quickFlow t r samples)) <ℤ pos (2 * (r .allowance + 1)) →
       a .outcome ≡ Calls.settled
-  pub settled : a .outcome ≡ Calls.settled → a .slack ≤ℤ pos (28 * (t .weight * pairsOf t))
+  pub settled : a .outcome ≡ Calls.settled → a .slack ≤ℤ pos (16 * (t .weight * pairsOf t))

@@ -7,6 +7,7 @@ pub mod Absolute
 pub mod Between
 pub mod Clamp
 pub mod Quotient
+pub mod Rounded
 pub mod Total
 pub mod Cauchy
 pub mod Machine

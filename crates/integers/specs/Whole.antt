@@ -1,9 +1,10 @@
 -- Whole numbers without limits, as ℤ of the kit (`+ℤ`, `-ℤ`, `*ℤ`; `pos n` is the natural number n): absolute value,
--- square, projection onto an interval, quotient rounded toward zero, and tests that compute.
+-- square, projection onto an interval, quotients rounded toward zero and to the nearest, and tests that compute.
 use mathlib.Core.Bool.{Bool, false, cond}
-use lib.Dec.{eqb}
-use lib.IntN.{ℤ, pos, negsuc, natAbs, _*ℤ_}
-use lib.Signed.{ltZ, quotZ}
+use Prim.Native.Nat.{_*_}
+use lib.Dec.{eqb, ltb}
+use lib.IntN.{ℤ, pos, negsuc, natAbs, negℤ, _+ℤ_, _*ℤ_}
+use lib.Signed.{ltZ, quotZ, remZ}
 
 -- |z|
 abbrev pub abs : ℤ → ℤ
@@ -20,6 +21,16 @@ clamp low high z = cond (ltZ z low) low (cond (ltZ high z) high z)
 -- z / d rounded toward zero: the truncated quotient
 abbrev pub quotient : ℤ → ℤ → ℤ
 quotient z d = quotZ z d
+
+-- 1 or −1, the way from zero of z
+abbrev pub sign : ℤ → ℤ
+sign (pos n) = pos 1
+sign (negsuc n) = negℤ (pos 1)
+
+-- z / d rounded to the nearest whole number, an exact half toward zero: the truncated quotient, or one further from zero
+-- where twice the remainder exceeds d
+unfoldable pub nearest : ℤ → ℤ → ℤ
+nearest z d = cond (ltb (natAbs d) (2 * natAbs (remZ z d))) (quotient z d +ℤ sign z) (quotient z d)
 
 -- whether two whole numbers are the same
 abbrev pub sameZ : ℤ → ℤ → Bool

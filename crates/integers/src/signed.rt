@@ -38,6 +38,20 @@ pub fn quotient(a: i32, b: i32) -> i32
     a / b
 }
 
+// a / b, rounded to the nearest whole number, an exact half toward zero: the size of a is raised by
+// the largest number below half of b, and the quotient rounded toward zero.
+pub fn nearest(a: i32, b: i32) -> i32
+    requires { ⌜ (pos 0 <ℤ b) × (natAbs a + natAbs b + 1 < 2 ^ 31) ⌝ }
+    ensures { λ r. ⌜ r ≡ Whole.nearest a b ⌝ }
+{
+    let half = quotient(sub(b, 1), 2);
+    if a < 0 {
+        quotient(sub(a, half), b)
+    } else {
+        quotient(add(a, half), b)
+    }
+}
+
 // z, clamped to low .. high.
 pub fn clamped(z: i32, low: i32, high: i32) -> i32
     ensures { λ r. ⌜ r ≡ clamp low high z ⌝ }

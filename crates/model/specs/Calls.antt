@@ -12,7 +12,7 @@ pub use Rattle.model.specs.declared.Rounds.{Rounds}
 use Rattle.model.specs.Lists.{at, zeros, table, firstWhere}
 use Rattle.model.specs.Problem.{image, price, floor, slack}
 use Rattle.model.specs.Grid.{Terms, sizeAllowed, weightAllowed, boxAllowed, gridPairs, grid, lowEnd, highEnd}
-use Rattle.model.specs.Rounds.{eighth, quickRounds, Steady, steadyRounds}
+use Rattle.model.specs.Rounds.{eighth, nearestEighth, quickRounds, Steady, steadyRounds}
 use Rattle.model.specs.Verdict.{Verdict, Row, row, firstRefusal, decided, left}
 
 -- How a call ended (SPECIFICATION 4.4)
@@ -129,7 +129,7 @@ unfoldable pub quickFlow : Terms → Rounds → List ℕ → List ℤ
 quickFlow t r samples = quickRounds eighth (grid t samples) (r .quick) .iterate
 
 unfoldable pub ending : Terms → Rounds → List ℕ → Steady
-ending t r samples = steadyRounds eighth (grid t samples) (r .allowance) (quickFlow t r samples)
+ending t r samples = steadyRounds nearestEighth (grid t samples) (r .allowance) (quickFlow t r samples)
 
 unfoldable pub runVerdict : Terms → Rounds → List ℕ → List ℤ → List ℤ → List ℤ → Verdict
 runVerdict t r samples flow values work =

@@ -1,19 +1,23 @@
 -- The rounds of document 01: the step, quick rounds (Beck and Teboulle's FGP) and steady rounds (projected gradient).
--- `share` is the part of a fall that a step adds: document 01's eighth in both kinds of rounds (docs/SPECIFICATION.md,
--- section 3).
+-- `share` is the part of a fall that a step adds: an eighth, which each kind of round rounds in its own way
+-- (docs/SPECIFICATION.md, section 3).
 use mathlib.Core.Bool.{Bool, true, false, not}
 use mathlib.Core.List.{List}
 use Prim.Native.Nat.{ℕ, zero, suc, _+_, _*_, _/_}
 use lib.Dec.{ltb}
 use lib.IntN.{ℤ, pos, negℤ, _+ℤ_, _-ℤ_, _*ℤ_}
-use Rattle.integers.specs.Whole.{clamp, quotient, sameZ}
+use Rattle.integers.specs.Whole.{clamp, quotient, nearest, sameZ}
 use Rattle.model.specs.Lists.{at, zeros, table, firstWhere}
 use Rattle.model.specs.Problem.{Problem, pairCount, fall, image}
 use Rattle.model.specs.Root.{root}
 
--- d / 8, rounded toward zero (SPECIFICATION 3.1)
+-- d / 8, rounded toward zero: the share in quick rounds (SPECIFICATION 3.1)
 unfoldable pub eighth : ℤ → ℤ
 eighth d = quotient d (pos 8)
+
+-- d / 8, rounded to the nearest whole number, an exact half toward zero: the share in steady rounds (SPECIFICATION 3.1)
+unfoldable pub nearestEighth : ℤ → ℤ
+nearestEighth d = nearest d (pos 8)
 
 -- What a step makes of the number of pair j: the share of the fall in the flow's image is added, and the result is
 -- clamped to −weight .. weight (SPECIFICATION 3.2)

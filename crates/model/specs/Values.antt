@@ -1,31 +1,33 @@
--- The values that document 01 marks to be proved (●), in its order: what is asked, and what is to be given; after them
--- the text that it prints for the 2 by 1 job, and a 2 by 2 job of our own, worked by hand, in which the order of the
--- pairs tells. One theorem, `values` of proofs/Values.antt, says that the definitions give
--- it in every case (docs/SPECIFICATION.md, section 9).
+-- The values that document 01 marks to be proved (●), in its order and with the steady rounds of request F-1: what is
+-- asked, and what is to be given; after them the text that it prints for the 2 by 1 job, a 2 by 2 job of our own, worked by
+-- hand, in which the order of the pairs tells, and falls whose eighth is a half or just beyond. One theorem, `values` of
+-- proofs/Values.antt, says that the definitions give it in every case (docs/SPECIFICATION.md, section 9).
 use mathlib.Core.List.{List, [], _∷_}
 use Prim.Native.Nat.{ℕ, _*_}
 use lib.IntN.{ℤ, pos, negℤ}
 use Rattle.model.specs.Lists.{zeros}
 use Rattle.model.specs.Grid.{Terms, grid}
-use Rattle.model.specs.Rounds.{eighth, quickRounds}
+use Rattle.model.specs.Rounds.{eighth, nearestEighth, quickRounds}
 use Rattle.model.specs.Calls.{Rounds, checked, settled, spent, Answer, refusal, figures, pixelsOf, pairsOf, checkAnswer, checkImage, runAnswer, runFlow, runImage}
 use Rattle.model.specs.Tape.{tapeOf}
 use Rattle.model.specs.Text.{ascii}
 use Rattle.model.specs.Program.{programText}
 
--- A check of a flow; a run with these rounds; the T that k quick rounds leave, Tₖ₊₁; or the program's text for the
--- job's tape with these rounds and no flow
+-- A check of a flow; a run with these rounds; the T that k quick rounds leave, Tₖ₊₁; the program's text for the job's tape
+-- with these rounds and no flow; or what a quick and a steady round's step add for a fall
 pub data Asked : Type 0 where
   checking : List ℤ → Asked
   running : ℕ → ℕ → Asked
   momentum : ℕ → Asked
   printing : ℕ → ℕ → Asked
+  sharing : ℤ → Asked
 
--- What is given: the answer, the flow and the image that are left; a T; or bytes of text
+-- What is given: the answer, the flow and the image that are left; a T; bytes of text; or the two shares
 pub data Given : Type 0 where
   call : Answer → List ℤ → List ℤ → Given
   number : ℕ → Given
   text : List ℕ → Given
+  shares : ℤ → ℤ → Given
 
 pub record Case : Type 0 where
   pub terms : Terms
@@ -48,6 +50,7 @@ ask t samples (running quick allowance) =
 ask t samples (momentum k) = number (quickRounds eighth (grid t samples) k .momentum)
 ask t samples (printing quick allowance) =
     text (programText (tapeOf t (record { quick = quick; allowance = allowance }) samples []))
+ask t samples (sharing d) = shares (eighth d) (nearestEighth d)
 
 -- The 2 by 1 job: samples 0 and 2, weight 256, box 0 to 255 (SPECIFICATION 9.1, 9.2, 9.9)
 abbrev pub twoByOne : Asked → Given → Case
@@ -106,9 +109,9 @@ cases =
     (call (figures checked 0 (pos 458752) (negℤ (pos 327680)) (pos 786432)) (one (pos 256)) (pair 0 768))
     ∷ twoByOne (checking (one (pos 257))) (call (refusal 8 0) (one (pos 257)) (pair 0 0))
     ∷ twoByOne (running 0 16)
-    (call (figures spent 16 (pos 131104) (pos 131040) (pos 64)) (one (negℤ (pos 252))) (pair 252 260))
+    (call (figures spent 16 (pos 131090) (pos 131054) (pos 36)) (one (negℤ (pos 253))) (pair 253 259))
     ∷ twoByOne (running 0 17)
-    (call (figures settled 17 (pos 131090) (pos 131054) (pos 36)) (one (negℤ (pos 253))) (pair 253 259))
+    (call (figures settled 17 (pos 131080) (pos 131064) (pos 16)) (one (negℤ (pos 254))) (pair 254 258))
     ∷ twoByOne (momentum 1) (number 106039)
     ∷ twoByOne (momentum 2) (number 143754)
     ∷ twoByOne (running 3 0)
@@ -118,8 +121,16 @@ cases =
     ∷ narrowBox (checking (one (negℤ (pos 1280))))
     (call (figures checked 0 (pos 11010048) (pos 11010048) (pos 0)) (one (negℤ (pos 1280))) (pair 2048 3072))
     ∷ onePixel (running 0 100) (call (figures settled 0 (pos 0) (pos 0) (pos 0)) [] (pos 1792 ∷ []))
-    ∷ twoByOne (printing 0 100) (text (ascii "outcome moved price floor slack\nsettled 17 131090 131054 36\n253 259\n"))
+    ∷ twoByOne (printing 0 100) (text (ascii "outcome moved price floor slack\nsettled 17 131080 131064 16\n254 258\n"))
     ∷ twoByTwo (checking (pos 1 ∷ pos 2 ∷ pos 4 ∷ pos 8 ∷ []))
     (call (figures checked 0 (pos 10496153) (negℤ (pos 143513)) (pos 10639666)) (pos 1 ∷ pos 2 ∷ pos 4 ∷ pos 8 ∷ [])
     (pos 0 ∷ pos 2562 ∷ pos 5113 ∷ pos 10250 ∷ []))
+    ∷ twoByOne (sharing (pos 4)) (shares (pos 0) (pos 0))
+    ∷ twoByOne (sharing (pos 5)) (shares (pos 0) (pos 1))
+    ∷ twoByOne (sharing (pos 12)) (shares (pos 1) (pos 1))
+    ∷ twoByOne (sharing (pos 13)) (shares (pos 1) (pos 2))
+    ∷ twoByOne (sharing (negℤ (pos 4))) (shares (pos 0) (pos 0))
+    ∷ twoByOne (sharing (negℤ (pos 5))) (shares (pos 0) (negℤ (pos 1)))
+    ∷ twoByOne (sharing (negℤ (pos 12))) (shares (negℤ (pos 1)) (negℤ (pos 1)))
+    ∷ twoByOne (sharing (negℤ (pos 13))) (shares (negℤ (pos 1)) (negℤ (pos 2)))
     ∷ []

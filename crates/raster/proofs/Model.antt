@@ -14,7 +14,7 @@ use Rattle.model.specs.declared.Terms.{Terms}
 use Rattle.model.specs.Lists.{at, table, firstWhere}
 use Rattle.model.specs.Problem.{pairCount, firstOf, secondOf, fall, misfit, pull, image}
 use Rattle.model.specs.Grid.{readingOf, lowEnd, highEnd, grid}
-use Rattle.model.specs.Rounds.{eighth, stepped, step, wouldMove, firstMoving}
+use Rattle.model.specs.Rounds.{stepped, step, wouldMove, firstMoving}
 use Rattle.model.specs.Calls.{imageOf}
 use Rattle.model.proofs.Answers.{held-image}
 use Rattle.model.proofs.Lists.{firstWhere-cong}
@@ -56,20 +56,21 @@ module _ (t : Terms) (samples : List ℕ) where
         let n = neighbours (t .width) (t .height) j _ l in
         ap₂ (λ (a b : ℤ). a -ℤ b) (value-at (firstOf (grid t samples) j) (first-inside (t .width) (t .height) _ n)) (value-at (secondOf (grid t samples) j) (second-inside (t .width) (t .height) _ n))
 
-    -- a pair's number after a step
-    pub step-is : (j : ℕ) → j < pairCount (grid t samples) → gridStep (t .width) (t .height) (pos (t .weight)) flow values j ≡ stepped eighth (grid t samples) (at flow) j
-    unfolding stepValue stepped
-    step-is j l = ap (λ (d : ℤ). clamp (negℤ (pos (t .weight))) (pos (t .weight)) (at flow j +ℤ eighth d)) (fall-is j l)
+    module _ (share : ℤ → ℤ) where
+      -- a pair's number after a step
+      pub step-is : (j : ℕ) → j < pairCount (grid t samples) → gridStep share (t .width) (t .height) (pos (t .weight)) flow values j ≡ stepped share (grid t samples) (at flow) j
+      unfolding stepValue stepped
+      step-is j l = ap (λ (d : ℤ). clamp (negℤ (pos (t .weight))) (pos (t .weight)) (at flow j +ℤ share d)) (fall-is j l)
 
-    -- A step on the flow
-    pub stepped-is : table (pairCount (grid t samples)) (gridStep (t .width) (t .height) (pos (t .weight)) flow values) ≡ step eighth (grid t samples) flow
-    unfolding step
-    stepped-is = table-cong (pairCount (grid t samples)) step-is
+      -- A step on the flow
+      pub stepped-is : table (pairCount (grid t samples)) (gridStep share (t .width) (t .height) (pos (t .weight)) flow values) ≡ step share (grid t samples) flow
+      unfolding step
+      stepped-is = table-cong (pairCount (grid t samples)) step-is
 
-    -- The first pair that would move
-    pub moving-is : firstWhere (pairCount (grid t samples)) (gridMoves (t .width) (t .height) (pos (t .weight)) flow values) ≡ firstMoving eighth (grid t samples) (at flow)
-    unfolding firstMoving wouldMove
-    moving-is = firstWhere-cong (pairCount (grid t samples)) (λ j l. ap (λ (z : ℤ). not (sameZ z (at flow j))) (step-is j l))
+      -- The first pair that would move
+      pub moving-is : firstWhere (pairCount (grid t samples)) (gridMoves share (t .width) (t .height) (pos (t .weight)) flow values) ≡ firstMoving share (grid t samples) (at flow)
+      unfolding firstMoving wouldMove
+      moving-is = firstWhere-cong (pairCount (grid t samples)) (λ j l. ap (λ (z : ℤ). not (sameZ z (at flow j))) (step-is j l))
 
     -- The sums of price and floor
     pub variation-is : total (pairCount (grid t samples)) (λ j. abs (gridFall (t .width) (t .height) values j)) ≡ total (pairCount (grid t samples)) (λ j. abs (fall (grid t samples) (image (grid t samples) (at flow)) j))

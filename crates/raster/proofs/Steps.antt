@@ -11,7 +11,6 @@ use Rattle.integers.proofs.Order.{≤ℤ-trans, negℤ-mono}
 use Rattle.integers.proofs.Absolute.{natAbs-neg, ≤-abs, bounds→natAbs}
 use Rattle.integers.proofs.Clamp.{Place, below, above, inside, clamp-place}
 use Rattle.model.specs.Lists.{table}
-use Rattle.model.specs.Rounds.{eighth}
 use Rattle.stencil.specs.Pair.{stepValue}
 use Rattle.runs.specs.Run.{stepAt}
 use Rattle.raster.specs.Whole.{rowStep, gridStep}
@@ -20,27 +19,27 @@ use Rattle.raster.proofs.Rows.{put-part}
 use Rattle.raster.proofs.Whole.{vertical}
 use Rattle.raster.proofs.Runs.{Stretch, row-run, vertical-run, horizontal-run}
 
-module _ {w start first : ℕ} (row : ℕ) (weight : ℤ) (flow image : List ℤ) where
-  pub row-stepped : {now part pixels stepped : List ℤ} → now ≡ filled start (rowStep w weight flow image) flow →
+module _ (share : ℤ → ℤ) {w start first : ℕ} (row : ℕ) (weight : ℤ) (flow image : List ℤ) where
+  pub row-stepped : {now part pixels stepped : List ℤ} → now ≡ filled start (rowStep share w weight flow image) flow →
       start ≡ row * (w - 1) → first ≡ row * w → Stretch flow start (w - 1) part → Stretch image first w pixels →
-      stepped ≡ table (length part) (stepAt weight part pixels 1) →
-      putMid start (start + (w - 1) - start) now stepped ≡ filled (start + (w - 1)) (rowStep w weight flow image) flow
+      stepped ≡ table (length part) (stepAt share weight part pixels 1) →
+      putMid start (start + (w - 1) - start) now stepped ≡ filled (start + (w - 1)) (rowStep share w weight flow image) flow
   row-stepped p q r s t e =
-      put-part start (w - 1) (rowStep w weight flow image) flow p (e ∙ row-run table (λ n _ _. table-cong n) (stepValue weight) row q r s t)
+      put-part start (w - 1) (rowStep share w weight flow image) flow p (e ∙ row-run table (λ n _ _. table-cong n) (stepValue share weight) row q r s t)
 
-module _ (w h : ℕ) (weight : ℤ) (flow image : List ℤ) where
+module _ (share : ℤ → ℤ) (w h : ℕ) (weight : ℤ) (flow image : List ℤ) where
   pub vertical-stepped : vertical w h ≤ length flow →
-      table (length (take (vertical w h) flow)) (stepAt weight (take (vertical w h) flow) image w) ≡ table (vertical w h) (gridStep w h weight flow image)
-  vertical-stepped = vertical-run table (λ n _ _. table-cong n) (stepValue weight) w h flow image
+      table (length (take (vertical w h) flow)) (stepAt share weight (take (vertical w h) flow) image w) ≡ table (vertical w h) (gridStep share w h weight flow image)
+  vertical-stepped = vertical-run table (λ n _ _. table-cong n) (stepValue share weight) w h flow image
 
   pub horizontal-stepped : {part : List ℤ} → Stretch flow (vertical w h) (h * (w - 1)) part →
-      table (length part) (rowStep w weight part image) ≡ table (h * (w - 1)) (λ k. gridStep w h weight flow image (vertical w h + k))
-  horizontal-stepped = horizontal-run table (λ n _ _. table-cong n) (stepValue weight) w h flow image
+      table (length part) (rowStep share w weight part image) ≡ table (h * (w - 1)) (λ k. gridStep share w h weight flow image (vertical w h + k))
+  horizontal-stepped = horizontal-run table (λ n _ _. table-cong n) (stepValue share weight) w h flow image
 
 -- A stepped number is no larger than the weight
-pub step-most : (weight f x y : ℤ) → natAbs (stepValue weight f x y) ≤ natAbs weight
+pub step-most : (share : ℤ → ℤ) (weight f x y : ℤ) → natAbs (stepValue share weight f x y) ≤ natAbs weight
 unfolding stepValue
-step-most weight f x y = by (clamp-place (negℤ weight) weight (f +ℤ eighth (x -ℤ y)))
+step-most share weight f x y = by (clamp-place (negℤ weight) weight (f +ℤ share (x -ℤ y)))
   where
     by : {z v : ℤ} → Place (negℤ weight) weight z v → natAbs v ≤ natAbs weight
     by (below l e) = le-of-eq (ap natAbs e ∙ natAbs-neg weight)

@@ -18,15 +18,15 @@ firstPixel w h j = getD (gridPairs w h) j (record { first = 0; second = 0 }) .fi
 abbrev pub secondPixel : ℕ → ℕ → ℕ → ℕ
 secondPixel w h j = getD (gridPairs w h) j (record { first = 0; second = 0 }) .second
 
--- the number of pair j after a step
-abbrev pub gridStep : ℕ → ℕ → ℤ → List ℤ → List ℤ → ℕ → ℤ
-gridStep w h weight flow image j =
-    stepValue weight (at flow j) (at image (firstPixel w h j)) (at image (secondPixel w h j))
+-- the number of pair j after a step that adds this share of its fall
+abbrev pub gridStep : (ℤ → ℤ) → ℕ → ℕ → ℤ → List ℤ → List ℤ → ℕ → ℤ
+gridStep share w h weight flow image j =
+    stepValue share weight (at flow j) (at image (firstPixel w h j)) (at image (secondPixel w h j))
 
 -- whether a step would change it
-abbrev pub gridMoves : ℕ → ℕ → ℤ → List ℤ → List ℤ → ℕ → Bool
-gridMoves w h weight flow image j =
-    moves weight (at flow j) (at image (firstPixel w h j)) (at image (secondPixel w h j))
+abbrev pub gridMoves : (ℤ → ℤ) → ℕ → ℕ → ℤ → List ℤ → List ℤ → ℕ → Bool
+gridMoves share w h weight flow image j =
+    moves share weight (at flow j) (at image (firstPixel w h j)) (at image (secondPixel w h j))
 
 -- the fall of pair j
 abbrev pub gridFall : ℕ → ℕ → List ℤ → ℕ → ℤ
@@ -36,11 +36,13 @@ gridFall w h image j = at image (firstPixel w h j) -ℤ at image (secondPixel w 
 abbrev pub rowPixel : ℕ → ℕ → ℕ
 rowPixel w k = k + k / (w - 1)
 
-abbrev pub rowStep : ℕ → ℤ → List ℤ → List ℤ → ℕ → ℤ
-rowStep w weight flow image k = stepValue weight (at flow k) (at image (rowPixel w k)) (at image (rowPixel w k + 1))
+abbrev pub rowStep : (ℤ → ℤ) → ℕ → ℤ → List ℤ → List ℤ → ℕ → ℤ
+rowStep share w weight flow image k =
+    stepValue share weight (at flow k) (at image (rowPixel w k)) (at image (rowPixel w k + 1))
 
-abbrev pub rowMoves : ℕ → ℤ → List ℤ → List ℤ → ℕ → Bool
-rowMoves w weight flow image k = moves weight (at flow k) (at image (rowPixel w k)) (at image (rowPixel w k + 1))
+abbrev pub rowMoves : (ℤ → ℤ) → ℕ → ℤ → List ℤ → List ℤ → ℕ → Bool
+rowMoves share w weight flow image k =
+    moves share weight (at flow k) (at image (rowPixel w k)) (at image (rowPixel w k + 1))
 
 abbrev pub rowFall : ℕ → List ℤ → ℕ → ℤ
 rowFall w image k = at image (rowPixel w k) -ℤ at image (rowPixel w k + 1)

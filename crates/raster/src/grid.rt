@@ -12,13 +12,14 @@ ghost use Rattle.integers.specs.Whole.{abs};
 ghost use Rattle.integers.specs.Sum.{total};
 ghost use Rattle.model.specs.Lists.{at, table, firstWhere};
 ghost use Rattle.model.specs.Grid.{gridPairs};
+ghost use Rattle.model.specs.Rounds.{nearestEighth};
 ghost use Rattle.runs.specs.Run.{movingOf};
 ghost use Rattle.raster.specs.Whole.{AcrossLimits, rowStep, rowMoves, GridLimits, gridStep, gridMoves, rowFall, gridFall, RasterLimits, WorkLimits};
 
 // The horizontal pairs of all rows, a run for each.
 fn step_rows(flow: &mut [i32], image: &[i32], width: usize, height: usize, weight: i32)
     requires { ⌜ AcrossLimits width height weight (now flow) (now image) ⌝ }
-    ensures { λ _. ⌜ now (flow .exit) ≡ table (length (now (flow .entry))) (rowStep width weight (now (flow .entry)) (now (image .entry))) ⌝ }
+    ensures { λ _. ⌜ now (flow .exit) ≡ table (length (now (flow .entry))) (rowStep nearestEighth width weight (now (flow .entry)) (now (image .entry))) ⌝ }
 {
     let across = width - 1;
     let mut at = 0;
@@ -37,10 +38,10 @@ fn step_rows(flow: &mut [i32], image: &[i32], width: usize, height: usize, weigh
     }
 }
 
-// A step on the flow whose image is lent.
+// The step of a steady round on the flow whose image is lent.
 pub fn step_grid(flow: &mut [i32], image: &[i32], width: usize, height: usize, weight: i32)
     requires { ⌜ GridLimits width height weight (now flow) (now image) ⌝ }
-    ensures { λ _. ⌜ now (flow .exit) ≡ table (length (now (flow .entry))) (gridStep width height weight (now (flow .entry)) (now (image .entry))) ⌝ }
+    ensures { λ _. ⌜ now (flow .exit) ≡ table (length (now (flow .entry))) (gridStep nearestEighth width height weight (now (flow .entry)) (now (image .entry))) ⌝ }
 {
     let vertical = width * (height - 1);
     pairs::step_pairs(&mut flow[..vertical], image, width, weight);
@@ -56,7 +57,7 @@ fn first_moving_rows(
     weight: i32,
 ) -> Moving
     requires { ⌜ AcrossLimits width height weight (now flow) (now image) ⌝ }
-    ensures { λ r. ⌜ r ≡ movingOf (length (now (flow .entry))) (firstWhere (length (now (flow .entry))) (rowMoves width weight (now (flow .entry)) (now (image .entry)))) ⌝ }
+    ensures { λ r. ⌜ r ≡ movingOf (length (now (flow .entry))) (firstWhere (length (now (flow .entry))) (rowMoves nearestEighth width weight (now (flow .entry)) (now (image .entry)))) ⌝ }
 {
     let across = width - 1;
     let mut at = 0;
@@ -81,7 +82,7 @@ fn first_moving_rows(
     }
 }
 
-// The test before a round: the first pair that a step would change.
+// The test before a steady round: the first pair that its step would change.
 pub fn first_moving_grid(
     flow: &[i32],
     image: &[i32],
@@ -90,7 +91,7 @@ pub fn first_moving_grid(
     weight: i32,
 ) -> Moving
     requires { ⌜ GridLimits width height weight (now flow) (now image) ⌝ }
-    ensures { λ r. ⌜ r ≡ movingOf (length (now (flow .entry))) (firstWhere (length (now (flow .entry))) (gridMoves width height weight (now (flow .entry)) (now (image .entry)))) ⌝ }
+    ensures { λ r. ⌜ r ≡ movingOf (length (now (flow .entry))) (firstWhere (length (now (flow .entry))) (gridMoves nearestEighth width height weight (now (flow .entry)) (now (image .entry)))) ⌝ }
 {
     let vertical = width * (height - 1);
     let upper = pairs::first_moving(&flow[..vertical], image, width, weight);

@@ -23,7 +23,7 @@ module _ (t : Terms) (samples : List ℕ) where
   pub iterate-within : (k : ℕ) → Within (t .weight) (quickRounds eighth (grid t samples) k .iterate)
   unfolding quickRounds quickStart quickRound
   iterate-within zero = zeros-within (pairCount (grid t samples)) (t .weight)
-  iterate-within (suc k) = step-within t samples (quickRounds eighth (grid t samples) k .extrapolated)
+  iterate-within (suc k) = step-within t samples eighth (quickRounds eighth (grid t samples) k .extrapolated)
 
   pub ahead-within : (k : ℕ) → Within (3 * t .weight) (quickRounds eighth (grid t samples) k .extrapolated)
   unfolding quickRounds quickStart quickRound
@@ -34,4 +34,4 @@ module _ (t : Terms) (samples : List ℕ) where
       within-table (pairCount (grid t samples)) _ (λ j _.
       extrapolate-bound (s .momentum) (nextMomentum (s .momentum)) (t .weight) (at (s .iterate) j)
       (at (step eighth (grid t samples) (s .extrapolated)) j) low (momentum-least (s .momentum) low) (iterate-within k j)
-      (step-within t samples (s .extrapolated) j))
+      (step-within t samples eighth (s .extrapolated) j))

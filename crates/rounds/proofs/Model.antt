@@ -64,22 +64,22 @@ module _ (t : Terms) (samples : List ℕ) where
   image-most l u flow =
       within-table (t .width * t .height) (image (grid t samples) (at flow)) (λ i _. clamp-most _ (omega arith) (omega arith))
 
-  pub step-within : (flow : List ℤ) → Within (t .weight) (step eighth (grid t samples) flow)
+  pub step-within : (share : ℤ → ℤ) (flow : List ℤ) → Within (t .weight) (step share (grid t samples) flow)
   unfolding step stepped
-  step-within flow =
-      within-table (pairCount (grid t samples)) (stepped eighth (grid t samples) (at flow)) (λ j _. natAbs-clamp (t .weight) _)
+  step-within share flow =
+      within-table (pairCount (grid t samples)) (stepped share (grid t samples) (at flow)) (λ j _. natAbs-clamp (t .weight) _)
 
   module _ (flow ahead : List ℤ) (momentum : ℕ) {values : List ℤ} (e : values ≡ imageOf t samples ahead) where
-    pub iterate-is : table (pairCount (grid t samples)) (gridStep (t .width) (t .height) (pos (t .weight)) ahead values)
+    pub iterate-is : table (pairCount (grid t samples)) (gridStep eighth (t .width) (t .height) (pos (t .weight)) ahead values)
         ≡ quickRound eighth (grid t samples) (held flow ahead momentum) .iterate
     unfolding quickRound
-    iterate-is = stepped-is t samples ahead e
+    iterate-is = stepped-is t samples ahead e eighth
 
     now-is : (j : ℕ) → j < pairCount (grid t samples) →
-        gridStep (t .width) (t .height) (pos (t .weight)) ahead values j ≡ at (step eighth (grid t samples) ahead) j
+        gridStep eighth (t .width) (t .height) (pos (t .weight)) ahead values j ≡ at (step eighth (grid t samples) ahead) j
     unfolding step
     now-is j l =
-        step-is t samples ahead e j l
+        step-is t samples ahead e eighth j l
         ∙ sym (getD-table (pairCount (grid t samples)) (stepped eighth (grid t samples) (at ahead)) j (pos 0) l)
 
     module _ (m : ℕ) (weight-most : t .weight ≤ 65280) (flow-most : Within 65280 flow) (least : 65536 ≤ momentum)
@@ -89,7 +89,7 @@ module _ (t : Terms) (samples : List ℕ) where
         small j =
             let now : ℤ = at (step eighth (grid t samples) ahead) j in
             let d : natAbs (now -ℤ at flow j) ≤ 130560 =
-            omega (arith, natAbs-difference now (at flow j), step-within ahead j, flow-most j)
+            omega (arith, natAbs-difference now (at flow j), step-within eighth ahead j, flow-most j)
             in
             let n : nextMomentum momentum ≤ 2 ^ 29 = omega (arith, next-range momentum least most .2) in
             omega (arith, mul-le-mul d n)

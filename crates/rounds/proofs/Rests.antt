@@ -1,4 +1,4 @@
--- Steady rounds in buffers, one after another. Assumes nothing.
+-- Steady rounds in buffers, one after another, whatever share of a fall their steps add. Assumes nothing.
 use mathlib.Core.Path.{_≡_, refl, sym, ap, _∙_, subst}
 use mathlib.Core.Bool.{Bool, true, false, not}
 use mathlib.Core.List.{List}
@@ -11,7 +11,7 @@ use Rattle.model.specs.declared.Terms.{Terms}
 use Rattle.model.specs.Lists.{at}
 use Rattle.model.specs.Problem.{Problem, pairCount}
 use Rattle.model.specs.Grid.{grid}
-use Rattle.model.specs.Rounds.{eighth, step, firstMoving, Steady, oneMore, steadyRounds}
+use Rattle.model.specs.Rounds.{step, firstMoving, Steady, oneMore, steadyRounds}
 use Rattle.model.specs.Calls.{imageOf}
 use Rattle.runs.specs.Limits.{Within}
 use Rattle.rounds.specs.Ready.{SteadyReady}
@@ -19,8 +19,8 @@ use Rattle.model.proofs.Sizes.{step-size}
 use Rattle.rounds.proofs.Model.{step-within}
 
 -- whether some pair would move
-abbrev pub someMoves : Problem → List ℤ → Bool
-someMoves p flow = ltb (firstMoving eighth p (at flow)) (pairCount p)
+abbrev pub someMoves : (ℤ → ℤ) → Problem → List ℤ → Bool
+someMoves share p flow = ltb (firstMoving share p (at flow)) (pairCount p)
 
 -- an end with no round
 abbrev pub ended : List ℤ → Bool → Steady
@@ -39,43 +39,43 @@ later-more k s =
     let e : k + suc (s .moved) ≡ k + 1 + s .moved = omega arith in
     ap (λ (n : ℕ). record { flow = s .flow; moved = n; settled = s .settled }) e
 
-module _ (p : Problem) (flow : List ℤ) where
+module _ (share : ℤ → ℤ) (p : Problem) (flow : List ℤ) where
   -- with another round allowed, by whether some pair would move
   abbrev next : ℕ → Bool → Steady
   next n moving =
       elim moving as (λ _. Steady) [
-        | true ↦ oneMore (steadyRounds eighth p n (step eighth p flow))
+        | true ↦ oneMore (steadyRounds share p n (step share p flow))
         | false ↦ record { flow = flow; moved = 0; settled = true }
       ]
 
   -- no pair would move, or no round is allowed
-  pub rests : (n : ℕ) → someMoves p flow ≡ false → steadyRounds eighth p n flow ≡ ended flow false
+  pub rests : (n : ℕ) → someMoves share p flow ≡ false → steadyRounds share p n flow ≡ ended flow false
   unfolding steadyRounds
   rests zero e = rw e
   rests (suc n) e = ap (next n) e
 
-  pub spent : steadyRounds eighth p 0 flow ≡ ended flow (someMoves p flow)
+  pub spent : steadyRounds share p 0 flow ≡ ended flow (someMoves share p flow)
   unfolding steadyRounds
   spent = refl
 
   -- a round
-  pub goes-on : (n : ℕ) → someMoves p flow ≡ true → steadyRounds eighth p (suc n) flow ≡ oneMore (steadyRounds eighth p n (step eighth p flow))
+  pub goes-on : (n : ℕ) → someMoves share p flow ≡ true → steadyRounds share p (suc n) flow ≡ oneMore (steadyRounds share p n (step share p flow))
   unfolding steadyRounds
   goes-on n e = ap (next n) e
 
 -- after k rounds: the flow with its image, and what the rounds to come, of those allowed, make of it
-pub record Rested (t : Terms) (allowance : ℕ) (samples : List ℕ) (flow₀ : List ℤ) (k : ℕ) (flow image : List ℤ) (moving : Bool) : Type 0 where
+pub record Rested (share : ℤ → ℤ) (t : Terms) (allowance : ℕ) (samples : List ℕ) (flow₀ : List ℤ) (k : ℕ) (flow image : List ℤ) (moving : Bool) : Type 0 where
   pub round-most : k ≤ allowance
   pub flow-length : length flow ≡ pairCount (grid t samples)
   pub flow-most : Within (t .weight) flow
   pub image-is : image ≡ imageOf t samples flow
-  pub moving-is : moving ≡ someMoves (grid t samples) flow
-  pub rest-is : steadyRounds eighth (grid t samples) allowance flow₀ ≡ later k (steadyRounds eighth (grid t samples) (allowance - k) flow)
+  pub moving-is : moving ≡ someMoves share (grid t samples) flow
+  pub rest-is : steadyRounds share (grid t samples) allowance flow₀ ≡ later k (steadyRounds share (grid t samples) (allowance - k) flow)
 
 -- before the first round
-pub rested-none : {t : Terms} (allowance : ℕ) {samples : List ℕ} {flow image₀ image : List ℤ} {moving : Bool} → SteadyReady t samples flow image₀ →
-    image ≡ imageOf t samples flow → moving ≡ someMoves (grid t samples) flow → Rested t allowance samples flow 0 flow image moving
-rested-none {t} allowance {samples} {flow} r e m =
+pub rested-none : (share : ℤ → ℤ) {t : Terms} (allowance : ℕ) {samples : List ℕ} {flow image₀ image : List ℤ} {moving : Bool} → SteadyReady t samples flow image₀ →
+    image ≡ imageOf t samples flow → moving ≡ someMoves share (grid t samples) flow → Rested share t allowance samples flow 0 flow image moving
+rested-none share {t} allowance {samples} {flow} r e m =
     record {
       round-most = zero-le;
       flow-length = r .lengths .flow-length;
@@ -84,42 +84,42 @@ rested-none {t} allowance {samples} {flow} r e m =
       moving-is = m;
       rest-is =
           let n : allowance ≡ allowance - 0 = omega arith in
-          later-none _ ∙ ap (λ (a : ℕ). later 0 (steadyRounds eighth (grid t samples) a flow)) n;
+          later-none _ ∙ ap (λ (a : ℕ). later 0 (steadyRounds share (grid t samples) a flow)) n;
     }
 
-module _ {t : Terms} {allowance : ℕ} {samples : List ℕ} {flow₀ : List ℤ} {k : ℕ} {flow image : List ℤ} {moving : Bool}
-    (r : Rested t allowance samples flow₀ k flow image moving)
+module _ {share : ℤ → ℤ} {t : Terms} {allowance : ℕ} {samples : List ℕ} {flow₀ : List ℤ} {k : ℕ} {flow image : List ℤ} {moving : Bool}
+    (r : Rested share t allowance samples flow₀ k flow image moving)
   where
     -- a round
-    pub rested-more : {flow₁ image₁ : List ℤ} {moving₁ : Bool} → moving ≡ true → k < allowance → flow₁ ≡ step eighth (grid t samples) flow →
-        image₁ ≡ imageOf t samples flow₁ → moving₁ ≡ someMoves (grid t samples) flow₁ →
-        Rested t allowance samples flow₀ (k + 1) flow₁ image₁ moving₁
+    pub rested-more : {flow₁ image₁ : List ℤ} {moving₁ : Bool} → moving ≡ true → k < allowance → flow₁ ≡ step share (grid t samples) flow →
+        image₁ ≡ imageOf t samples flow₁ → moving₁ ≡ someMoves share (grid t samples) flow₁ →
+        Rested share t allowance samples flow₀ (k + 1) flow₁ image₁ moving₁
     rested-more {flow₁} g l s e m =
         record {
           round-most = omega arith;
-          flow-length = ap length s ∙ step-size eighth (grid t samples) flow;
-          flow-most = subst (Within (t .weight)) (sym s) (step-within t samples flow);
+          flow-length = ap length s ∙ step-size share (grid t samples) flow;
+          flow-most = subst (Within (t .weight)) (sym s) (step-within t samples share flow);
           image-is = e;
           moving-is = m;
           rest-is =
               let p : Problem = grid t samples in
               let n : allowance - k ≡ suc (allowance - (k + 1)) = omega arith in
               r .rest-is
-              ∙ ap (λ (a : ℕ). later k (steadyRounds eighth p a flow)) n
-              ∙ ap (later k) (goes-on p flow (allowance - (k + 1)) (sym (r .moving-is) ∙ g))
+              ∙ ap (λ (a : ℕ). later k (steadyRounds share p a flow)) n
+              ∙ ap (later k) (goes-on share p flow (allowance - (k + 1)) (sym (r .moving-is) ∙ g))
               ∙ later-more k _
-              ∙ ap (λ (f : List ℤ). later (k + 1) (steadyRounds eighth p (allowance - (k + 1)) f)) (sym s);
+              ∙ ap (λ (f : List ℤ). later (k + 1) (steadyRounds share p (allowance - (k + 1)) f)) (sym s);
         }
 
     -- the end
-    pub rested-end : (moving ≡ true → allowance ≤ k) → steadyRounds eighth (grid t samples) allowance flow₀ ≡ later k (ended flow moving)
+    pub rested-end : (moving ≡ true → allowance ≤ k) → steadyRounds share (grid t samples) allowance flow₀ ≡ later k (ended flow moving)
     rested-end h = r .rest-is ∙ ap (later k) (by moving (r .moving-is) h)
       where
-        by : (b : Bool) → b ≡ someMoves (grid t samples) flow → (b ≡ true → allowance ≤ k) →
-            steadyRounds eighth (grid t samples) (allowance - k) flow ≡ ended flow b
+        by : (b : Bool) → b ≡ someMoves share (grid t samples) flow → (b ≡ true → allowance ≤ k) →
+            steadyRounds share (grid t samples) (allowance - k) flow ≡ ended flow b
         by true e h =
             let n : allowance - k ≡ 0 = omega (arith, h refl) in
-            ap (λ (a : ℕ). steadyRounds eighth (grid t samples) a flow) n
-            ∙ spent (grid t samples) flow
+            ap (λ (a : ℕ). steadyRounds share (grid t samples) a flow) n
+            ∙ spent share (grid t samples) flow
             ∙ ap (ended flow) (sym e)
-        by false e h = rests (grid t samples) flow (allowance - k) (sym e)
+        by false e h = rests share (grid t samples) flow (allowance - k) (sym e)

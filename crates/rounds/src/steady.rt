@@ -11,7 +11,7 @@ ghost use lib.Dec.{ltb};
 ghost use Rattle.model.specs.Lists.{at};
 ghost use Rattle.model.specs.Problem.{pairCount};
 ghost use Rattle.model.specs.Grid.{grid as theGrid};
-ghost use Rattle.model.specs.Rounds.{eighth, firstMoving, steadyRounds};
+ghost use Rattle.model.specs.Rounds.{nearestEighth, firstMoving, steadyRounds};
 ghost use Rattle.model.specs.Calls.{imageOf};
 ghost use Rattle.rounds.specs.Ready.{SteadyReady};
 
@@ -25,7 +25,7 @@ pub struct Steady {
 fn some_moves(t: Terms, samples: &[u8], flow: &[i32], image: &mut [i32]) -> bool
     requires { ⌜ SteadyReady t (now samples) (now flow) (now image) ⌝ }
     ensures { λ _. ⌜ now (image .exit) ≡ imageOf t (now (samples .entry)) (now (flow .entry)) ⌝ }
-    ensures { λ r. ⌜ r ≡ ltb (firstMoving eighth (theGrid t (now (samples .entry))) (at (now (flow .entry)))) (pairCount (theGrid t (now (samples .entry)))) ⌝ }
+    ensures { λ r. ⌜ r ≡ ltb (firstMoving nearestEighth (theGrid t (now (samples .entry))) (at (now (flow .entry)))) (pairCount (theGrid t (now (samples .entry)))) ⌝ }
 {
     let w = t.width as usize;
     let h = t.height as usize;
@@ -54,10 +54,10 @@ pub fn steady_rounds(
     image: &mut [i32],
 ) -> Steady
     requires { ⌜ SteadyReady t (now samples) (now flow) (now image) ⌝ }
-    ensures { λ _. ⌜ now (flow .exit) ≡ steadyRounds eighth (theGrid t (now (samples .entry))) allowance (now (flow .entry)) .flow ⌝ }
+    ensures { λ _. ⌜ now (flow .exit) ≡ steadyRounds nearestEighth (theGrid t (now (samples .entry))) allowance (now (flow .entry)) .flow ⌝ }
     ensures { λ _. ⌜ now (image .exit) ≡ imageOf t (now (samples .entry)) (now (flow .exit)) ⌝ }
-    ensures { λ r. ⌜ r .moved ≡ steadyRounds eighth (theGrid t (now (samples .entry))) allowance (now (flow .entry)) .moved ⌝ }
-    ensures { λ r. ⌜ r .settled ≡ steadyRounds eighth (theGrid t (now (samples .entry))) allowance (now (flow .entry)) .settled ⌝ }
+    ensures { λ r. ⌜ r .moved ≡ steadyRounds nearestEighth (theGrid t (now (samples .entry))) allowance (now (flow .entry)) .moved ⌝ }
+    ensures { λ r. ⌜ r .settled ≡ steadyRounds nearestEighth (theGrid t (now (samples .entry))) allowance (now (flow .entry)) .settled ⌝ }
 {
     let w = t.width as usize;
     let h = t.height as usize;

@@ -14,13 +14,13 @@ use Rattle.stencil.specs.Pair.{stepValue, moves}
 abbrev pub fallAt : List ℤ → ℕ → ℕ → ℤ
 fallAt image stride j = at image j -ℤ at image (j + stride)
 
--- the number of pair j after a step
-abbrev pub stepAt : ℤ → List ℤ → List ℤ → ℕ → ℕ → ℤ
-stepAt weight flow image stride j = stepValue weight (at flow j) (at image j) (at image (j + stride))
+-- the number of pair j after a step that adds this share of its fall
+abbrev pub stepAt : (ℤ → ℤ) → ℤ → List ℤ → List ℤ → ℕ → ℕ → ℤ
+stepAt share weight flow image stride j = stepValue share weight (at flow j) (at image j) (at image (j + stride))
 
 -- whether a step would change it
-abbrev pub movesAt : ℤ → List ℤ → List ℤ → ℕ → ℕ → Bool
-movesAt weight flow image stride j = moves weight (at flow j) (at image j) (at image (j + stride))
+abbrev pub movesAt : (ℤ → ℤ) → ℤ → List ℤ → List ℤ → ℕ → ℕ → Bool
+movesAt share weight flow image stride j = moves share weight (at flow j) (at image j) (at image (j + stride))
 
 -- the answer of a search among n pairs, where k is the first that moves, or n where none does
 abbrev pub movingOf : ℕ → ℕ → Moving

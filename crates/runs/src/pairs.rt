@@ -3,12 +3,14 @@
 
 use integers::signed;
 use stencil::pair;
+use stencil::pair::Round;
 ghost use mathlib.Core.Path.{_≡_};
 ghost use lib.IntN.{pos, _*ℤ_};
 ghost use lib.ListN.{length};
 ghost use Rattle.integers.specs.Whole.{abs};
 ghost use Rattle.integers.specs.Sum.{total};
 ghost use Rattle.model.specs.Lists.{at, table, firstWhere};
+ghost use Rattle.model.specs.Rounds.{nearestEighth};
 ghost use Rattle.runs.specs.Limits.{StepLimits, VariationLimits, FallLimits};
 ghost use Rattle.runs.specs.Run.{fallAt, stepAt, movesAt, movingOf};
 
@@ -18,29 +20,29 @@ pub enum Moving {
     Nothing,
 }
 
-// A step: each pair's number becomes its stepped value.
+// The step of a steady round: each pair's number becomes its stepped value.
 pub fn step_pairs(flow: &mut [i32], image: &[i32], stride: usize, weight: i32)
     requires { ⌜ StepLimits (now flow) (now image) stride weight ⌝ }
-    ensures { λ _. ⌜ now (flow .exit) ≡ table (length (now (flow .entry))) (stepAt weight (now (flow .entry)) (now (image .entry)) stride) ⌝ }
+    ensures { λ _. ⌜ now (flow .exit) ≡ table (length (now (flow .entry))) (stepAt nearestEighth weight (now (flow .entry)) (now (image .entry)) stride) ⌝ }
 {
     let mut j = 0;
     while j < flow.len() {
-        flow[j] = pair::step_value(flow[j], image[j], image[j + stride], weight);
+        flow[j] = pair::step_value(Round::Steady, flow[j], image[j], image[j + stride], weight);
         j += 1;
     }
 }
 
-// The test before a round: the first pair that a step would change.
+// The test before a steady round: the first pair that its step would change.
 pub fn first_moving(flow: &[i32], image: &[i32], stride: usize, weight: i32) -> Moving
     requires { ⌜ StepLimits (now flow) (now image) stride weight ⌝ }
-    ensures { λ r. ⌜ r ≡ movingOf (length (now (flow .entry))) (firstWhere (length (now (flow .entry))) (movesAt weight (now (flow .entry)) (now (image .entry)) stride)) ⌝ }
+    ensures { λ r. ⌜ r ≡ movingOf (length (now (flow .entry))) (firstWhere (length (now (flow .entry))) (movesAt nearestEighth weight (now (flow .entry)) (now (image .entry)) stride)) ⌝ }
 {
     let mut j = 0;
     loop {
         if flow.len() <= j {
             break Moving::Nothing;
         }
-        if pair::would_move(flow[j], image[j], image[j + stride], weight) {
+        if pair::would_move(Round::Steady, flow[j], image[j], image[j + stride], weight) {
             break Moving::At(j);
         }
         j += 1;

@@ -2,26 +2,43 @@
 
 use integers::signed;
 ghost use mathlib.Core.Path.{_≡_};
-ghost use Prim.Native.Nat.{_+_, _^_, _<_};
+ghost use Prim.Native.Nat.{_+_, _^_, _≤_, _<_};
 ghost use lib.IntN.{natAbs, _-ℤ_, _*ℤ_};
-ghost use Rattle.stencil.specs.Pair.{stepValue, moves};
+ghost use Rattle.stencil.specs.Pair.{shareOf, stepValue, moves};
 ghost use Rattle.stencil.specs.Limits.{PairLimits};
 
-// The number of a pair after a step, from its number and its pixels' values.
-pub fn step_value(f: i32, x: i32, y: i32, weight: i32) -> i32
-    requires { ⌜ PairLimits weight f x y ⌝ }
-    ensures { λ r. ⌜ r ≡ stepValue weight f x y ⌝ }
+// The kinds of rounds, which round the share of a fall that their steps add in two ways.
+pub enum Round {
+    Quick,
+    Steady,
+}
+
+// The share of a fall in each kind of round.
+pub fn share(kind: Round, fall: i32) -> i32
+    requires { ⌜ natAbs fall ≤ 2 ^ 21 ⌝ }
+    ensures { λ r. ⌜ r ≡ shareOf kind fall ⌝ }
 {
-    let share = signed::quotient(signed::sub(x, y), 8);
-    signed::clamped(signed::add(f, share), signed::neg(weight), weight)
+    match kind {
+        Round::Quick => signed::quotient(fall, 8),
+        Round::Steady => signed::nearest(fall, 8),
+    }
+}
+
+// The number of a pair after a step, from its number and its pixels' values.
+pub fn step_value(kind: Round, f: i32, x: i32, y: i32, weight: i32) -> i32
+    requires { ⌜ PairLimits weight f x y ⌝ }
+    ensures { λ r. ⌜ r ≡ stepValue (shareOf kind) weight f x y ⌝ }
+{
+    let added = share(kind, signed::sub(x, y));
+    signed::clamped(signed::add(f, added), signed::neg(weight), weight)
 }
 
 // Whether a step would change the number of a pair.
-pub fn would_move(f: i32, x: i32, y: i32, weight: i32) -> bool
+pub fn would_move(kind: Round, f: i32, x: i32, y: i32, weight: i32) -> bool
     requires { ⌜ PairLimits weight f x y ⌝ }
-    ensures { λ r. ⌜ r ≡ moves weight f x y ⌝ }
+    ensures { λ r. ⌜ r ≡ moves (shareOf kind) weight f x y ⌝ }
 {
-    !signed::same(step_value(f, x, y, weight), f)
+    !signed::same(step_value(kind, f, x, y, weight), f)
 }
 
 // The size of a pair's fall.

@@ -9,6 +9,7 @@ use lib.Seq.{length-take-le}
 use mir.Syntax.{w32}
 use mir.Val.{toZ, ofZ}
 use mir.ValLaws.{toZ-ofZ}
+use Rattle.model.specs.Rounds.{eighth}
 use Rattle.raster.specs.Whole.{gridStep}
 use Rattle.runs.proofs.Fill.{filled, length-filled}
 use Rattle.raster.proofs.Rows.{part-within}
@@ -35,7 +36,7 @@ module _ (c : tie.After-ahead) where
       let w = s .args .width in
       let h = s .args .height in
       c .before .before .advance-pairs .last .0 ++ drop (vertical w h) (s .args .flow .now)
-      ≡ filled (vertical w h) (gridStep w h (toZ w32 (ofZ w32 (s .args .weight))) (s .args .ahead .now) (s .args .image .now)) (s .args .flow .now)
+      ≡ filled (vertical w h) (gridStep eighth w h (toZ w32 (ofZ w32 (s .args .weight))) (s .args .ahead .now) (s .args .image .now)) (s .args .flow .now)
   upper-flow =
       let s = c .before .before .before .before .before in
       let w = s .args .width in

@@ -12,6 +12,7 @@ use mir.Val.{toZ, ofZ}
 use mir.ValLaws.{toZ-ofZ}
 use Rattle.integers.proofs.Machine.{read, called}
 use Rattle.model.specs.Lists.{at}
+use Rattle.model.specs.Rounds.{eighth}
 use Rattle.runs.specs.Run.{stepAt}
 use Rattle.runs.proofs.Elements.{element, pair-limits}
 use Rattle.raster.proofs.Steps.{step-most}
@@ -24,7 +25,7 @@ use Rattle.advance.proofs.advance_pairs.Tie as tie
 
 abbrev Inv-loop : tie.InvT-loop
 Inv-loop flow₀ ahead₀ image stride weight m j₀ flow ahead j =
-    Filling (stepAt (toZ w32 weight) ahead₀ image stride) flow₀ j flow × Filling (aheadAt (toZ w32 weight) m flow₀ ahead₀ image stride) ahead₀ j ahead
+    Filling (stepAt eighth (toZ w32 weight) ahead₀ image stride) flow₀ j flow × Filling (aheadAt (toZ w32 weight) m flow₀ ahead₀ image stride) ahead₀ j ahead
 
 abbrev μ-loop : tie.MeasureT-loop
 μ-loop flow₀ ahead₀ image stride weight m j₀ flow ahead j = length flow₀ - j
@@ -37,7 +38,7 @@ small l h = element l (λ i. omega (arith, h i))
 next-is : (c : tie.After-step-value Inv-loop μ-loop) →
     let s = c .before .before .before .before .before .before in
     toZ w32 (ofZ w32 (c .step-value .result))
-    ≡ stepAt (toZ w32 (ofZ w32 (s .args .weight))) (s .args .ahead .now) (s .args .image .now) (s .args .stride) (c .before .before .before .before .before .loop .j)
+    ≡ stepAt eighth (toZ w32 (ofZ w32 (s .args .weight))) (s .args .ahead .now) (s .args .image .now) (s .args .stride) (c .before .before .before .before .before .loop .j)
 next-is c =
     let s = c .before .before .before .before .before .before in
     let l = c .before .before .before .before .before .loop in
@@ -89,12 +90,12 @@ extrapolated-requires c κs =
     let s = v .before .before .before .before .before .before in
     let l = v .before .before .before .before .before .loop in (
       rw (filling-rest (l .inv .0) (l .j) (pos 0) (le-refl (l .j)), small (s .args .flow .now) (s .pre .flow-most) (l .j)) (s .pre .flow-most (l .j)),
-      rw (next-is v) (le-trans (step-most (toZ w32 (ofZ w32 (s .args .weight))) _ _ _) (rw (toZ-ofZ w32 (s .args .weight) (s .fits .weight)) (s .pre .weight-most))),
+      rw (next-is v) (le-trans (step-most eighth (toZ w32 (ofZ w32 (s .args .weight))) _ _ _) (rw (toZ-ofZ w32 (s .args .weight) (s .fits .weight)) (s .pre .weight-most))),
       s .pre .factor-most,
     )
 
-mul-t17 : tie.Need-mul-t17 Inv-loop μ-loop
-mul-t17 c = search needs
+mul-t18 : tie.Need-mul-t18 Inv-loop μ-loop
+mul-t18 c = search needs
 
 slice-set-from-ahead : tie.Need-slice-set-from-ahead Inv-loop μ-loop
 slice-set-from-ahead c = search needs
@@ -156,7 +157,7 @@ advance-pairs-spec =
     mul-extrapolated
     slice-copy-out-extrapolated
     extrapolated-requires
-    mul-t17
+    mul-t18
     slice-set-from-ahead
     mul-next
     slice-set-from-next

@@ -9,6 +9,7 @@ use mir.Val.{toZ, ofZ}
 use mir.ValLaws.{toZ-ofZ}
 use Rattle.model.specs.Lists.{table}
 use Rattle.model.proofs.Lists.{length-table}
+use Rattle.model.specs.Rounds.{eighth}
 use Rattle.raster.specs.Whole.{rowStep}
 use Rattle.runs.proofs.Fill.{filled, filled-none, length-filled, filled-done}
 use Rattle.raster.proofs.Rows.{row-end, put-part}
@@ -21,7 +22,7 @@ use Rattle.advance.proofs.advance_rows.Tie as tie
 abbrev Inv-loop : tie.InvT-loop
 Inv-loop flow₀ ahead₀ image width height weight m across at₀ start₀ row₀ flow ahead at start row =
     (row ≤ height) × (at ≡ row * across) × (start ≡ row * width)
-    × (flow ≡ filled at (rowStep width (toZ w32 weight) ahead₀ image) flow₀)
+    × (flow ≡ filled at (rowStep eighth width (toZ w32 weight) ahead₀ image) flow₀)
     × (ahead ≡ filled at (rowAhead width (toZ w32 weight) m flow₀ ahead₀ image) ahead₀)
 
 abbrev μ-loop : tie.MeasureT-loop
@@ -161,7 +162,7 @@ ended : (c : tie.After-loop Inv-loop μ-loop) → let s = c .before .before in
     let weight = toZ w32 (ofZ w32 (s .args .weight)) in
     (length (c .before .loop .flow) ≡ n)
     × (length (c .before .loop .ahead) ≡ length (s .args .ahead .now))
-    × (c .before .loop .flow ≡ table n (rowStep (s .args .width) weight (s .args .ahead .now) (s .args .image .now)))
+    × (c .before .loop .flow ≡ table n (rowStep eighth (s .args .width) weight (s .args .ahead .now) (s .args .image .now)))
     × (c .before .loop .ahead ≡ table n (rowAhead (s .args .width) weight (s .args .m) (s .args .flow .now) (s .args .ahead .now) (s .args .image .now)))
 ended c =
     let s = c .before .before in

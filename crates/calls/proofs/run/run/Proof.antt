@@ -15,7 +15,7 @@ use Rattle.model.specs.declared.Verdict.{Verdict}
 use Rattle.model.specs.Lists.{at}
 use Rattle.model.specs.Problem.{Feasible}
 use Rattle.model.specs.Grid.{grid}
-use Rattle.model.specs.Rounds.{eighth, steadyRounds}
+use Rattle.model.specs.Rounds.{eighth, nearestEighth, steadyRounds}
 use Rattle.model.specs.Calls.{Outcome, figures, settled, spent, imageOf, figuresOf, quickFlow, ending, runVerdict, runAnswer, runFlow, runImage, runWork}
 use Rattle.model.specs.Accepted.{RunAllowed}
 use Rattle.model.proofs.Answers.{run-answer, run-flow, run-image, run-work}
@@ -113,11 +113,11 @@ last c =
     let s = q .before .before .before .before .before .before .before .before in
     let p = grid (s .args .t) (s .args .samples .now) in
     let ends = c .steady-rounds .ensures in
-    let f = ends .0 ∙ ap (λ (g : List ℤ). steadyRounds eighth p (s .args .r .allowance) g .flow) (iterate q) in (
+    let f = ends .0 ∙ ap (λ (g : List ℤ). steadyRounds nearestEighth p (s .args .r .allowance) g .flow) (iterate q) in (
       f,
       ends .1 .0 ∙ ap (imageOf (s .args .t) (s .args .samples .now)) f,
-      ends .1 .1 .0 ∙ ap (λ (g : List ℤ). steadyRounds eighth p (s .args .r .allowance) g .moved) (iterate q),
-      ends .1 .1 .1 ∙ ap (λ (g : List ℤ). steadyRounds eighth p (s .args .r .allowance) g .settled) (iterate q),
+      ends .1 .1 .0 ∙ ap (λ (g : List ℤ). steadyRounds nearestEighth p (s .args .r .allowance) g .moved) (iterate q),
+      ends .1 .1 .1 ∙ ap (λ (g : List ℤ). steadyRounds nearestEighth p (s .args .r .allowance) g .settled) (iterate q),
     )
 
 of-flow-requires : tie.Need-of-flow-requires

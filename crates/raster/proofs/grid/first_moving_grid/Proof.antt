@@ -11,6 +11,7 @@ use mir.Syntax.{w32}
 use mir.Val.{toZ, ofZ}
 use mir.ValLaws.{toZ-ofZ}
 use Rattle.runs.specs.declared.pairs.Moving.the-variants.{At}
+use Rattle.model.specs.Rounds.{nearestEighth}
 use Rattle.stencil.specs.Pair.{moves}
 use Rattle.raster.specs.Whole.{gridMoves}
 use Rattle.raster.proofs.Whole.{vertical, vertical-most, all-pairs}
@@ -28,7 +29,7 @@ abbrev across : tie.Start → ℕ
 across s = s .args .height * (s .args .width - 1)
 
 abbrev test : tie.Start → ℕ → Bool
-test s = gridMoves (s .args .width) (s .args .height) (toZ w32 (ofZ w32 (s .args .weight))) (s .args .flow .now) (s .args .image .now)
+test s = gridMoves nearestEighth (s .args .width) (s .args .height) (toZ w32 (ofZ w32 (s .args .weight))) (s .args .flow .now) (s .args .image .now)
 
 sub-vertical : tie.Need-sub-vertical
 sub-vertical c = search needs
@@ -46,7 +47,7 @@ first-moving-requires c κs = rw (toZ-ofZ w32 _ (c .before .fits .weight)) (vert
 upper : (c : tie.After-first-moving) → let s = c .before .before in c .first-moving .result ≡ answer (above s) (test s)
 upper c =
     c .first-moving .ensures
-    ∙ vertical-run answer answer-cong (moves _) _ _ _ (c .before .before .args .image .now) (vertical-most (c .before .before .pre .size))
+    ∙ vertical-run answer answer-cong (moves nearestEighth _) _ _ _ (c .before .before .args .image .now) (vertical-most (c .before .before .pre .size))
 
 enum-known-upper : tie.Need-enum-known-upper
 enum-known-upper c = search needs
@@ -90,7 +91,7 @@ lower : (c : tie.After-first-moving-rows) → let s = c .before .before .before 
     c .first-moving-rows .result ≡ answer (across s) (λ k. test s (above s + k))
 lower c =
     let s = c .before .before .before .before .before .before in
-    c .first-moving-rows .ensures ∙ horizontal-run answer answer-cong (moves _) _ _ _ (s .args .image .now) (lower-part s)
+    c .first-moving-rows .ensures ∙ horizontal-run answer answer-cong (moves nearestEighth _) _ _ _ (s .args .image .now) (lower-part s)
 
 enum-known-lower : tie.Need-enum-known-lower
 enum-known-lower c = search needs

@@ -8,6 +8,7 @@ use mir.Syntax.{w32}
 use mir.Val.{toZ, ofZ}
 use mir.ValLaws.{toZ-ofZ}
 use Rattle.runs.specs.declared.pairs.Moving.the-variants.{At}
+use Rattle.model.specs.Rounds.{nearestEighth}
 use Rattle.stencil.specs.Pair.{moves}
 use Rattle.raster.specs.Whole.{rowMoves}
 use Rattle.raster.proofs.Rows.{rows-end}
@@ -19,14 +20,14 @@ use Rattle.raster.proofs.grid.first_moving_rows.Tie as tie
 
 abbrev Inv-loop : tie.InvT-loop
 Inv-loop flow image width height weight across at₀ start₀ row₀ at start row =
-    (row ≤ height) × (at ≡ row * across) × (start ≡ row * width) × Passed (rowMoves width (toZ w32 weight) flow image) at
+    (row ≤ height) × (at ≡ row * across) × (start ≡ row * width) × Passed (rowMoves nearestEighth width (toZ w32 weight) flow image) at
 
 abbrev μ-loop : tie.MeasureT-loop
 μ-loop flow image width height weight across at₀ start₀ row₀ at start row = height - row
 
 -- whether a horizontal pair moves
 abbrev test : tie.Start Inv-loop μ-loop → ℕ → Bool
-test s = rowMoves (s .args .width) (toZ w32 (ofZ w32 (s .args .weight))) (s .args .flow .now) (s .args .image .now)
+test s = rowMoves nearestEighth (s .args .width) (toZ w32 (ofZ w32 (s .args .weight))) (s .args .flow .now) (s .args .image .now)
 
 sub-across : tie.Need-sub-across Inv-loop μ-loop
 sub-across c = search needs
@@ -84,7 +85,7 @@ row-answer : (c : tie.After-first-moving Inv-loop μ-loop) → let s = c .before
 row-answer c =
     let i = c .before .before .before in
     let l = i .before .loop in
-    c .first-moving .ensures ∙ row-run answer answer-cong (moves _) (l .row) (l .inv .1) (l .inv .2) (flow-part i) (image-part i)
+    c .first-moving .ensures ∙ row-run answer answer-cong (moves nearestEighth _) (l .row) (l .inv .1) (l .inv .2) (flow-part i) (image-part i)
 
 enum-known-found : tie.Need-enum-known-found Inv-loop μ-loop
 enum-known-found c = search needs

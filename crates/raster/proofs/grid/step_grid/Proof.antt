@@ -9,6 +9,7 @@ use lib.Seq.{length-take-le}
 use mir.Syntax.{w32}
 use mir.Val.{toZ, ofZ}
 use mir.ValLaws.{toZ-ofZ}
+use Rattle.model.specs.Rounds.{nearestEighth}
 use Rattle.raster.specs.Whole.{gridStep}
 use Rattle.model.specs.Lists.{table}
 use Rattle.runs.proofs.Fill.{filled, length-filled}
@@ -24,10 +25,10 @@ sub-vertical c = search needs
 -- after the vertical pairs: they are stepped, the others as they were
 upper : (c : tie.After-flow) → let s = c .before .before .before in
     c .before .step-pairs .last .0 ++ drop (vertical (s .args .width) (s .args .height)) (s .args .flow .now)
-    ≡ filled (vertical (s .args .width) (s .args .height)) (gridStep (s .args .width) (s .args .height) (toZ w32 (ofZ w32 (s .args .weight))) (s .args .flow .now) (s .args .image .now)) (s .args .flow .now)
+    ≡ filled (vertical (s .args .width) (s .args .height)) (gridStep nearestEighth (s .args .width) (s .args .height) (toZ w32 (ofZ w32 (s .args .weight))) (s .args .flow .now) (s .args .image .now)) (s .args .flow .now)
 upper c =
     let s = c .before .before .before in
-    upper-filled _ (s .args .flow .now) (vertical (s .args .width) (s .args .height)) _ (all-pairs (s .pre .size)) (c .before .step-pairs .ensures ∙ vertical-stepped (s .args .width) (s .args .height) (toZ w32 (ofZ w32 (s .args .weight))) (s .args .flow .now) (s .args .image .now) (vertical-most (s .pre .size)))
+    upper-filled _ (s .args .flow .now) (vertical (s .args .width) (s .args .height)) _ (all-pairs (s .pre .size)) (c .before .step-pairs .ensures ∙ vertical-stepped nearestEighth (s .args .width) (s .args .height) (toZ w32 (ofZ w32 (s .args .weight))) (s .args .flow .now) (s .args .image .now) (vertical-most (s .pre .size)))
 
 upper-most : (c : tie.After-flow) → let s = c .before .before .before in
     s .args .width * (s .args .height - 1)
@@ -84,8 +85,8 @@ returns c =
     let h = s .args .height in
     rw (toZ-ofZ w32 _ (s .fits .weight)) at
     (both-filled _ (s .args .flow .now) (vertical w h) (h * (w - 1)) (all-pairs (s .pre .size)) (upper f)
-    (c .before .step-rows .ensures ∙ horizontal-stepped w h (toZ w32 (ofZ w32 (s .args .weight))) (s .args .flow .now) (s .args .image .now) (lower f))
-    ∙ ap (λ (n : ℕ). table n (gridStep w h (toZ w32 (ofZ w32 (s .args .weight))) (s .args .flow .now) (s .args .image .now))) (sym (all-pairs (s .pre .size))))
+    (c .before .step-rows .ensures ∙ horizontal-stepped nearestEighth w h (toZ w32 (ofZ w32 (s .args .weight))) (s .args .flow .now) (s .args .image .now) (lower f))
+    ∙ ap (λ (n : ℕ). table n (gridStep nearestEighth w h (toZ w32 (ofZ w32 (s .args .weight))) (s .args .flow .now) (s .args .image .now))) (sym (all-pairs (s .pre .size))))
 
 pub step-grid-spec : {M : Type 1} → statement M
 step-grid-spec =

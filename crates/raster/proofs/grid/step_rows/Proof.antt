@@ -9,6 +9,7 @@ use mir.Val.{toZ, ofZ}
 use mir.ValLaws.{toZ-ofZ}
 use Rattle.model.specs.Lists.{table}
 use Rattle.model.proofs.Lists.{length-table}
+use Rattle.model.specs.Rounds.{nearestEighth}
 use Rattle.raster.specs.Whole.{rowStep}
 use Rattle.runs.proofs.Fill.{filled, filled-none, length-filled, filled-all}
 use Rattle.raster.proofs.Rows.{rows-end}
@@ -19,7 +20,7 @@ use Rattle.raster.proofs.grid.step_rows.Tie as tie
 
 abbrev Inv-loop : tie.InvT-loop
 Inv-loop flow₀ image width height weight across at₀ start₀ row₀ flow at start row =
-    (row ≤ height) × (at ≡ row * across) × (start ≡ row * width) × (flow ≡ filled at (rowStep width (toZ w32 weight) flow₀ image) flow₀)
+    (row ≤ height) × (at ≡ row * across) × (start ≡ row * width) × (flow ≡ filled at (rowStep nearestEighth width (toZ w32 weight) flow₀ image) flow₀)
 
 abbrev μ-loop : tie.MeasureT-loop
 μ-loop flow₀ image width height weight across at₀ start₀ row₀ flow at start row = height - row
@@ -97,18 +98,18 @@ loop-again c =
       omega arith,
       omega (arith, l .inv .1),
       omega (arith, l .inv .2),
-      row-stepped (l .row) (toZ w32 (ofZ w32 (s .args .weight))) (s .args .flow .now) (s .args .image .now)
+      row-stepped nearestEighth (l .row) (toZ w32 (ofZ w32 (s .args .weight))) (s .args .flow .now) (s .args .image .now)
           (l .inv .3) (l .inv .1) (l .inv .2) (unfilled _ (l .inv .3) (flow-part i)) (image-part i) (c .before .step-pairs .ensures),
     )
 
 -- all rows are done: the whole flow is stepped
 ended : (c : tie.After-loop Inv-loop μ-loop) → let s = c .before .before in
     (length (c .before .loop .flow) ≡ length (s .args .flow .now))
-    × (c .before .loop .flow ≡ table (length (s .args .flow .now)) (rowStep (s .args .width) (toZ w32 (ofZ w32 (s .args .weight))) (s .args .flow .now) (s .args .image .now)))
+    × (c .before .loop .flow ≡ table (length (s .args .flow .now)) (rowStep nearestEighth (s .args .width) (toZ w32 (ofZ w32 (s .args .weight))) (s .args .flow .now) (s .args .image .now)))
 ended c =
     let s = c .before .before in
     let l = c .before .loop in
-    let g = rowStep (s .args .width) (toZ w32 (ofZ w32 (s .args .weight))) (s .args .flow .now) (s .args .image .now) in
+    let g = rowStep nearestEighth (s .args .width) (toZ w32 (ofZ w32 (s .args .weight))) (s .args .flow .now) (s .args .image .now) in
     let n = rows-end (l .row) _ _ _ _ (l .inv .0) (c .loop-test .left) (l .inv .1) (s .pre .flow-length) in
     let f = l .inv .3 ∙ ap (λ (k : ℕ). filled k g (s .args .flow .now)) n ∙ filled-all g (s .args .flow .now) in
     (ap length f ∙ length-table (length (s .args .flow .now)) g, f)

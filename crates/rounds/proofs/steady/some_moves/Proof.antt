@@ -9,7 +9,7 @@ use Rattle.integers.proofs.Machine.{read}
 use Rattle.model.specs.Lists.{at}
 use Rattle.model.specs.Problem.{pairCount}
 use Rattle.model.specs.Grid.{grid}
-use Rattle.model.specs.Rounds.{eighth, firstMoving}
+use Rattle.model.specs.Rounds.{nearestEighth, firstMoving}
 use Rattle.model.specs.Calls.{imageOf}
 use Rattle.runs.specs.Run.{movingOf}
 use Rattle.runs.specs.Limits.{Within}
@@ -64,7 +64,7 @@ abbrev count : tie.Start → ℕ
 count s = pairCount (grid (s .args .t) (s .args .samples .now))
 
 abbrev first : tie.Start → ℕ
-first s = firstMoving eighth (grid (s .args .t) (s .args .samples .now)) (at (s .args .flow .now))
+first s = firstMoving nearestEighth (grid (s .args .t) (s .args .samples .now)) (at (s .args .flow .now))
 
 -- the answer of the search
 answer-is : (c : tie.After-first-moving-grid) →
@@ -75,7 +75,7 @@ answer-is c =
     let f = c .before .before .before .before in
     let s = f .before .before .before .before .before .before .before in
     rw (read w32 (n .ok), n .ensures, s .pre .lengths .flow-length) at (c .first-moving-grid .ensures)
-    ∙ ap (movingOf (count s)) (moving-is (s .args .t) (s .args .samples .now) (s .args .flow .now) (image-filled f))
+    ∙ ap (movingOf (count s)) (moving-is (s .args .t) (s .args .samples .now) (s .args .flow .now) (image-filled f) nearestEighth)
 
 enum-told : tie.Need-enum-told
 enum-told c = search needs

@@ -12,7 +12,7 @@ use lib.ListN.{length}
 use mir.Syntax.{w32}
 use Rattle.integers.proofs.Machine.{read}
 use Rattle.model.specs.Grid.{grid}
-use Rattle.model.specs.Rounds.{eighth, step, Steady}
+use Rattle.model.specs.Rounds.{nearestEighth, step, Steady}
 use Rattle.runs.specs.Limits.{Within}
 use Rattle.raster.proofs.Model.{stepped-is}
 use Rattle.rounds.proofs.Model.{step-within}
@@ -23,7 +23,7 @@ use Rattle.rounds.proofs.steady.steady_rounds.Statement.{statement}
 use Rattle.rounds.proofs.steady.steady_rounds.Tie as tie
 
 abbrev Inv-loop : tie.InvT-loop
-Inv-loop t allowance samples flow₀ image₀ w h weight most moved₀ moving₀ flow image moved moving = Rested t allowance samples flow₀ moved flow image moving
+Inv-loop t allowance samples flow₀ image₀ w h weight most moved₀ moving₀ flow image moved moving = Rested nearestEighth t allowance samples flow₀ moved flow image moving
 
 abbrev μ-loop : tie.MeasureT-loop
 μ-loop t allowance samples flow₀ image₀ w h weight most moved₀ moving₀ flow image moved moving = allowance - moved
@@ -46,7 +46,7 @@ some-moves-requires c κs = search needs
 loop-holds : tie.Need-loop-holds Inv-loop μ-loop
 loop-holds c =
     let s = c .before .before .before .before .before .before .before .before in
-    rested-none (s .args .allowance) (s .pre) (c .before .some-moves .ensures .0) (c .before .some-moves .ensures .1)
+    rested-none nearestEighth (s .args .allowance) (s .pre) (c .before .some-moves .ensures .0) (c .before .some-moves .ensures .1)
 
 step-grid-requires : tie.Need-step-grid-requires Inv-loop μ-loop
 step-grid-requires c κs =
@@ -61,13 +61,13 @@ step-grid-requires c κs =
 stepped : (c : tie.After-step-grid Inv-loop μ-loop) →
     let i = c .before .before .before .before .before in
     let s = i .before .before .before .before .before .before .before .before .before in
-    c .step-grid .last .0 ≡ step eighth (grid (s .args .t) (s .args .samples .now)) (i .loop .flow)
+    c .step-grid .last .0 ≡ step nearestEighth (grid (s .args .t) (s .args .samples .now)) (i .loop .flow)
 stepped c =
     let i = c .before .before .before .before .before in
     let s = i .before .before .before .before .before .before .before .before .before in
     let n = i .before .before .before .before .before in
     rw (read w32 (n .natural .ok), n .natural .ensures, i .loop .inv .flow-length) at (c .step-grid .ensures)
-    ∙ stepped-is (s .args .t) (s .args .samples .now) (i .loop .flow) (i .loop .inv .image-is)
+    ∙ stepped-is (s .args .t) (s .args .samples .now) (i .loop .flow) (i .loop .inv .image-is) nearestEighth
 
 add-moved : tie.Need-add-moved Inv-loop μ-loop
 add-moved c =
@@ -86,10 +86,10 @@ some-moves-requires-2 c κs =
       lengths =
           record {
             samples-length = s .pre .lengths .samples-length;
-            flow-length = ap length e ∙ step-size eighth (grid (s .args .t) (s .args .samples .now)) (i .loop .flow);
+            flow-length = ap length e ∙ step-size nearestEighth (grid (s .args .t) (s .args .samples .now)) (i .loop .flow);
             image-length = image-size (s .args .t) (s .args .samples .now) (i .loop .flow) (i .loop .inv .image-is);
           };
-      flow-most = subst (Within (s .args .t .weight)) (sym e) (step-within (s .args .t) (s .args .samples .now) (i .loop .flow));
+      flow-most = subst (Within (s .args .t .weight)) (sym e) (step-within (s .args .t) (s .args .samples .now) nearestEighth (i .loop .flow));
     }
 
 loop-less : tie.Need-loop-less Inv-loop μ-loop

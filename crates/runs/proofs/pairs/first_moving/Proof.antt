@@ -7,6 +7,7 @@ use lib.ListN.{length}
 use mir.Syntax.{w32}
 use mir.Val.{toZ, ofZ}
 use mir.ValLaws.{toZ-ofZ}
+use Rattle.model.specs.Rounds.{nearestEighth}
 use Rattle.runs.specs.Run.{movesAt}
 use Rattle.runs.proofs.Elements.{element, pair-limits}
 use Rattle.runs.proofs.Moving.{nothing-is, at-is}
@@ -15,7 +16,7 @@ use Rattle.runs.proofs.pairs.first_moving.Statement.{statement}
 use Rattle.runs.proofs.pairs.first_moving.Tie as tie
 
 abbrev Inv-loop : tie.InvT-loop
-Inv-loop flow image stride weight j₀ j = (j ≤ length flow) × Passed (movesAt (toZ w32 weight) flow image stride) j
+Inv-loop flow image stride weight j₀ j = (j ≤ length flow) × Passed (movesAt nearestEighth (toZ w32 weight) flow image stride) j
 
 abbrev μ-loop : tie.MeasureT-loop
 μ-loop flow image stride weight j₀ j = length flow - j
@@ -52,7 +53,7 @@ would-move-requires c κs =
     (pair-limits (s .pre) j)
 
 -- the test at j
-tested : (c : tie.After-would-move Inv-loop μ-loop) → let s = c .before .before .before .before .before .before in c .would-move .result ≡ movesAt (toZ w32 (ofZ w32 (s .args .weight))) (s .args .flow .now) (s .args .image .now) (s .args .stride) (c .before .before .before .before .before .loop .j)
+tested : (c : tie.After-would-move Inv-loop μ-loop) → let s = c .before .before .before .before .before .before in c .would-move .result ≡ movesAt nearestEighth (toZ w32 (ofZ w32 (s .args .weight))) (s .args .flow .now) (s .args .image .now) (s .args .stride) (c .before .before .before .before .before .loop .j)
 tested c =
     let s = c .before .before .before .before .before .before in
     let j = c .before .before .before .before .before .loop .j in

@@ -9,6 +9,7 @@ use mir.Syntax.{w32}
 use mir.Val.{toZ}
 use mir.ValLaws.{toZ-ofZ}
 use Rattle.integers.proofs.Machine.{called}
+use Rattle.model.specs.Rounds.{nearestEighth}
 use Rattle.runs.specs.Run.{stepAt}
 use Rattle.runs.proofs.Elements.{element, pair-limits}
 use Rattle.runs.proofs.Fill.{Filling, filling-none, filling-more, filling-all, filling-rest}
@@ -16,7 +17,7 @@ use Rattle.runs.proofs.pairs.step_pairs.Statement.{statement}
 use Rattle.runs.proofs.pairs.step_pairs.Tie as tie
 
 abbrev Inv-loop : tie.InvT-loop
-Inv-loop flow₀ image stride weight j₀ flow j = Filling (stepAt (toZ w32 weight) flow₀ image stride) flow₀ j flow
+Inv-loop flow₀ image stride weight j₀ flow j = Filling (stepAt nearestEighth (toZ w32 weight) flow₀ image stride) flow₀ j flow
 
 abbrev μ-loop : tie.MeasureT-loop
 μ-loop flow₀ image stride weight j₀ flow j = length flow₀ - j
@@ -52,8 +53,8 @@ step-value-requires c κs =
     rw (toZ-ofZ w32 (s .args .weight) (s .fits .weight), filling-rest (l .inv) (l .j) (pos 0) (le-refl (l .j)), element (s .args .flow .now) (s .pre .flow-most) (l .j), element (s .args .image .now) (s .pre .image-most) (l .j), element (s .args .image .now) (s .pre .image-most) (l .j + s .args .stride))
     (pair-limits (s .pre) (l .j))
 
-mul-t18 : tie.Need-mul-t18 Inv-loop μ-loop
-mul-t18 c = search needs
+mul-t19 : tie.Need-mul-t19 Inv-loop μ-loop
+mul-t19 c = search needs
 
 slice-set-from-flow : tie.Need-slice-set-from-flow Inv-loop μ-loop
 slice-set-from-flow c = search needs
@@ -93,7 +94,7 @@ step-pairs-spec =
     mul-step-value-3
     shared-slice-copy-out-step-value-2
     step-value-requires
-    mul-t18
+    mul-t19
     slice-set-from-flow
     add-j
     loop-less

@@ -1,0 +1,155 @@
+-- Quotients by b whose size is that of the number raised by h and divided, and which have the number's sign: rounded toward
+-- zero for h = 0, to the nearest with halves toward zero for h = (b − 1) / 2. One set of laws for all of them: size, zero,
+-- sign, and what a step gains that is no longer than such a quotient.
+use mathlib.Core.Path.{_≡_, refl, sym, ap, _∙_, subst}
+use mathlib.Core.Bool.{Bool, true, false, cond}
+use mathlib.Core.Logic.{_≢_, ⊎-elim, inl, inr}
+use Prim.Native.Nat.{ℕ, zero, suc, _+_, _-_, _*_, _/_, _%_, _≤_, _<_}
+use native.Mathlib.Nat.{div-mul-le-self, div-add-mod', mod-lt, div-eq-of-lt, div-eq-of-lt-le, mul-le-mul-right, mul-le-mul-left, mul-le-mul, le-trans, lt-div-mul-add, div-le-self, add-zero, eq-zero-or-pos}
+use native.Mathlib.Omega.{arith}
+use borrow.Author.Tests.{ltb-true, ltb-false}
+use lib.Dec.{ltb, lit<}
+use lib.IntN.{ℤ, pos, negsuc, natAbs, negℤ, negℤ-negℤ, _+ℤ_, _-ℤ_, _*ℤ_, *ℤ-comm}
+use lib.Signed.{_≤ℤ_, _<ℤ_}
+use Rattle.integers.specs.Whole.{square, quotient, nearest}
+use Rattle.integers.proofs.Parts.{parts, whole, by-≡, by-≤, of-<}
+use Rattle.integers.proofs.Order.{≤→pos, pos→≤, ≡→≤ℤ, 0≤pos, *ℤ-nonneg, *ℤ-nonpos, pos-natAbs-nonneg, negℤ-mono, ≤ℤ-total, <ℤ→≤ℤ}
+use Rattle.integers.proofs.Absolute.{natAbs-neg, natAbs-difference, natAbs-product, natAbs-zero, square-natAbs}
+use Rattle.integers.proofs.Quotient.{natAbs-quotient}
+use Rattle.integers.proofs.Between.{between-natAbs, between-nonneg, between-nonpos}
+
+abbrev pub rounded : ℕ → ℕ → ℤ → ℤ
+rounded h b (pos n) = pos ((n + h) / b)
+rounded h b (negsuc n) = negℤ (pos ((suc n + h) / b))
+
+-- ---- the two roundings
+
+pub quotient-rounded : (x : ℤ) (b : ℕ) → quotient x (pos b) ≡ rounded 0 b x
+quotient-rounded (pos n) b = ap (λ (m : ℕ). pos (m / b)) (sym (add-zero n))
+quotient-rounded (negsuc n) b = ap (λ (m : ℕ). negℤ (pos (m / b))) (sym (add-zero (suc n)))
+
+-- h is the largest number below half of b
+module _ (h b : ℕ) (lower : 2 * h < b) (upper : b ≤ 2 * h + 2) where
+  further : (n : ℕ) → b < 2 * (n % b) → (n + h) / b ≡ n / b + 1
+  further n l =
+      div-eq-of-lt-le b (omega (arith, div-add-mod' n b)) (omega (arith, div-add-mod' n b, mod-lt n {m = b} (omega arith)))
+
+  nearer : (n : ℕ) → 2 * (n % b) ≤ b → (n + h) / b ≡ n / b
+  nearer n l = div-eq-of-lt-le b (omega (arith, div-add-mod' n b)) (omega (arith, div-add-mod' n b))
+
+  -- the size, by the test on the remainder r
+  size : (n : ℕ) {r : ℕ} → r ≡ n % b → (t : Bool) → ltb b (2 * r) ≡ t → (n + h) / b ≡ cond t (n / b + 1) (n / b)
+  size n e true q = further n (subst (λ (r : ℕ). b < 2 * r) e (ltb-true b _ q))
+  size n e false q = nearer n (subst (λ (r : ℕ). 2 * r ≤ b) e (ltb-false b _ q))
+
+  pub nearest-rounded : (x : ℤ) → nearest x (pos b) ≡ rounded h b x
+  unfolding nearest
+  nearest-rounded (pos n) = go (ltb b (2 * (n % b))) refl
+    where
+      go : (t : Bool) → ltb b (2 * (n % b)) ≡ t → cond t (pos (n / b + 1)) (pos (n / b)) ≡ pos ((n + h) / b)
+      go true q = ap pos (sym (size n refl true q))
+      go false q = ap pos (sym (size n refl false q))
+  nearest-rounded (negsuc n) = go (ltb b (2 * natAbs (negℤ (pos (suc n % b))))) refl
+    where
+      one-more : (q : ℕ) → negℤ (pos q) +ℤ negℤ (pos 1) ≡ negℤ (pos (q + 1))
+      one-more q = by-≡ (search parts depth 12) (omega whole)
+
+      go : (t : Bool) → ltb b (2 * natAbs (negℤ (pos (suc n % b)))) ≡ t →
+          cond t (negℤ (pos (suc n / b)) +ℤ negℤ (pos 1)) (negℤ (pos (suc n / b))) ≡ negℤ (pos ((suc n + h) / b))
+      go true q = one-more (suc n / b) ∙ ap (λ (m : ℕ). negℤ (pos m)) (sym (size (suc n) (natAbs-neg (pos (suc n % b))) true q))
+      go false q = ap (λ (m : ℕ). negℤ (pos m)) (sym (size (suc n) (natAbs-neg (pos (suc n % b))) false q))
+
+-- the largest number below half of b
+abbrev pub below-half : ℤ → ℤ
+below-half b = quotient (b -ℤ pos 1) (pos 2)
+
+-- the nearest as a quotient rounded toward zero of a number further from zero by that much
+module _ (k : ℕ) where
+  half-is : below-half (pos (suc k)) ≡ pos (k / 2)
+  half-is = ap (λ (z : ℤ). quotient z (pos 2)) before
+    where
+      before : pos (suc k) -ℤ pos 1 ≡ pos k
+      before = by-≡ (search parts depth 12) (omega whole)
+
+  nearest-half : (x : ℤ) → nearest x (pos (suc k)) ≡ rounded (k / 2) (suc k) x
+  nearest-half =
+      nearest-rounded (k / 2) (suc k) (omega (arith, div-add-mod' k 2)) (omega (arith, div-add-mod' k 2, mod-lt k {m = 2} (lit< tt)))
+
+pub below-half-most : (b : ℤ) → natAbs (below-half b) ≤ natAbs b + 1
+below-half-most b =
+    rw (natAbs-quotient (b -ℤ pos 1) 2) (le-trans (div-le-self (natAbs (b -ℤ pos 1)) 2) (natAbs-difference b (pos 1)))
+
+module _ {x b : ℤ} (positive : pos 0 <ℤ b) where
+  pub nearest-up : pos 0 ≤ℤ x → nearest x b ≡ quotient (x +ℤ below-half b) b
+  nearest-up h = go b positive x h
+    where
+      go : (c : ℤ) → pos 0 <ℤ c → (y : ℤ) → pos 0 ≤ℤ y → nearest y c ≡ quotient (y +ℤ below-half c) c
+      go (pos zero) l y h = absurd (l .lt)
+      go (pos (suc k)) l (pos n) h = nearest-half k (pos n) ∙ ap (λ (z : ℤ). quotient (pos n +ℤ z) (pos (suc k))) (sym (half-is k))
+      go (pos (suc k)) l (negsuc n) h = absurd (h .le)
+      go (negsuc k) l y h = absurd (l .lt)
+
+  pub nearest-down : x <ℤ pos 0 → nearest x b ≡ quotient (x -ℤ below-half b) b
+  nearest-down h = go b positive x h
+    where
+      further-down : (n k : ℕ) → negsuc n -ℤ pos k ≡ negsuc (n + k)
+      further-down n k = by-≡ (search parts depth 12) (omega whole)
+
+      go : (c : ℤ) → pos 0 <ℤ c → (y : ℤ) → y <ℤ pos 0 → nearest y c ≡ quotient (y -ℤ below-half c) c
+      go (pos zero) l y h = absurd (l .lt)
+      go (pos (suc k)) l (pos n) h = absurd (omega (whole, of-< h (search parts depth 12)))
+      go (pos (suc k)) l (negsuc n) h =
+          nearest-half k (negsuc n)
+          ∙ ap (λ (m : ℕ). negℤ (pos (m / suc k))) (omega arith)
+          ∙ ap (λ (z : ℤ). quotient z (pos (suc k))) (sym (further-down n (k / 2)))
+          ∙ ap (λ (z : ℤ). quotient (negsuc n -ℤ z) (pos (suc k))) (sym (half-is k))
+      go (negsuc k) l y h = absurd (l .lt)
+
+-- ---- size, zero and sign
+
+module _ (h b : ℕ) where
+  pub natAbs-rounded : (x : ℤ) → natAbs (rounded h b x) ≡ (natAbs x + h) / b
+  natAbs-rounded (pos n) = refl
+  natAbs-rounded (negsuc n) = natAbs-neg (pos ((suc n + h) / b))
+
+  pub natAbs-rounded-≤ : (x : ℤ) → natAbs (rounded h b x) * b ≤ natAbs x + h
+  natAbs-rounded-≤ x = rw natAbs-rounded (div-mul-le-self (natAbs x + h) b)
+
+  pub zero-rounded : (x : ℤ) → 0 < b → rounded h b x ≡ pos 0 → natAbs x + h < b
+  zero-rounded x l e =
+      omega (whole, rw (sym (natAbs-rounded x) ∙ ap natAbs e) at (lt-div-mul-add {a = natAbs x + h} l))
+
+  pub rounded-nonneg : (x : ℤ) → pos 0 ≤ℤ x → pos 0 ≤ℤ rounded h b x
+  rounded-nonneg (pos n) l = 0≤pos ((n + h) / b)
+  rounded-nonneg (negsuc n) l = absurd (l .le)
+
+  pub rounded-nonpos : (x : ℤ) → h < b → x ≤ℤ pos 0 → rounded h b x ≤ℤ pos 0
+  rounded-nonpos (pos zero) k l = ≡→≤ℤ (ap pos (div-eq-of-lt (omega arith)))
+  rounded-nonpos (pos (suc n)) k l = absurd (omega (whole, pos→≤ l))
+  rounded-nonpos (negsuc n) k l = negℤ-mono (0≤pos ((suc n + h) / b))
+
+-- ---- what a step gains that is no longer than the quotient, against its square times b = g + 2 × h
+
+module _ (h g : ℕ) (x e : ℤ) (positive : 0 < g) (between : pos 0 ≤ℤ (e *ℤ (rounded h (g + 2 * h) x -ℤ e))) where
+  goes-along : pos 0 ≤ℤ (x *ℤ e)
+  goes-along =
+      elim (≤ℤ-total (pos 0) x) [
+        | inl k ↦ *ℤ-nonneg k (between-nonneg e (rounded h (g + 2 * h) x) between (rounded-nonneg h (g + 2 * h) x k))
+        | inr k ↦
+            *ℤ-nonpos (<ℤ→≤ℤ k)
+            (between-nonpos e (rounded h (g + 2 * h) x) between (rounded-nonpos h (g + 2 * h) x (omega arith) (<ℤ→≤ℤ k)))
+      ]
+
+  length-≤ : natAbs e * (g + 2 * h) ≤ natAbs x + h
+  length-≤ =
+      le-trans (mul-le-mul-right (g + 2 * h) (between-natAbs e (rounded h (g + 2 * h) x) between))
+      (natAbs-rounded-≤ h (g + 2 * h) x)
+
+  one : e ≢ pos 0 → 1 ≤ natAbs e
+  one m = ⊎-elim (λ (z : natAbs e ≡ 0). absurd (m (natAbs-zero z))) (λ (l : zero < natAbs e). l) (eq-zero-or-pos (natAbs e))
+
+  pub step-gain : e ≢ pos 0 → pos g ≤ℤ (pos 2 *ℤ (e *ℤ x) -ℤ pos (g + 2 * h) *ℤ square e)
+  step-gain m =
+      rw (*ℤ-comm e x, square-natAbs e, ← pos-natAbs-nonneg goes-along, natAbs-product x e)
+      (by-≤ (search parts depth 12)
+      (omega (whole, mul-le-mul-right (natAbs e) length-≤, mul-le-mul-left g (mul-le-mul (one m) (one m)), mul-le-mul-left h (mul-le-mul-left (natAbs e) (one m)))))
