@@ -142,7 +142,20 @@ fn runs_are_certified_and_bounded() {
     }
 }
 
-/// From any flow, and from one about which a run ends, where the floor rises least.
+/// Quick rounds carry the flow past the best one to -W, where a fall of 4 moves nothing.
+#[test]
+fn a_settled_slack_may_be_the_bound() {
+    let mut case = two_by_one();
+    case.terms.weight = 258;
+    (case.rounds.quick, case.rounds.allowance) = (7, 0);
+    let answer = case.run().unwrap();
+    assert_eq!(answer.flow, [-258]);
+    assert_eq!(answer.image, [258, 254]);
+    assert_eq!(answer.figures.outcome, Outcome::Settled);
+    assert_eq!(answer.figures.slack, 16 * 258);
+}
+
+/// From any flow, and from one near that of a run, where the floor rises least.
 #[test]
 fn a_steady_round_that_moves_raises_the_floor_by_two() {
     let mut random = Random::new(0xF1004);
