@@ -25,8 +25,9 @@
  *
  * ROUNDS
  *
- * A step on a flow takes the flow's image and adds to each number fall / 8, rounded toward zero; the
- * result is clamped to -weight .. weight. A pair would move if a step changes its number.
+ * A step on a flow takes the flow's image and adds to each number fall / 8, rounded; the result is
+ * clamped to -weight .. weight. Quick rounds round toward zero, steady rounds to the nearest whole
+ * number, an exact half toward zero. A pair would move if a steady round's step changes its number.
  *
  * Quick rounds (Beck and Teboulle's FGP) start from P[0] = R[1] = 0 at every pair and T[1] = 65,536.
  * Round k makes
@@ -255,8 +256,8 @@ uint32_t relief_check(
 /*
  * Run does the quick rounds from flow 0, then steady rounds until no pair would move or the
  * allowance is used up (ROUNDS, above), and fills flow and image. It settles whenever
- * 8 * (allowance + 1) is more than the slack after the quick rounds, and a settled run's slack is at
- * most 28 * weight * pairs.
+ * 2 * (allowance + 1) is more than the slack after the quick rounds, and a settled run's slack is at
+ * most 16 * weight * pairs.
  *
  * quick      the number of quick rounds, at most RELIEF_MAX_QUICK
  * allowance  the most steady rounds

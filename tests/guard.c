@@ -441,9 +441,9 @@ static void two_by_one(void)
     expect(
         &RUN, &j, "allowance 100",
         (struct answer){
-            .outcome = RELIEF_SETTLED, .moved = 17, .price = 131090, .floor = 131054, .slack = 36});
-    expect_values("run", "flow", j.flow, (int32_t[]){-253}, 1);
-    expect_values("run", "image", j.image, (int32_t[]){253, 259}, 2);
+            .outcome = RELIEF_SETTLED, .moved = 17, .price = 131080, .floor = 131064, .slack = 16});
+    expect_values("run", "flow", j.flow, (int32_t[]){-254}, 1);
+    expect_values("run", "image", j.image, (int32_t[]){254, 258}, 2);
     expect_values("run", "work", j.work, (int32_t[]){0, 0}, 2);
     end_group("accepted, 2 by 1");
 }

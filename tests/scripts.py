@@ -26,7 +26,7 @@ PROGRAM = os.environ.get("RELIEF_BIN")
 if PROGRAM:
     PROGRAM = os.path.realpath(PROGRAM)
 
-ANSWER = b"outcome moved price floor slack\nsettled 17 131090 131054 36\n253 259\n"
+ANSWER = b"outcome moved price floor slack\nsettled 17 131080 131064 16\n254 258\n"
 REFUSED = "the cleaning program refused the job: refused 8 at 0 (README.md lists the refusals)"
 
 
@@ -147,7 +147,7 @@ class Pictures(Scripts):
 
     def test_maxval(self):
         self.assertEqual(self.picture(), b"P2\n2 1\n255\n1 1\n")
-        self.assertEqual(self.picture("--maxval", "65280"), b"P2\n2 1\n65280\n253 259\n")
+        self.assertEqual(self.picture("--maxval", "65280"), b"P2\n2 1\n65280\n254 258\n")
         answer = b"outcome moved price floor slack\nspent 0 1 -1 2\n0 127 128\n65151 65152 65280\n"
         self.assertEqual(self.picture(answer=answer), b"P2\n3 2\n255\n0 0 1\n254 255 255\n")
         self.assertEqual(self.picture("--maxval", "1", answer=answer), b"P2\n3 2\n1\n0 0 0\n1 1 1\n")
@@ -160,7 +160,7 @@ class Pictures(Scripts):
             self.assertEqual(pgm.rescaled(value, 256 * 255, 255), (value + 128) // 256)
 
     def test_faulty_answers(self):
-        heading = ANSWER[:ANSWER.index(b"253")]
+        heading = ANSWER[:ANSWER.index(b"254")]
         for data, message in [
             (b"", "empty, not an answer of the cleaning program"),
             (b"refused 8 at 0\n", REFUSED),

@@ -74,14 +74,21 @@ fn long(step: usize) -> impl Iterator<Item = JobInput> {
 
 fn large(step: usize) -> impl Iterator<Item = JobInput> {
     let mut random = Random::new(0x1A26E2);
-    (0..6).step_by(step).map(move |turn| {
+    (0..9).step_by(step).map(move |turn| {
         let rounds = Rounds {
             quick: 3,
             allowance: 2,
         };
         let mut job = input(&mut random, LARGEST[turn % LARGEST.len()], rounds);
-        job.terms.weight = random.pick(&[200, 65_280]);
+        job.terms.weight = [65_280, 200][turn % 2];
         (job.terms.low, job.terms.high) = random.pick(&[(0, 255), (20, 230)]);
+        match turn / LARGEST.len() {
+            // All levels: most pairs move.
+            0 => job.samples = random.bytes(job.samples.len()),
+            // One level: no pair would move.
+            1 => job.samples.fill(random.byte()),
+            _ => (),
+        }
         job
     })
 }

@@ -37,8 +37,8 @@ pub fn two_by_one() -> Case {
 /// What the program prints for the 2 by 1 job.
 pub const TWO_BY_ONE_TEXT: &str = "\
 outcome moved price floor slack
-settled 17 131090 131054 36
-253 259
+settled 17 131080 131064 16
+254 258
 ";
 
 /// Document 01's job with a box that all samples lie outside of.

@@ -1,4 +1,4 @@
-//! Document 01's values, each with its text.
+//! The documents' values, each with its text.
 
 use relief_inputs::{
     compare_family, flat, narrow_box, two_by_one, Case, Difference, Tape, TWO_BY_ONE_TEXT,
@@ -8,9 +8,9 @@ use relief_reference::program::clean;
 use crate::child::Program;
 use crate::compare::{compare as compare_tape, report};
 
-/// Compares the program's text with the reference's, and that with the document's.
+/// Compares the program's text with the reference's, and that with the documents'.
 pub fn compare(program: &Program) -> Result<(), Difference> {
-    compare_family("document 01's values", values(), |(tape, text)| {
+    compare_family("the documents' values", values(), |(tape, text)| {
         let input = tape.clone().into();
         let printed = clean(tape);
         if printed != *text {
@@ -47,7 +47,7 @@ fn values() -> Vec<(Vec<u8>, String)> {
         check(&job, -256, "checked 0 131072 131072 0", "256 256"),
         check(&job, 256, "checked 0 458752 -327680 786432", "0 768"),
         (changed(|tape| tape.set_flow(0, 257)), refused(8, 0)),
-        (run(0, 16), text("spent 16 131104 131040 64", "252 260")),
+        (run(0, 16), text("spent 16 131090 131054 36", "253 259")),
         (run(0, 17), TWO_BY_ONE_TEXT.to_string()),
         (run(3, 0), text("spent 0 150674 111470 39204", "157 355")),
         check(

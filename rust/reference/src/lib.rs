@@ -1,4 +1,5 @@
-//! The relief cleaner of document 01, written a second time for comparison.
+//! The relief cleaner of document 01, with request F-1 of document 02, written a second
+//! time for comparison.
 //!
 //! The calls work in buffers that the caller lends, test all of their input
 //! themselves, and leave every buffer as it was when they refuse. Inside, plain

@@ -9,7 +9,7 @@ use std::ops::Range;
 
 use crate::calls::{judge_check, Figures};
 use crate::refusal::Refusal;
-use crate::rounds::{next_t, Outcome, STEP_DIVISOR, T_UNIT};
+use crate::rounds::{next_t, Outcome, T_UNIT};
 use crate::terms::{reading, Terms};
 
 /// Judges a given flow and fills `image` with its image: what `check` answers.
@@ -58,7 +58,7 @@ pub fn steady_round_plain(
     let mut changed = false;
     for_each_run(terms, image, |pairs, firsts, seconds| {
         for ((value, first), second) in flow[pairs].iter_mut().zip(firsts).zip(seconds) {
-            let stepped = (*value + (first - second) / STEP_DIVISOR).clamp(-weight, weight);
+            let stepped = (*value + steady_share(first - second)).clamp(-weight, weight);
             changed |= stepped != *value;
             *value = stepped;
         }
@@ -84,13 +84,25 @@ pub fn quick_round_plain(
     for_each_run(terms, image, |pairs, firsts, seconds| {
         let flows = flow[pairs.clone()].iter_mut().zip(&mut ahead[pairs]);
         for (((value, ahead), first), second) in flows.zip(firsts).zip(seconds) {
-            let stepped = (*ahead + (first - second) / STEP_DIVISOR).clamp(-weight, weight);
+            let stepped = (*ahead + quick_share(first - second)).clamp(-weight, weight);
             let momentum = gain * i64::from(stepped - *value) / scale;
             *ahead = stepped + momentum as i32;
             *value = stepped;
         }
     });
     following_t
+}
+
+/// An eighth, rounded toward zero.
+fn quick_share(difference: i32) -> i32 {
+    difference / 8
+}
+
+/// An eighth, rounded to the nearest, an exact half toward zero.
+fn steady_share(difference: i32) -> i32 {
+    // With 4 added, rounding down takes an exact half up; with 3, down.
+    let added = if difference < 0 { 4 } else { 3 };
+    (difference + added).div_euclid(8)
 }
 
 /// Fills `image` with the image of `flow`, which may pass the weight.

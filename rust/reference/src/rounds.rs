@@ -6,7 +6,7 @@ use std::fmt;
 use crate::problem::Problem;
 
 /// A step adds to each flow number this part of its pair's difference.
-pub(crate) const STEP_DIVISOR: i32 = 8;
+const STEP_DIVISOR: i64 = 8;
 
 /// What stands for 1 in FGP's sequence `t`; also the first of document 01's T.
 pub const T_UNIT: u64 = 65_536;
@@ -32,13 +32,30 @@ impl fmt::Display for Outcome {
     }
 }
 
-/// One projected gradient step on the dual. The flow lent may pass the weight.
-pub fn step(problem: &Problem, flow: &[i64]) -> Vec<i64> {
+/// What a step adds for a difference, in quick rounds: an eighth of it, rounded toward zero.
+pub fn quick_share(difference: i64) -> i64 {
+    difference / STEP_DIVISOR
+}
+
+/// What a step adds for a difference, in steady rounds: an eighth of it, rounded to the
+/// nearest whole number, an exact half toward zero.
+pub fn steady_share(difference: i64) -> i64 {
+    let toward_zero = difference / STEP_DIVISOR;
+    let rest = difference % STEP_DIVISOR;
+    if 2 * rest.abs() > STEP_DIVISOR {
+        toward_zero + rest.signum()
+    } else {
+        toward_zero
+    }
+}
+
+/// One projected gradient step on the dual, which adds to each flow number the `share` of its
+/// pair's difference. The flow lent may pass the weight.
+fn step(problem: &Problem, flow: &[i64], share: fn(i64) -> i64) -> Vec<i64> {
     let differences = problem.differences(&problem.image_of(flow));
-    let divisor = i64::from(STEP_DIVISOR);
     flow.iter()
         .zip(differences)
-        .map(|(value, difference)| problem.project(value + difference / divisor))
+        .map(|(value, difference)| problem.project(value + share(difference)))
         .collect()
 }
 
@@ -58,7 +75,7 @@ pub fn quick_rounds(problem: &Problem, count: u32) -> Vec<i64> {
         let earlier = flow;
         let following_t = next_t(t);
         let (gain, scale) = ((t - T_UNIT) as i64, following_t as i64);
-        flow = step(problem, &ahead);
+        flow = step(problem, &ahead, quick_share);
         ahead = flow
             .iter()
             .zip(&earlier)
@@ -80,6 +97,11 @@ pub struct Steady {
     pub flow: Vec<i64>,
 }
 
+/// The flow that a steady round leaves.
+pub fn steady_step(problem: &Problem, flow: &[i64]) -> Vec<i64> {
+    step(problem, flow, steady_share)
+}
+
 /// Steady rounds from `flow`, at most `allowance` of them.
 pub fn steady_rounds(problem: &Problem, mut flow: Vec<i64>, allowance: u16) -> Steady {
     let mut moved = 0;
@@ -90,7 +112,7 @@ pub fn steady_rounds(problem: &Problem, mut flow: Vec<i64>, allowance: u16) -> S
         if moved == u32::from(allowance) {
             break Outcome::Spent;
         }
-        flow = step(problem, &flow);
+        flow = steady_step(problem, &flow);
         moved += 1;
     };
     Steady {
@@ -100,8 +122,8 @@ pub fn steady_rounds(problem: &Problem, mut flow: Vec<i64>, allowance: u16) -> S
     }
 }
 
-/// The first pair whose number a step would change.
+/// The first pair whose number a steady round would change.
 fn first_moving_pair(problem: &Problem, flow: &[i64]) -> Option<usize> {
-    let stepped = step(problem, flow);
+    let stepped = steady_step(problem, flow);
     (0..flow.len()).find(|&pair| stepped[pair] != flow[pair])
 }

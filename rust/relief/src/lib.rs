@@ -34,8 +34,8 @@
 //! let mut work = vec![0; 2 * terms.pair_count()];
 //! let figures = relief::run(&terms, &rounds, &samples, &mut flow, &mut image, &mut work)?;
 //! assert_eq!(figures.outcome, Outcome::Settled);
-//! assert_eq!((figures.price, figures.slack), (131_090, 36));
-//! assert_eq!(image, [253, 259]);
+//! assert_eq!((figures.price, figures.slack), (131_080, 16));
+//! assert_eq!(image, [254, 258]);
 //! # }
 //! # Ok::<(), relief::Refusal>(())
 //! ```

@@ -3,7 +3,7 @@
 
 use relief_inputs::{two_by_one, Case, Random};
 use relief_reference::problem::{squared_distance, widened};
-use relief_reference::rounds::{quick_rounds, step};
+use relief_reference::rounds::{quick_rounds, steady_step};
 use relief_reference::{Outcome, Problem};
 
 use crate::support::{multiplied, Answer, Calls};
@@ -90,6 +90,14 @@ fn checks_are_certified() {
     assert!(gapless > JOBS / 20);
 }
 
+/// Whether a fall of more than 4 is left where the flow has room for it within the weight.
+fn would_move(case: &Case, answer: &Answer) -> bool {
+    let weight = i64::from(case.terms.weight);
+    let falls = case.problem().differences(&widened(&answer.image));
+    let mut pairs = falls.into_iter().zip(widened(&answer.flow));
+    pairs.any(|(fall, value)| fall > 4 && value < weight || fall < -4 && value > -weight)
+}
+
 #[test]
 fn runs_are_certified_and_bounded() {
     let mut random = Random::new(0x4D4);
@@ -105,19 +113,18 @@ fn runs_are_certified_and_bounded() {
         let starting_slack = problem.duality_gap(&start);
         let moved = answer.figures.moved;
         let allowance = u32::from(case.rounds.allowance);
-        assert!(8 * i128::from(moved) <= starting_slack);
-        if 8 * i128::from(allowance + 1) > starting_slack {
+        assert!(2 * i128::from(moved) <= starting_slack);
+        if 2 * i128::from(allowance + 1) > starting_slack {
             assert_eq!(answer.figures.outcome, Outcome::Settled);
             sure_to_settle += 1;
         }
 
-        let flow = widened(&answer.flow);
-        let would_move = step(&problem, &flow) != flow;
+        let would_move = would_move(&case, &answer);
         match answer.figures.outcome {
             Outcome::Settled => {
                 settled += 1;
                 let pair_count = case.grid().pair_count() as u64;
-                let bound = 28 * u64::from(case.terms.weight) * pair_count;
+                let bound = 16 * u64::from(case.terms.weight) * pair_count;
                 assert!(!would_move);
                 assert!(moved <= allowance);
                 assert!(answer.figures.slack <= bound);
@@ -135,22 +142,42 @@ fn runs_are_certified_and_bounded() {
     }
 }
 
+/// Quick rounds carry the flow past the best one to -W, where a fall of 4 moves nothing.
 #[test]
-fn a_step_that_moves_raises_the_floor_by_eight() {
+fn a_settled_slack_may_be_the_bound() {
+    let mut case = two_by_one();
+    case.terms.weight = 258;
+    (case.rounds.quick, case.rounds.allowance) = (7, 0);
+    let answer = case.run().unwrap();
+    assert_eq!(answer.flow, [-258]);
+    assert_eq!(answer.image, [258, 254]);
+    assert_eq!(answer.figures.outcome, Outcome::Settled);
+    assert_eq!(answer.figures.slack, 16 * 258);
+}
+
+/// From any flow, and from one near that of a run, where the floor rises least.
+#[test]
+fn a_steady_round_that_moves_raises_the_floor_by_two() {
     let mut random = Random::new(0xF1004);
-    let mut moving = 0;
+    let mut moving = [0, 0];
     for _ in 0..JOBS {
         let case = Case::small(&mut random);
         let problem = case.problem();
-        let flow = widened(&case.flow(&mut random));
-        let stepped = step(&problem, &flow);
-        if stepped != flow {
-            moving += 1;
-            let floor = problem.dual_objective(&flow);
-            assert!(problem.dual_objective(&stepped) >= floor + 8);
+        let any = widened(&case.flow(&mut random));
+        let near_the_end = widened(&case.run().unwrap().flow)
+            .into_iter()
+            .map(|value| problem.project(value + random.between(-1, 1)))
+            .collect();
+        for (flow, moving) in [any, near_the_end].into_iter().zip(&mut moving) {
+            let stepped = steady_step(&problem, &flow);
+            if stepped != flow {
+                *moving += 1;
+                let floor = problem.dual_objective(&flow);
+                assert!(problem.dual_objective(&stepped) >= floor + 2);
+            }
         }
     }
-    assert!(moving > JOBS / 3);
+    assert!(moving.iter().all(|&count| count > JOBS / 3));
 }
 
 /// All images of a small box, against a flow with slack 0 and one with more.

@@ -1,4 +1,4 @@
-//! Tests of the reference: document 01's values, guarantees, tape and refusals.
+//! Tests of the reference: the documents' values, guarantees, tape and refusals.
 
 mod support;
 

@@ -4,7 +4,7 @@ use relief_inputs::{chessboard, chessboard_flow, two_by_one, Case, Random};
 use relief_reference::check;
 use relief_reference::plain::{check_plain, quick_round_plain, steady_round_plain};
 use relief_reference::problem::widened;
-use relief_reference::rounds::{quick_rounds, step, T_UNIT};
+use relief_reference::rounds::{quick_rounds, steady_step, T_UNIT};
 use relief_reference::terms::WEIGHT_LIMIT;
 
 use crate::support::{marked, Calls};
@@ -54,7 +54,7 @@ fn check_equals_the_definition_at_the_largest_totals() {
 }
 
 #[test]
-fn steady_round_equals_the_step() {
+fn steady_round_equals_the_definition() {
     for (mut random, case) in cases(0x57EAD) {
         let problem = case.problem();
         let mut flow = case.flow(&mut random);
@@ -63,7 +63,7 @@ fn steady_round_equals_the_step() {
             let before = widened(&flow);
             let changed = steady_round_plain(&case.terms, &case.samples, &mut flow, &mut image);
             let after = widened(&flow);
-            assert_eq!(after, step(&problem, &before));
+            assert_eq!(after, steady_step(&problem, &before));
             assert_eq!(changed, after != before);
             assert_eq!(widened(&image), problem.image_of(&before));
         }

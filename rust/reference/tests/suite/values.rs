@@ -1,7 +1,11 @@
-//! Document 01's "Values to compare", and the laws of T and its root.
+//! Document 01's "Values to compare", as document 02 changes them, the shares of a fall, and
+//! the laws of T and its root.
 
 use relief_inputs::{flat, narrow_box, two_by_one, Case};
-use relief_reference::rounds::{next_t, T_UNIT};
+use relief_reference::problem::widened;
+use relief_reference::rounds::{
+    next_t, quick_rounds, quick_share, steady_rounds, steady_share, T_UNIT,
+};
 use relief_reference::Outcome::{Checked, Settled, Spent};
 use relief_reference::{price, Grid, Outcome, Rounds};
 
@@ -53,14 +57,97 @@ fn runs_of_the_two_by_one_job() {
         quick: 0,
         allowance,
     };
-    assert_run(steady(16), -252, Spent, 16, (131_104, 131_040, 64));
-    assert_run(steady(17), -253, Settled, 17, (131_090, 131_054, 36));
-    assert_run(steady(100), -253, Settled, 17, (131_090, 131_054, 36));
+    assert_run(steady(16), -253, Spent, 16, (131_090, 131_054, 36));
+    assert_run(steady(17), -254, Settled, 17, (131_080, 131_064, 16));
+    assert_run(steady(100), -254, Settled, 17, (131_080, 131_064, 16));
     let quick = Rounds {
         quick: 3,
         allowance: 0,
     };
     assert_run(quick, -157, Spent, 0, (150_674, 111_470, 39_204));
+}
+
+#[test]
+fn shares_of_a_fall() {
+    for (fall, quick, steady) in [
+        (0, 0, 0),
+        (3, 0, 0),
+        (4, 0, 0),
+        (5, 0, 1),
+        (7, 0, 1),
+        (8, 1, 1),
+        (12, 1, 1),
+        (13, 1, 2),
+        (20, 2, 2),
+        (21, 2, 3),
+    ] {
+        assert_eq!(quick_share(fall), quick);
+        assert_eq!(quick_share(-fall), -quick);
+        assert_eq!(steady_share(fall), steady);
+        assert_eq!(steady_share(-fall), -steady);
+    }
+}
+
+/// Either neighbour of the share is farther from an eighth of the fall, or as far and farther
+/// from zero.
+#[test]
+fn the_steady_share_is_the_nearest() {
+    for fall in -65_280..=65_280_i64 {
+        let distances = |share: i64| ((8 * share - fall).abs(), share.abs());
+        let share = steady_share(fall);
+        assert!(distances(share) < distances(share - 1), "{fall}");
+        assert!(distances(share) < distances(share + 1), "{fall}");
+    }
+}
+
+/// The 2 by 1 job, as it is and with its samples swapped, and the sign of its flows.
+fn two_by_one_both_ways() -> [(Case, i64); 2] {
+    let mut swapped = two_by_one();
+    swapped.samples.reverse();
+    [(two_by_one(), -1), (swapped, 1)]
+}
+
+#[test]
+fn steady_rounds_from_a_given_flow() {
+    for (job, sign) in two_by_one_both_ways() {
+        let problem = job.problem();
+        for (flow, fall, next) in [
+            (248, 16, 250),
+            (249, 14, 251),
+            (250, 12, 251),
+            (251, 10, 252),
+            (253, 6, 254),
+            (254, 4, 254),
+            (256, 0, 256),
+        ] {
+            let start = vec![sign * flow];
+            let image = problem.image_of(&start);
+            assert_eq!(problem.differences(&image), [sign * fall]);
+            let steady = steady_rounds(&problem, start, 1);
+            assert_eq!(steady.flow, [sign * next]);
+            assert_eq!(steady.moved == 0, next == flow);
+        }
+    }
+}
+
+#[test]
+fn a_settled_run_leaves_a_fall_of_exactly_a_half() {
+    for (job, sign) in two_by_one_both_ways() {
+        let answer = job.run().unwrap();
+        assert_eq!(answer.figures.outcome, Settled);
+        let differences = job.problem().differences(&widened(&answer.image));
+        assert_eq!(differences, [4 * sign]);
+    }
+}
+
+/// With steady rounds' rounding the third would leave 158.
+#[test]
+fn quick_rounds_keep_their_rounding() {
+    for (job, sign) in two_by_one_both_ways() {
+        for (count, flow) in [(0, 0), (1, 64), (2, 112), (3, 157)] {
+            assert_eq!(quick_rounds(&job.problem(), count), [sign * flow]);
+        }
+    }
 }
 
 #[test]

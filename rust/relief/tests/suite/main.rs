@@ -1,4 +1,4 @@
-//! Tests of the wrapper, linked with the library: document 01's values through each call,
+//! Tests of the wrapper, linked with the library: the documents' values through each call,
 //! every refusal, the counts, and the header beside what is written here a second time.
 
 mod counts;

@@ -19,20 +19,20 @@ fn steady_rounds() {
     let settled = Figures {
         outcome: Outcome::Settled,
         moved: 17,
+        price: 131_080,
+        floor: 131_064,
+        slack: 16,
+    };
+    assert_eq!(run_two_by_one(0, 100), (Ok(settled), -254, [254, 258]));
+    assert_eq!(run_two_by_one(0, 17), (Ok(settled), -254, [254, 258]));
+    let spent = Figures {
+        outcome: Outcome::Spent,
+        moved: 16,
         price: 131_090,
         floor: 131_054,
         slack: 36,
     };
-    assert_eq!(run_two_by_one(0, 100), (Ok(settled), -253, [253, 259]));
-    assert_eq!(run_two_by_one(0, 17), (Ok(settled), -253, [253, 259]));
-    let spent = Figures {
-        outcome: Outcome::Spent,
-        moved: 16,
-        price: 131_104,
-        floor: 131_040,
-        slack: 64,
-    };
-    assert_eq!(run_two_by_one(0, 16), (Ok(spent), -252, [252, 260]));
+    assert_eq!(run_two_by_one(0, 16), (Ok(spent), -253, [253, 259]));
 }
 
 #[test]
