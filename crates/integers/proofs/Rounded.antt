@@ -5,17 +5,16 @@ use mathlib.Core.Path.{_≡_, refl, sym, ap, _∙_, subst}
 use mathlib.Core.Bool.{Bool, true, false, cond}
 use mathlib.Core.Logic.{_≢_, ⊎-elim, inl, inr}
 use Prim.Native.Nat.{ℕ, zero, suc, _+_, _-_, _*_, _/_, _%_, _≤_, _<_}
-use native.Mathlib.Nat.{div-mul-le-self, div-add-mod', mod-lt, div-eq-of-lt, div-eq-of-lt-le, mul-le-mul-right, mul-le-mul-left, mul-le-mul, le-trans, lt-div-mul-add, div-le-self, add-zero, eq-zero-or-pos}
+use native.Mathlib.Nat.{div-mul-le-self, div-add-mod', mod-lt, div-eq-of-lt, div-eq-of-lt-le, add-div-right, mul-le-mul-right, mul-le-mul-left, mul-le-mul, le-trans, lt-div-mul-add, add-zero, eq-zero-or-pos}
 use native.Mathlib.Omega.{arith}
 use borrow.Author.Tests.{ltb-true, ltb-false}
-use lib.Dec.{ltb, lit<}
+use lib.Dec.{ltb}
 use lib.IntN.{ℤ, pos, negsuc, natAbs, negℤ, negℤ-negℤ, _+ℤ_, _-ℤ_, _*ℤ_, *ℤ-comm}
-use lib.Signed.{_≤ℤ_, _<ℤ_}
+use lib.Signed.{_≤ℤ_, _<ℤ_, shrZ}
 use Rattle.integers.specs.Whole.{square, quotient, nearest}
 use Rattle.integers.proofs.Parts.{parts, whole, by-≡, by-≤, of-<}
 use Rattle.integers.proofs.Order.{≤→pos, pos→≤, ≡→≤ℤ, 0≤pos, *ℤ-nonneg, *ℤ-nonpos, pos-natAbs-nonneg, negℤ-mono, ≤ℤ-total, <ℤ→≤ℤ}
-use Rattle.integers.proofs.Absolute.{natAbs-neg, natAbs-difference, natAbs-product, natAbs-zero, square-natAbs}
-use Rattle.integers.proofs.Quotient.{natAbs-quotient}
+use Rattle.integers.proofs.Absolute.{natAbs-neg, natAbs-product, natAbs-zero, square-natAbs}
 use Rattle.integers.proofs.Between.{between-natAbs, between-nonneg, between-nonpos}
 
 abbrev pub rounded : ℕ → ℕ → ℤ → ℤ
@@ -59,51 +58,38 @@ module _ (h b : ℕ) (lower : 2 * h < b) (upper : b ≤ 2 * h + 2) where
       go true q = one-more (suc n / b) ∙ ap (λ (m : ℕ). negℤ (pos m)) (sym (size (suc n) (natAbs-neg (pos (suc n % b))) true q))
       go false q = ap (λ (m : ℕ). negℤ (pos m)) (sym (size (suc n) (natAbs-neg (pos (suc n % b))) false q))
 
--- the largest number below half of b
-abbrev pub below-half : ℤ → ℤ
-below-half b = quotient (b -ℤ pos 1) (pos 2)
+-- the nearest by an even b = 2 h + 2 as a quotient rounded down, of the number raised by h, and by one more below zero
+module _ (h : ℕ) where
+  half-rounded : (x : ℤ) → nearest x (pos (2 * h + 2)) ≡ rounded h (2 * h + 2) x
+  half-rounded = nearest-rounded h (2 * h + 2) (omega arith) (omega arith)
 
--- the nearest as a quotient rounded toward zero of a number further from zero by that much
-module _ (k : ℕ) where
-  half-is : below-half (pos (suc k)) ≡ pos (k / 2)
-  half-is = ap (λ (z : ℤ). quotient z (pos 2)) before
+  pub nearest-up : (x : ℤ) → pos 0 ≤ℤ x → nearest x (pos (2 * h + 2)) ≡ shrZ (x +ℤ pos h) (2 * h + 2)
+  nearest-up (pos n) l = half-rounded (pos n)
+  nearest-up (negsuc n) l = absurd (l .le)
+
+  pub nearest-down : (x : ℤ) → x <ℤ pos 0 → nearest x (pos (2 * h + 2)) ≡ shrZ (x +ℤ pos (h + 1)) (2 * h + 2)
+  nearest-down (pos n) l = absurd (omega (whole, of-< l (search parts depth 12)))
+  nearest-down (negsuc n) l = half-rounded (negsuc n) ∙ by (ltb h n) refl
     where
-      before : pos (suc k) -ℤ pos 1 ≡ pos k
-      before = by-≡ (search parts depth 12) (omega whole)
+      -- raised, it is no longer below zero ..
+      up : n ≤ h → negsuc n +ℤ pos (h + 1) ≡ pos (h - n)
+      up k = by-≡ (search parts depth 12) (omega whole)
 
-  nearest-half : (x : ℤ) → nearest x (pos (suc k)) ≡ rounded (k / 2) (suc k) x
-  nearest-half =
-      nearest-rounded (k / 2) (suc k) (omega (arith, div-add-mod' k 2)) (omega (arith, div-add-mod' k 2, mod-lt k {m = 2} (lit< tt)))
+      -- .. or it is
+      still : h < n → negsuc n +ℤ pos (h + 1) ≡ negsuc (n - (h + 1))
+      still k = by-≡ (search parts depth 12) (omega whole)
 
-pub below-half-most : (b : ℤ) → natAbs (below-half b) ≤ natAbs b + 1
-below-half-most b =
-    rw (natAbs-quotient (b -ℤ pos 1) 2) (le-trans (div-le-self (natAbs (b -ℤ pos 1)) 2) (natAbs-difference b (pos 1)))
-
-module _ {x b : ℤ} (positive : pos 0 <ℤ b) where
-  pub nearest-up : pos 0 ≤ℤ x → nearest x b ≡ quotient (x +ℤ below-half b) b
-  nearest-up h = go b positive x h
-    where
-      go : (c : ℤ) → pos 0 <ℤ c → (y : ℤ) → pos 0 ≤ℤ y → nearest y c ≡ quotient (y +ℤ below-half c) c
-      go (pos zero) l y h = absurd (l .lt)
-      go (pos (suc k)) l (pos n) h = nearest-half k (pos n) ∙ ap (λ (z : ℤ). quotient (pos n +ℤ z) (pos (suc k))) (sym (half-is k))
-      go (pos (suc k)) l (negsuc n) h = absurd (h .le)
-      go (negsuc k) l y h = absurd (l .lt)
-
-  pub nearest-down : x <ℤ pos 0 → nearest x b ≡ quotient (x -ℤ below-half b) b
-  nearest-down h = go b positive x h
-    where
-      further-down : (n k : ℕ) → negsuc n -ℤ pos k ≡ negsuc (n + k)
-      further-down n k = by-≡ (search parts depth 12) (omega whole)
-
-      go : (c : ℤ) → pos 0 <ℤ c → (y : ℤ) → y <ℤ pos 0 → nearest y c ≡ quotient (y -ℤ below-half c) c
-      go (pos zero) l y h = absurd (l .lt)
-      go (pos (suc k)) l (pos n) h = absurd (omega (whole, of-< h (search parts depth 12)))
-      go (pos (suc k)) l (negsuc n) h =
-          nearest-half k (negsuc n)
-          ∙ ap (λ (m : ℕ). negℤ (pos (m / suc k))) (omega arith)
-          ∙ ap (λ (z : ℤ). quotient z (pos (suc k))) (sym (further-down n (k / 2)))
-          ∙ ap (λ (z : ℤ). quotient (negsuc n -ℤ z) (pos (suc k))) (sym (half-is k))
-      go (negsuc k) l y h = absurd (l .lt)
+      by : (t : Bool) → ltb h n ≡ t → negℤ (pos ((suc n + h) / (2 * h + 2))) ≡ shrZ (negsuc n +ℤ pos (h + 1)) (2 * h + 2)
+      by true q =
+          let k : h < n = ltb-true h n q in
+          let whole-more : suc n + h ≡ n - (h + 1) + (2 * h + 2) = omega arith in
+          let e : (suc n + h) / (2 * h + 2) ≡ suc ((n - (h + 1)) / (2 * h + 2)) =
+          ap (λ (m : ℕ). m / (2 * h + 2)) whole-more ∙ add-div-right (n - (h + 1)) (omega arith) ∙ omega arith
+          in
+          rw (still k) (ap (λ (m : ℕ). negℤ (pos m)) e)
+      by false q =
+          let k : n ≤ h = ltb-false h n q in
+          rw (up k, div-eq-of-lt {n = suc n + h} {m = 2 * h + 2} (omega arith), div-eq-of-lt {n = h - n} {m = 2 * h + 2} (omega arith)) refl
 
 -- ---- size, zero and sign
 

@@ -5,7 +5,7 @@
 ghost use mathlib.Core.Path.{_≡_};
 ghost use Prim.Native.Nat.{_+_, _*_, _^_, _<_};
 ghost use lib.IntN.{pos, negℤ, natAbs, _+ℤ_, _-ℤ_, _*ℤ_};
-ghost use lib.Signed.{ltZ, _≤ℤ_, _<ℤ_};
+ghost use lib.Signed.{ltZ, shrZ, _≤ℤ_, _<ℤ_};
 ghost use Rattle.integers.specs.Whole.{clamp, sameZ};
 ghost use Rattle.integers.specs.Whole;
 
@@ -38,18 +38,12 @@ pub fn quotient(a: i32, b: i32) -> i32
     a / b
 }
 
-// a / b, rounded to the nearest whole number, an exact half toward zero: the size of a is raised by
-// the largest number below half of b, and the quotient rounded toward zero.
-pub fn nearest(a: i32, b: i32) -> i32
-    requires { ⌜ (pos 0 <ℤ b) × (natAbs a + natAbs b + 1 < 2 ^ 31) ⌝ }
-    ensures { λ r. ⌜ r ≡ Whole.nearest a b ⌝ }
+// a / 2ᵏ, rounded down.
+pub fn shift_right(a: i32, k: u32) -> i32
+    requires { ⌜ k < 32 ⌝ }
+    ensures { λ r. ⌜ r ≡ shrZ a (2 ^ k) ⌝ }
 {
-    let half = quotient(sub(b, 1), 2);
-    if a < 0 {
-        quotient(sub(a, half), b)
-    } else {
-        quotient(add(a, half), b)
-    }
+    a >> k
 }
 
 // z, clamped to low .. high.

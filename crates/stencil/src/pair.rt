@@ -4,6 +4,7 @@ use integers::signed;
 ghost use mathlib.Core.Path.{_≡_};
 ghost use Prim.Native.Nat.{_+_, _^_, _≤_, _<_};
 ghost use lib.IntN.{natAbs, _-ℤ_, _*ℤ_};
+ghost use Rattle.model.specs.Rounds.{nearestEighth};
 ghost use Rattle.stencil.specs.Pair.{shareOf, stepValue, moves};
 ghost use Rattle.stencil.specs.Limits.{PairLimits};
 
@@ -20,8 +21,18 @@ pub fn share(kind: Round, fall: i32) -> i32
 {
     match kind {
         Round::Quick => signed::quotient(fall, 8),
-        Round::Steady => signed::nearest(fall, 8),
+        Round::Steady => nearest_eighth(fall),
     }
+}
+
+// fall / 8, rounded to the nearest whole number, an exact half toward zero: rounded down after 3 is
+// added, or 4 below zero.
+fn nearest_eighth(fall: i32) -> i32
+    requires { ⌜ natAbs fall ≤ 2 ^ 21 ⌝ }
+    ensures { λ r. ⌜ r ≡ nearestEighth fall ⌝ }
+{
+    let raise = if fall < 0 { 4 } else { 3 };
+    signed::shift_right(signed::add(fall, raise), 3)
 }
 
 // The number of a pair after a step, from its number and its pixels' values.

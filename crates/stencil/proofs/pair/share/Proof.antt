@@ -1,11 +1,10 @@
 -- `stencil::pair::share` meets its contract. Assumes nothing.
 use mathlib.Core.Path.{sym, ap, _∙_}
-use native.Mathlib.Omega.{arith}
 use borrow.Author.Needs.{needs}
 use lib.IntN.{ℤ, pos}
 use mir.Syntax.{w32}
 use mir.ValLaws.{toZ-ofZ}
-use Rattle.integers.specs.Whole.{quotient, nearest}
+use Rattle.integers.specs.Whole.{quotient}
 use Rattle.integers.proofs.Machine.{called}
 use Rattle.model.specs.Rounds.{eighth, nearestEighth}
 use Rattle.stencil.specs.declared.pair.Round.{Round}
@@ -22,10 +21,8 @@ quotient-requires c κs = search needs
 enum-told-2 : tie.Need-enum-told-2
 enum-told-2 c = search needs
 
-nearest-requires : tie.Need-nearest-requires
-nearest-requires c κs =
-    let s = c .before .before in
-    (record { lt = tt }, rw (toZ-ofZ w32 _ (s .fits .fall)) (omega (arith, s .pre)))
+nearest-eighth-requires : tie.Need-nearest-eighth-requires
+nearest-eighth-requires c κs = rw (toZ-ofZ w32 _ (c .before .before .fits .fall)) (c .before .before .pre)
 
 returns : tie.Need-returns
 unfolding eighth
@@ -35,12 +32,11 @@ returns c =
     ∙ ap (λ (k : Round). shareOf k (s .args .fall)) (sym (c .before .enum-told .given .1))
 
 returns-2 : tie.Need-returns-2
-unfolding nearestEighth
 returns-2 c =
     let s = c .before .before .before in
-    called w32 (c .nearest .ok) (λ (d : ℤ). nearest d (pos 8)) (c .nearest .ensures) (toZ-ofZ w32 _ (s .fits .fall))
+    called w32 (c .nearest-eighth .ok) nearestEighth (c .nearest-eighth .ensures) (toZ-ofZ w32 _ (s .fits .fall))
     ∙ ap (λ (k : Round). shareOf k (s .args .fall)) (sym (c .before .enum-told2 .given .1))
 
 pub share-spec : {M : Type 1} → statement M
 share-spec =
-    tie.close (tie.spec enum-told quotient-requires enum-told-2 nearest-requires returns returns-2)
+    tie.close (tie.spec enum-told quotient-requires enum-told-2 nearest-eighth-requires returns returns-2)
