@@ -15,7 +15,7 @@ pub enum Round {
 }
 
 // The share of a fall in each kind of round.
-pub fn share(kind: Round, fall: i32) -> i32
+fn share(kind: Round, fall: i32) -> i32
     requires { ⌜ natAbs fall ≤ 2 ^ 21 ⌝ }
     ensures { λ r. ⌜ r ≡ shareOf kind fall ⌝ }
 {
