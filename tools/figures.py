@@ -70,7 +70,7 @@ def main():
     print(f"  root mean square {math.sqrt(slack / pixels) / 256:.3f}")
     print(f"  mean over 100 pixels {math.sqrt(slack / 100) / 256:.2f}")
     print(f"  one pixel {math.sqrt(slack) / 256:.1f}")
-    print(f"  root mean square of any settled run of this weight {math.sqrt(56 * weight) / 256:.2f}")
+    print(f"  root mean square of any settled run of this weight {math.sqrt(32 * weight) / 256:.2f}")
     best, own = solve(scan, weight, low, high)
     print(f"distance to a solution in floating point (itself within {own:.4f} of the best):")
     print(f"  root mean square {rms(cleaned, best):.3f}, one pixel {max(abs(a - b) for a, b in zip(cleaned, best)):.2f}")

@@ -8,9 +8,6 @@ use Rattle.integers.proofs.Parts.{parts, whole, by-≤, of-≤}
 use Rattle.integers.proofs.Order.{≤ℤ-trans, pos→≤, 0≤pos, negℤ-mono}
 use Rattle.integers.proofs.Absolute.{≤-abs, natAbs-product, square-natAbs}
 
-pub between-self : (d : ℤ) → pos 0 ≤ℤ (d *ℤ (d -ℤ d))
-between-self d = by-≤ (search parts depth 12) (omega whole)
-
 -- it is no longer than d
 module _ (c d : ℤ) (h : pos 0 ≤ℤ (c *ℤ (d -ℤ c))) where
   below-product : square c ≤ℤ (c *ℤ d)

@@ -9,11 +9,11 @@ use native.Mathlib.Nat.{div-mul-le-self, div-add-mod', mod-lt, div-eq-of-lt, div
 use native.Mathlib.Omega.{arith}
 use borrow.Author.Tests.{ltb-true, ltb-false}
 use lib.Dec.{ltb}
-use lib.IntN.{ℤ, pos, negsuc, natAbs, negℤ, negℤ-negℤ, _+ℤ_, _-ℤ_, _*ℤ_, *ℤ-comm}
+use lib.IntN.{ℤ, pos, negsuc, natAbs, negℤ, _+ℤ_, _-ℤ_, _*ℤ_, *ℤ-comm}
 use lib.Signed.{_≤ℤ_, _<ℤ_, shrZ}
 use Rattle.integers.specs.Whole.{square, quotient, nearest}
 use Rattle.integers.proofs.Parts.{parts, whole, by-≡, by-≤, of-<}
-use Rattle.integers.proofs.Order.{≤→pos, pos→≤, ≡→≤ℤ, 0≤pos, *ℤ-nonneg, *ℤ-nonpos, pos-natAbs-nonneg, negℤ-mono, ≤ℤ-total, <ℤ→≤ℤ}
+use Rattle.integers.proofs.Order.{pos→≤, ≡→≤ℤ, 0≤pos, *ℤ-nonneg, *ℤ-nonpos, pos-natAbs-nonneg, negℤ-mono, ≤ℤ-total, <ℤ→≤ℤ}
 use Rattle.integers.proofs.Absolute.{natAbs-neg, natAbs-product, natAbs-zero, square-natAbs}
 use Rattle.integers.proofs.Between.{between-natAbs, between-nonneg, between-nonpos}
 

@@ -22,7 +22,7 @@ clamp low high z = cond (ltZ z low) low (cond (ltZ high z) high z)
 abbrev pub quotient : ℤ → ℤ → ℤ
 quotient z d = quotZ z d
 
--- 1 or −1, the way from zero of z
+-- −1 below zero, else 1
 abbrev pub sign : ℤ → ℤ
 sign (pos n) = pos 1
 sign (negsuc n) = negℤ (pos 1)
