@@ -52,7 +52,7 @@ ask t samples (printing quick allowance) =
     text (programText (tapeOf t (record { quick = quick; allowance = allowance }) samples []))
 ask t samples (sharing d) = shares (eighth d) (nearestEighth d)
 
--- The 2 by 1 job: samples 0 and 2, weight 256, box 0 to 255 (SPECIFICATION 9.1, 9.2, 9.9); a share does not depend on it (9.10)
+-- The 2 by 1 job: samples 0 and 2, weight 256, box 0 to 255 (SPECIFICATION 9.1, 9.2, 9.9); a share does not depend on it (9.11)
 abbrev pub twoByOne : Asked → Given → Case
 twoByOne a g =
     record {
