@@ -1,5 +1,5 @@
--- What a rounding of the step must give, one law for every rounding of a quotient that document 01's rounds may use, and its
--- instances. Assumes nothing.
+-- What a rounding of the step must give; one law for all roundings of integers/proofs/Rounded; and its two instances. Assumes
+-- nothing.
 use mathlib.Core.Path.{_≡_, sym, _∙_, subst}
 use mathlib.Core.Logic.{_≢_, ⊎-elim}
 use Prim.Native.Nat.{ℕ, _+_, _-_, _*_, _≤_, _<_}
@@ -46,7 +46,8 @@ module _ (share : ℤ → ℤ) (h r : ℕ) (positive : 0 < r) (is : (d : ℤ) �
           (λ (k : pos 0 <ℤ d). absurd (omega (whole, rw (is d) at l, rounded-nonneg h (r + 2 * h) d (<ℤ→≤ℤ k))))
           (≤ℤ-total d (pos 0))
 
--- Where each pixel lies in at most 4 pairs, b = 8. d / 8 toward zero: a change gains at least 8, and a fall of 8 moves
+-- Where each pixel lies in at most 4 pairs, b = 8. d / 8 toward zero: a change gains at least 8, and a fall of 8 moves. (The
+-- share of quick rounds, of which demand 3 needs no law, and of steady rounds before request F-1.)
 pub eighth-rounding : Rounding eighth 8 8 7
 unfolding eighth
 eighth-rounding = rounding eighth 0 8 (lit< tt) (λ d. quotient-rounded d 8)

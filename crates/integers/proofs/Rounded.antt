@@ -1,6 +1,6 @@
--- Quotients by b whose size is that of the number raised by h and divided, and which have the number's sign: rounded toward
--- zero for h = 0, to the nearest with halves toward zero for h = (b − 1) / 2. One set of laws for all of them: size, zero,
--- sign, and what a step gains that is no longer than such a quotient.
+-- Quotients by b of a number whose size is first raised by h, with the number's sign: rounded toward zero for h = 0, to the
+-- nearest with halves toward zero for the largest h below b / 2. One set of laws for all of them: size, zero, sign, and what
+-- a step gains that is no longer than such a quotient.
 use mathlib.Core.Path.{_≡_, refl, sym, ap, _∙_, subst}
 use mathlib.Core.Bool.{Bool, true, false, cond}
 use mathlib.Core.Logic.{_≢_, ⊎-elim, inl, inr}
@@ -41,7 +41,7 @@ module _ (h b : ℕ) (lower : 2 * h < b) (upper : b ≤ 2 * h + 2) where
   size n e true q = further n (subst (λ (r : ℕ). b < 2 * r) e (ltb-true b _ q))
   size n e false q = nearer n (subst (λ (r : ℕ). 2 * r ≤ b) e (ltb-false b _ q))
 
-  pub nearest-rounded : (x : ℤ) → nearest x (pos b) ≡ rounded h b x
+  pub nearest-rounded : (x : ℤ) → nearest x b ≡ rounded h b x
   unfolding nearest
   nearest-rounded (pos n) = go (ltb b (2 * (n % b))) refl
     where
@@ -60,14 +60,14 @@ module _ (h b : ℕ) (lower : 2 * h < b) (upper : b ≤ 2 * h + 2) where
 
 -- the nearest by an even b = 2 h + 2 as a quotient rounded down, of the number raised by h, and by one more below zero
 module _ (h : ℕ) where
-  half-rounded : (x : ℤ) → nearest x (pos (2 * h + 2)) ≡ rounded h (2 * h + 2) x
+  half-rounded : (x : ℤ) → nearest x (2 * h + 2) ≡ rounded h (2 * h + 2) x
   half-rounded = nearest-rounded h (2 * h + 2) (omega arith) (omega arith)
 
-  pub nearest-up : (x : ℤ) → pos 0 ≤ℤ x → nearest x (pos (2 * h + 2)) ≡ shrZ (x +ℤ pos h) (2 * h + 2)
+  pub nearest-up : (x : ℤ) → pos 0 ≤ℤ x → nearest x (2 * h + 2) ≡ shrZ (x +ℤ pos h) (2 * h + 2)
   nearest-up (pos n) l = half-rounded (pos n)
   nearest-up (negsuc n) l = absurd (l .le)
 
-  pub nearest-down : (x : ℤ) → x <ℤ pos 0 → nearest x (pos (2 * h + 2)) ≡ shrZ (x +ℤ pos (h + 1)) (2 * h + 2)
+  pub nearest-down : (x : ℤ) → x <ℤ pos 0 → nearest x (2 * h + 2) ≡ shrZ (x +ℤ pos (h + 1)) (2 * h + 2)
   nearest-down (pos n) l = absurd (omega (whole, of-< l (search parts depth 12)))
   nearest-down (negsuc n) l = half-rounded (negsuc n) ∙ by (ltb h n) refl
     where

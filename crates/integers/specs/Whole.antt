@@ -1,7 +1,7 @@
 -- Whole numbers without limits, as ℤ of the kit (`+ℤ`, `-ℤ`, `*ℤ`; `pos n` is the natural number n): absolute value,
 -- square, projection onto an interval, quotients rounded toward zero and to the nearest, and tests that compute.
 use mathlib.Core.Bool.{Bool, false, cond}
-use Prim.Native.Nat.{_*_}
+use Prim.Native.Nat.{ℕ, _*_}
 use lib.Dec.{eqb, ltb}
 use lib.IntN.{ℤ, pos, negsuc, natAbs, negℤ, _+ℤ_, _*ℤ_}
 use lib.Signed.{ltZ, quotZ, remZ}
@@ -28,9 +28,9 @@ sign (pos n) = pos 1
 sign (negsuc n) = negℤ (pos 1)
 
 -- z / d rounded to the nearest whole number, an exact half toward zero: the truncated quotient, or one further from zero
--- where twice the remainder exceeds d
-unfoldable pub nearest : ℤ → ℤ → ℤ
-nearest z d = cond (ltb (natAbs d) (2 * natAbs (remZ z d))) (quotient z d +ℤ sign z) (quotient z d)
+-- where twice the remainder's size exceeds d
+unfoldable pub nearest : ℤ → ℕ → ℤ
+nearest z d = cond (ltb d (2 * natAbs (remZ z (pos d)))) (quotient z (pos d) +ℤ sign z) (quotient z (pos d))
 
 -- whether two whole numbers are the same
 abbrev pub sameZ : ℤ → ℤ → Bool

@@ -17,7 +17,7 @@ eighth d = quotient d (pos 8)
 
 -- d / 8, rounded to the nearest whole number, an exact half toward zero: the share in steady rounds (SPECIFICATION 3.1)
 unfoldable pub nearestEighth : ℤ → ℤ
-nearestEighth d = nearest d (pos 8)
+nearestEighth d = nearest d 8
 
 -- What a step makes of the number of pair j: the share of the fall in the flow's image is added, and the result is
 -- clamped to −weight .. weight (SPECIFICATION 3.2)

@@ -8,7 +8,7 @@ ghost use Rattle.model.specs.Rounds.{nearestEighth};
 ghost use Rattle.stencil.specs.Pair.{shareOf, stepValue, moves};
 ghost use Rattle.stencil.specs.Limits.{PairLimits};
 
-// The kinds of rounds, which round the share of a fall that their steps add in two ways.
+// The kinds of rounds. Each rounds the share of a fall that its steps add in its own way.
 pub enum Round {
     Quick,
     Steady,
@@ -26,7 +26,7 @@ fn share(kind: Round, fall: i32) -> i32
 }
 
 // fall / 8, rounded to the nearest whole number, an exact half toward zero: rounded down after 3 is
-// added, or 4 below zero.
+// added, or 4 where the fall is below zero.
 fn nearest_eighth(fall: i32) -> i32
     requires { ⌜ natAbs fall ≤ 2 ^ 21 ⌝ }
     ensures { λ r. ⌜ r ≡ nearestEighth fall ⌝ }

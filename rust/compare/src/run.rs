@@ -87,6 +87,7 @@ fn large(step: usize) -> impl Iterator<Item = JobInput> {
             0 => job.samples = random.bytes(job.samples.len()),
             // One level: no pair would move.
             1 => job.samples.fill(random.byte()),
+            // As drawn.
             _ => (),
         }
         job

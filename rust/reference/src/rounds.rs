@@ -5,7 +5,7 @@ use std::fmt;
 
 use crate::problem::Problem;
 
-/// A step adds to each flow number this part of its pair's difference.
+/// A step adds to each flow number its pair's difference divided by this, rounded.
 const STEP_DIVISOR: i64 = 8;
 
 /// What stands for 1 in FGP's sequence `t`; also the first of document 01's T.

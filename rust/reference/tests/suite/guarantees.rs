@@ -155,9 +155,10 @@ fn a_settled_slack_may_be_the_bound() {
     assert_eq!(answer.figures.slack, 16 * 258);
 }
 
-/// From any flow, and from one near that of a run, where the floor rises least.
+/// From any flow, and from one near that of a run, where the floor rises least: by 2 is proved, by
+/// 8 is worked out by hand (docs/DECISIONS.md 31).
 #[test]
-fn a_steady_round_that_moves_raises_the_floor_by_two() {
+fn a_steady_round_that_moves_raises_the_floor_by_eight() {
     let mut random = Random::new(0xF1004);
     let mut moving = [0, 0];
     for _ in 0..JOBS {
@@ -173,7 +174,7 @@ fn a_steady_round_that_moves_raises_the_floor_by_two() {
             if stepped != flow {
                 *moving += 1;
                 let floor = problem.dual_objective(&flow);
-                assert!(problem.dual_objective(&stepped) >= floor + 2);
+                assert!(problem.dual_objective(&stepped) >= floor + 8);
             }
         }
     }

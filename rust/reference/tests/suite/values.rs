@@ -1,4 +1,4 @@
-//! Document 01's "Values to compare", as document 02 changes them, the shares of a fall, and
+//! Document 01's "Values to compare", as request F-1 changes them, the shares of a fall, and
 //! the laws of T and its root.
 
 use relief_inputs::{flat, narrow_box, two_by_one, Case};
