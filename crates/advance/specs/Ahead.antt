@@ -5,15 +5,14 @@ use Prim.Native.Nat.{ℕ, _^_, _≤_}
 use lib.IntN.{ℤ, natAbs}
 use lib.ListN.{length}
 use Rattle.model.specs.Lists.{at}
-use Rattle.model.specs.Rounds.{eighth}
 use Rattle.momentum.specs.Reciprocal.{aheadOf}
 use Rattle.runs.specs.Limits.{Within, StepLimits}
 use Rattle.runs.specs.Run.{stepAt}
 use Rattle.raster.specs.Whole.{rowStep, AcrossLimits, gridStep, GridLimits}
 
--- the number ahead of pair j of a run, from the flow and the numbers ahead so far
-abbrev pub aheadAt : ℤ → ℕ → List ℤ → List ℤ → List ℤ → ℕ → ℕ → ℤ
-aheadAt weight m flow ahead image stride j = aheadOf m (at flow j) (stepAt eighth weight ahead image stride j)
+-- the number ahead of pair j of a run, from the flow and the numbers ahead so far, by steps that add this share of a fall
+abbrev pub aheadAt : (ℤ → ℤ) → ℤ → ℕ → List ℤ → List ℤ → List ℤ → ℕ → ℕ → ℤ
+aheadAt share weight m flow ahead image stride j = aheadOf m (at flow j) (stepAt share weight ahead image stride j)
 
 -- within these limits no operation of a run overflows
 pub record AdvanceLimits (flow ahead image : List ℤ) (stride : ℕ) (weight : ℤ) (m : ℕ) : Type 0 where
@@ -24,11 +23,11 @@ pub record AdvanceLimits (flow ahead image : List ℤ) (stride : ℕ) (weight : 
   pub factor-most : m ≤ 2 ^ 46
 
 -- the same for the horizontal pairs alone, counted through all rows, and for all pairs
-abbrev pub rowAhead : ℕ → ℤ → ℕ → List ℤ → List ℤ → List ℤ → ℕ → ℤ
-rowAhead w weight m flow ahead image k = aheadOf m (at flow k) (rowStep eighth w weight ahead image k)
+abbrev pub rowAhead : (ℤ → ℤ) → ℕ → ℤ → ℕ → List ℤ → List ℤ → List ℤ → ℕ → ℤ
+rowAhead share w weight m flow ahead image k = aheadOf m (at flow k) (rowStep share w weight ahead image k)
 
-abbrev pub gridAhead : ℕ → ℕ → ℤ → ℕ → List ℤ → List ℤ → List ℤ → ℕ → ℤ
-gridAhead w h weight m flow ahead image j = aheadOf m (at flow j) (gridStep eighth w h weight ahead image j)
+abbrev pub gridAhead : (ℤ → ℤ) → ℕ → ℕ → ℤ → ℕ → List ℤ → List ℤ → List ℤ → ℕ → ℤ
+gridAhead share w h weight m flow ahead image j = aheadOf m (at flow j) (gridStep share w h weight ahead image j)
 
 pub record RowAdvance (w h : ℕ) (flow ahead image : List ℤ) (weight : ℤ) (m : ℕ) : Type 0 where
   pub rows : AcrossLimits w h weight ahead image

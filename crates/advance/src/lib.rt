@@ -24,7 +24,7 @@ fn advance_pairs(
 )
     requires { ⌜ AdvanceLimits (now flow) (now ahead) (now image) stride weight m ⌝ }
     ensures { λ _. ⌜ now (flow .exit) ≡ table (length (now (flow .entry))) (stepAt eighth weight (now (ahead .entry)) (now (image .entry)) stride) ⌝ }
-    ensures { λ _. ⌜ now (ahead .exit) ≡ table (length (now (flow .entry))) (aheadAt weight m (now (flow .entry)) (now (ahead .entry)) (now (image .entry)) stride) ⌝ }
+    ensures { λ _. ⌜ now (ahead .exit) ≡ table (length (now (flow .entry))) (aheadAt eighth weight m (now (flow .entry)) (now (ahead .entry)) (now (image .entry)) stride) ⌝ }
 {
     let mut j = 0;
     while j < flow.len() {
@@ -47,7 +47,7 @@ fn advance_rows(
 )
     requires { ⌜ RowAdvance width height (now flow) (now ahead) (now image) weight m ⌝ }
     ensures { λ _. ⌜ now (flow .exit) ≡ table (length (now (flow .entry))) (rowStep eighth width weight (now (ahead .entry)) (now (image .entry))) ⌝ }
-    ensures { λ _. ⌜ now (ahead .exit) ≡ table (length (now (flow .entry))) (rowAhead width weight m (now (flow .entry)) (now (ahead .entry)) (now (image .entry))) ⌝ }
+    ensures { λ _. ⌜ now (ahead .exit) ≡ table (length (now (flow .entry))) (rowAhead eighth width weight m (now (flow .entry)) (now (ahead .entry)) (now (image .entry))) ⌝ }
 {
     let across = width - 1;
     let mut at = 0;
@@ -80,7 +80,7 @@ pub fn advance_grid(
 )
     requires { ⌜ GridAdvance width height (now flow) (now ahead) (now image) weight m ⌝ }
     ensures { λ _. ⌜ now (flow .exit) ≡ table (length (now (flow .entry))) (gridStep eighth width height weight (now (ahead .entry)) (now (image .entry))) ⌝ }
-    ensures { λ _. ⌜ now (ahead .exit) ≡ table (length (now (flow .entry))) (gridAhead width height weight m (now (flow .entry)) (now (ahead .entry)) (now (image .entry))) ⌝ }
+    ensures { λ _. ⌜ now (ahead .exit) ≡ table (length (now (flow .entry))) (gridAhead eighth width height weight m (now (flow .entry)) (now (ahead .entry)) (now (image .entry))) ⌝ }
 {
     let vertical = width * (height - 1);
     advance_pairs(

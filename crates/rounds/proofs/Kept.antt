@@ -1,14 +1,15 @@
--- What quick rounds keep: P within the weight and R within three times the weight. Assumes nothing.
+-- What quick rounds keep, whatever share of a fall their steps add: P within the weight and R within three times the weight.
+-- Assumes nothing.
 use mathlib.Core.Path.{subst}
 use mathlib.Core.List.{List}
 use Prim.Native.Nat.{ℕ, zero, suc, _*_, zero-le}
-use lib.IntN.{pos}
+use lib.IntN.{ℤ, pos}
 use lib.ListN.{replicate}
 use Rattle.model.specs.declared.Terms.{Terms}
 use Rattle.model.specs.Lists.{at}
 use Rattle.model.specs.Problem.{pairCount}
 use Rattle.model.specs.Grid.{grid}
-use Rattle.model.specs.Rounds.{eighth, step, nextMomentum, Quick, quickStart, quickRound, quickRounds}
+use Rattle.model.specs.Rounds.{step, nextMomentum, Quick, quickStart, quickRound, quickRounds}
 use Rattle.model.proofs.Lists.{table-constant}
 use Rattle.model.proofs.Root.{momentum-least}
 use Rattle.runs.specs.Limits.{Within}
@@ -19,19 +20,19 @@ use Rattle.rounds.proofs.Model.{step-within}
 zeros-within : (n w : ℕ) → Within w (replicate n (pos 0))
 zeros-within n w = subst (Within w) (table-constant n (pos 0)) (within-table n (λ _. pos 0) (λ _ _. zero-le))
 
-module _ (t : Terms) (samples : List ℕ) where
-  pub iterate-within : (k : ℕ) → Within (t .weight) (quickRounds eighth (grid t samples) k .iterate)
+module _ (share : ℤ → ℤ) (t : Terms) (samples : List ℕ) where
+  pub iterate-within : (k : ℕ) → Within (t .weight) (quickRounds share (grid t samples) k .iterate)
   unfolding quickRounds quickStart quickRound
   iterate-within zero = zeros-within (pairCount (grid t samples)) (t .weight)
-  iterate-within (suc k) = step-within t samples eighth (quickRounds eighth (grid t samples) k .extrapolated)
+  iterate-within (suc k) = step-within t samples share (quickRounds share (grid t samples) k .extrapolated)
 
-  pub ahead-within : (k : ℕ) → Within (3 * t .weight) (quickRounds eighth (grid t samples) k .extrapolated)
+  pub ahead-within : (k : ℕ) → Within (3 * t .weight) (quickRounds share (grid t samples) k .extrapolated)
   unfolding quickRounds quickStart quickRound
   ahead-within zero = zeros-within (pairCount (grid t samples)) (3 * t .weight)
   ahead-within (suc k) =
-      let s : Quick = quickRounds eighth (grid t samples) k in
-      let low = momentum-low eighth (grid t samples) k in
+      let s : Quick = quickRounds share (grid t samples) k in
+      let low = momentum-low share (grid t samples) k in
       within-table (pairCount (grid t samples)) _ (λ j _.
       extrapolate-bound (s .momentum) (nextMomentum (s .momentum)) (t .weight) (at (s .iterate) j)
-      (at (step eighth (grid t samples) (s .extrapolated)) j) low (momentum-least (s .momentum) low) (iterate-within k j)
-      (step-within t samples eighth (s .extrapolated) j))
+      (at (step share (grid t samples) (s .extrapolated)) j) low (momentum-least (s .momentum) low) (iterate-within k j)
+      (step-within t samples share (s .extrapolated) j))

@@ -13,7 +13,7 @@ use Rattle.model.specs.declared.Terms.{Terms}
 use Rattle.model.specs.Lists.{at, table}
 use Rattle.model.specs.Problem.{pairCount, image}
 use Rattle.model.specs.Grid.{lowEnd, highEnd, grid}
-use Rattle.model.specs.Rounds.{eighth, stepped, step, nextMomentum, quickRound}
+use Rattle.model.specs.Rounds.{stepped, step, nextMomentum, quickRound}
 use Rattle.model.specs.Calls.{imageOf}
 use Rattle.model.proofs.Lists.{getD-table}
 use Rattle.model.proofs.Root.{momentum-grows, momentum-least}
@@ -69,36 +69,36 @@ module _ (t : Terms) (samples : List ℕ) where
   step-within share flow =
       within-table (pairCount (grid t samples)) (stepped share (grid t samples) (at flow)) (λ j _. natAbs-clamp (t .weight) _)
 
-  module _ (flow ahead : List ℤ) (momentum : ℕ) {values : List ℤ} (e : values ≡ imageOf t samples ahead) where
-    pub iterate-is : table (pairCount (grid t samples)) (gridStep eighth (t .width) (t .height) (pos (t .weight)) ahead values)
-        ≡ quickRound eighth (grid t samples) (held flow ahead momentum) .iterate
+  module _ (share : ℤ → ℤ) (flow ahead : List ℤ) (momentum : ℕ) {values : List ℤ} (e : values ≡ imageOf t samples ahead) where
+    pub iterate-is : table (pairCount (grid t samples)) (gridStep share (t .width) (t .height) (pos (t .weight)) ahead values)
+        ≡ quickRound share (grid t samples) (held flow ahead momentum) .iterate
     unfolding quickRound
-    iterate-is = stepped-is t samples ahead e eighth
+    iterate-is = stepped-is t samples ahead e share
 
     now-is : (j : ℕ) → j < pairCount (grid t samples) →
-        gridStep eighth (t .width) (t .height) (pos (t .weight)) ahead values j ≡ at (step eighth (grid t samples) ahead) j
+        gridStep share (t .width) (t .height) (pos (t .weight)) ahead values j ≡ at (step share (grid t samples) ahead) j
     unfolding step
     now-is j l =
-        step-is t samples ahead e eighth j l
-        ∙ sym (getD-table (pairCount (grid t samples)) (stepped eighth (grid t samples) (at ahead)) j (pos 0) l)
+        step-is t samples ahead e share j l
+        ∙ sym (getD-table (pairCount (grid t samples)) (stepped share (grid t samples) (at ahead)) j (pos 0) l)
 
     module _ (m : ℕ) (weight-most : t .weight ≤ 65280) (flow-most : Within 65280 flow) (least : 65536 ≤ momentum)
         (most : momentum < 2 ^ 29 - 65536) (r : Reciprocal (momentum - 65536) (nextMomentum momentum) m)
       where
-        small : (j : ℕ) → natAbs (at (step eighth (grid t samples) ahead) j -ℤ at flow j) * nextMomentum momentum < 70368744177664
+        small : (j : ℕ) → natAbs (at (step share (grid t samples) ahead) j -ℤ at flow j) * nextMomentum momentum < 70368744177664
         small j =
-            let now : ℤ = at (step eighth (grid t samples) ahead) j in
+            let now : ℤ = at (step share (grid t samples) ahead) j in
             let d : natAbs (now -ℤ at flow j) ≤ 130560 =
-            omega (arith, natAbs-difference now (at flow j), step-within eighth ahead j, flow-most j)
+            omega (arith, natAbs-difference now (at flow j), step-within share ahead j, flow-most j)
             in
             let n : nextMomentum momentum ≤ 2 ^ 29 = omega (arith, next-range momentum least most .2) in
             omega (arith, mul-le-mul d n)
 
-        pub ahead-is : table (pairCount (grid t samples)) (gridAhead (t .width) (t .height) (pos (t .weight)) m flow ahead values)
-            ≡ quickRound eighth (grid t samples) (held flow ahead momentum) .extrapolated
+        pub ahead-is : table (pairCount (grid t samples)) (gridAhead share (t .width) (t .height) (pos (t .weight)) m flow ahead values)
+            ≡ quickRound share (grid t samples) (held flow ahead momentum) .extrapolated
         unfolding quickRound
         ahead-is =
             table-cong (pairCount (grid t samples)) (λ j l.
             ap (aheadOf m (at flow j)) (now-is j l)
-            ∙ extrapolate-is momentum (nextMomentum momentum) m (at flow j) (at (step eighth (grid t samples) ahead) j) least
+            ∙ extrapolate-is momentum (nextMomentum momentum) m (at flow j) (at (step share (grid t samples) ahead) j) least
             (next-range momentum least most .0) r (small j))

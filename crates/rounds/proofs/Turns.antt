@@ -78,8 +78,8 @@ module _ {t : Terms} {quick : ℕ} {samples : List ℕ} {image₀ : List ℤ} {k
         limits = j .limits;
         lengths = record { samples-length = j .lengths .samples-length; flow-length = turned-length; image-length = r .image-length };
         same-length = turned-length ∙ sym (ap length (ahead-is) ∙ ahead-size eighth (grid t samples) k);
-        flow-most = λ i. rw (r .flow-is) (le-trans (iterate-within t samples k i) (j .limits .weight-most));
-        ahead-most = λ i. rw (ahead-is) (le-trans (ahead-within t samples k i) (omega (arith, j .limits .weight-most)));
+        flow-most = λ i. rw (r .flow-is) (le-trans (iterate-within eighth t samples k i) (j .limits .weight-most));
+        ahead-most = λ i. rw (ahead-is) (le-trans (ahead-within eighth t samples k i) (omega (arith, j .limits .weight-most)));
         momentum-least = rw (r .momentum-is) (momentum-low eighth (grid t samples) k);
         momentum-most = rw (r .momentum-is) (omega (arith, momentum-high eighth (grid t samples) k, j .quick-most));
       }

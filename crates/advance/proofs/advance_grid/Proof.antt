@@ -43,20 +43,20 @@ module _ (c : tie.After-ahead) where
       let h = s .args .height in
       upper-filled _ (s .args .flow .now) (vertical w h) _ (flow-pairs s)
       (c .before .before .advance-pairs .ensures .0
-      ∙ vertical-iterate w h (s .args .m) (toZ w32 (ofZ w32 (s .args .weight))) (s .args .flow .now) (s .args .ahead .now) (s .args .image .now) (most s .0))
+      ∙ vertical-iterate eighth w h (s .args .m) (toZ w32 (ofZ w32 (s .args .weight))) (s .args .flow .now) (s .args .ahead .now) (s .args .image .now) (most s .0))
 
   upper-ahead : let s = c .before .before .before .before .before in
       let w = s .args .width in
       let h = s .args .height in
       c .before .before .advance-pairs .last .1 .0 ++ drop (vertical w h) (s .args .ahead .now)
-      ≡ filled (vertical w h) (gridAhead w h (toZ w32 (ofZ w32 (s .args .weight))) (s .args .m) (s .args .flow .now) (s .args .ahead .now) (s .args .image .now)) (s .args .ahead .now)
+      ≡ filled (vertical w h) (gridAhead eighth w h (toZ w32 (ofZ w32 (s .args .weight))) (s .args .m) (s .args .flow .now) (s .args .ahead .now) (s .args .image .now)) (s .args .ahead .now)
   upper-ahead =
       let s = c .before .before .before .before .before in
       let w = s .args .width in
       let h = s .args .height in
       upper-filled _ (s .args .ahead .now) (vertical w h) _ (all-pairs (s .pre .grid .size))
       (c .before .before .advance-pairs .ensures .1
-      ∙ vertical-ahead w h (s .args .m) (toZ w32 (ofZ w32 (s .args .weight))) (s .args .flow .now) (s .args .ahead .now) (s .args .image .now) (most s .0))
+      ∙ vertical-ahead eighth w h (s .args .m) (toZ w32 (ofZ w32 (s .args .weight))) (s .args .flow .now) (s .args .ahead .now) (s .args .image .now) (most s .0))
 
   flow-most : let s = c .before .before .before .before .before in
       vertical (s .args .width) (s .args .height)
@@ -170,11 +170,11 @@ returns c =
       rw (toZ-ofZ w32 _ (s .fits .weight), ← flow-pairs s) at
           (both-filled _ (s .args .flow .now) (vertical w h) (h * (w - 1)) (flow-pairs s) (upper-flow a)
           (c .before .before .advance-rows .ensures .0
-          ∙ horizontal-iterate w h (s .args .m) weight (s .args .flow .now) (s .args .ahead .now) (s .args .image .now) (flow-rest a) (ahead-rest a))),
+          ∙ horizontal-iterate eighth w h (s .args .m) weight (s .args .flow .now) (s .args .ahead .now) (s .args .image .now) (flow-rest a) (ahead-rest a))),
       rw (toZ-ofZ w32 _ (s .fits .weight), ← flow-pairs s) at
           (both-filled _ (s .args .ahead .now) (vertical w h) (h * (w - 1)) (all-pairs (s .pre .grid .size)) (upper-ahead a)
           (c .before .before .advance-rows .ensures .1
-          ∙ horizontal-ahead w h (s .args .m) weight (s .args .flow .now) (s .args .ahead .now) (s .args .image .now) (flow-rest a) (ahead-rest a))),
+          ∙ horizontal-ahead eighth w h (s .args .m) weight (s .args .flow .now) (s .args .ahead .now) (s .args .image .now) (flow-rest a) (ahead-rest a))),
     )
 
 pub advance-grid-spec : {M : Type 1} → statement M

@@ -25,7 +25,7 @@ use Rattle.advance.proofs.advance_pairs.Tie as tie
 
 abbrev Inv-loop : tie.InvT-loop
 Inv-loop flow₀ ahead₀ image stride weight m j₀ flow ahead j =
-    Filling (stepAt eighth (toZ w32 weight) ahead₀ image stride) flow₀ j flow × Filling (aheadAt (toZ w32 weight) m flow₀ ahead₀ image stride) ahead₀ j ahead
+    Filling (stepAt eighth (toZ w32 weight) ahead₀ image stride) flow₀ j flow × Filling (aheadAt eighth (toZ w32 weight) m flow₀ ahead₀ image stride) ahead₀ j ahead
 
 abbrev μ-loop : tie.MeasureT-loop
 μ-loop flow₀ ahead₀ image stride weight m j₀ flow ahead j = length flow₀ - j

@@ -23,7 +23,7 @@ abbrev Inv-loop : tie.InvT-loop
 Inv-loop flow₀ ahead₀ image width height weight m across at₀ start₀ row₀ flow ahead at start row =
     (row ≤ height) × (at ≡ row * across) × (start ≡ row * width)
     × (flow ≡ filled at (rowStep eighth width (toZ w32 weight) ahead₀ image) flow₀)
-    × (ahead ≡ filled at (rowAhead width (toZ w32 weight) m flow₀ ahead₀ image) ahead₀)
+    × (ahead ≡ filled at (rowAhead eighth width (toZ w32 weight) m flow₀ ahead₀ image) ahead₀)
 
 abbrev μ-loop : tie.MeasureT-loop
 μ-loop flow₀ ahead₀ image width height weight m across at₀ start₀ row₀ flow ahead at start row = height - row
@@ -150,10 +150,10 @@ loop-again c =
       omega (arith, l .inv .2),
       put-part (l .at) (w - 1) _ (s .args .flow .now) (l .inv .3)
           (c .before .before .advance-pairs .ensures .0
-          ∙ row-iterate (l .row) (s .args .m) weight (l .inv .1) (l .inv .2) (flow-part i) (ahead-part i) (image-part i)),
+          ∙ row-iterate eighth (l .row) (s .args .m) weight (l .inv .1) (l .inv .2) (flow-part i) (ahead-part i) (image-part i)),
       put-part (l .at) (w - 1) _ (s .args .ahead .now) (l .inv .4)
           (c .before .before .advance-pairs .ensures .1
-          ∙ row-ahead (l .row) (s .args .m) weight (l .inv .1) (l .inv .2) (flow-part i) (ahead-part i) (image-part i)),
+          ∙ row-ahead eighth (l .row) (s .args .m) weight (l .inv .1) (l .inv .2) (flow-part i) (ahead-part i) (image-part i)),
     )
 
 -- all rows are done
@@ -163,7 +163,7 @@ ended : (c : tie.After-loop Inv-loop μ-loop) → let s = c .before .before in
     (length (c .before .loop .flow) ≡ n)
     × (length (c .before .loop .ahead) ≡ length (s .args .ahead .now))
     × (c .before .loop .flow ≡ table n (rowStep eighth (s .args .width) weight (s .args .ahead .now) (s .args .image .now)))
-    × (c .before .loop .ahead ≡ table n (rowAhead (s .args .width) weight (s .args .m) (s .args .flow .now) (s .args .ahead .now) (s .args .image .now)))
+    × (c .before .loop .ahead ≡ table n (rowAhead eighth (s .args .width) weight (s .args .m) (s .args .flow .now) (s .args .ahead .now) (s .args .image .now)))
 ended c =
     let s = c .before .before in
     let l = c .before .loop in

@@ -97,7 +97,7 @@ steady-rounds-requires c κs =
     record {
       limits = a .terms;
       lengths = record { samples-length = a .samples-length; flow-length = ap length (iterate q) ∙ iterate-size eighth (grid t b) (s .args .r .quick); image-length = c .before .before .before .before .before .before .image .given ∙ a .image-length };
-      flow-most = subst (Within (t .weight)) (sym (iterate q)) (iterate-within t b (s .args .r .quick));
+      flow-most = subst (Within (t .weight)) (sym (iterate q)) (iterate-within eighth t b (s .args .r .quick));
     }
 
 -- how the steady rounds end

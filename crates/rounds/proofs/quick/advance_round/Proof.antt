@@ -6,7 +6,7 @@ use lib.ListN.{length}
 use mir.Syntax.{w32}
 use Rattle.integers.proofs.Machine.{read}
 use Rattle.model.specs.Grid.{gridPairs}
-use Rattle.model.specs.Rounds.{nextMomentum, quickRound}
+use Rattle.model.specs.Rounds.{eighth, nextMomentum, quickRound}
 use Rattle.model.specs.Calls.{imageOf}
 use Rattle.momentum.specs.Reciprocal.{Reciprocal}
 use Rattle.rounds.proofs.Model.{next-range, factor-most, iterate-is, ahead-is}
@@ -103,10 +103,10 @@ returns c =
     let a = s .args in
     let e = image-filled f in (
       rw (read w32 (n .natural .ok), n .natural .ensures, p .lengths .flow-length) at (g .advance-grid .ensures .0)
-          ∙ iterate-is (a .t) (a .samples .now) (a .flow .now) (a .ahead .now) (a .momentum) e,
+          ∙ iterate-is (a .t) (a .samples .now) eighth (a .flow .now) (a .ahead .now) (a .momentum) e,
       (
         rw (read w32 (n .natural .ok), n .natural .ensures, p .lengths .flow-length) at (g .advance-grid .ensures .1)
-            ∙ ahead-is (a .t) (a .samples .now) (a .flow .now) (a .ahead .now) (a .momentum) e _ (p .limits .weight-most) (p .flow-most)
+            ∙ ahead-is (a .t) (a .samples .now) eighth (a .flow .now) (a .ahead .now) (a .momentum) e _ (p .limits .weight-most) (p .flow-most)
             (p .momentum-least) (p .momentum-most) (by-next n),
         (unfold quickRound in n .before .before .before .before .before .next-momentum .ensures, e),
       ),
