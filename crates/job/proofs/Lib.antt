@@ -1,5 +1,7 @@
 -- The laws of a job in tables.
---     Formers   the text of an answer, whatever a lent buffer held before
---     Texts     a tape that has been read into tables, and the text of its job
+--     Formers   what is shown of an answer, whatever a lent buffer held before
+--     Texts     a tape that has been read into tables, and what is shown of its job
+--     Slacks    the slack of a job in tables, by its pixels
 pub mod Formers
 pub mod Texts
+pub mod Slacks

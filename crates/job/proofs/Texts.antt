@@ -1,4 +1,4 @@
--- A tape that has been read into tables, and the text of its job. Assumes nothing.
+-- A tape that has been read into tables: what is shown of its job's answer and image, and so its text. Assumes nothing.
 use mathlib.Core.Path.{_≡_, refl, sym, ap, ap₂, _∙_, subst}
 use mathlib.Core.Bool.{Bool, true, false, not, cond, true≢false}
 use mathlib.Core.List.{List}
@@ -18,7 +18,7 @@ use Rattle.model.specs.Lists.{zeros, overwritten}
 use Rattle.model.specs.Grid.{sizeAllowed}
 use Rattle.model.specs.Verdict.{left}
 use Rattle.model.specs.Calls.{Answer, refusal, pixelsOf, pairsOf, imageOf, checkVerdict, checkAnswer, checkImage, runVerdict, runAnswer, runImage}
-use Rattle.model.specs.Tape.{Progress, Parse, turned, whole, parse, ReadAnswer, readOf, readAnswer, readSamples, readFlow}
+use Rattle.model.specs.Tape.{Progress, Parse, turned, whole, parse, ReadAnswer, readOf, readAnswer, readSamples, readFlow, lentBy}
 use Rattle.tape_read.specs.declared.read.ReadResult.{ReadResult}
 use Rattle.tape_read.specs.Answers.{readAnswerOf}
 use Rattle.model.specs.Program.{refusalText, jobAnswer, jobImage, answerText, readText}
@@ -26,9 +26,9 @@ use Rattle.model.proofs.Lists.{length-table}
 use Rattle.terms.proofs.Size.{allowed-size}
 use Rattle.roundtrip.proofs.Accepted.{accepted-job}
 use Rattle.roundtrip.proofs.Judged.{accepted-parse, passed-parse, answer-by, samples-by, flow-by}
-use Rattle.job.specs.Tables.{Tables, answerIn, imageFront, flowIn, imageIn, workIn}
-use Rattle.job.specs.Cleaned.{Room, flowLeft, imageLeft, workLeft}
-use Rattle.job.proofs.Formers.{checkText, same-check, runText, same-run}
+use Rattle.job.specs.Tables.{Tables, Holds, answerIn, imageFront, flowIn, imageIn, workIn}
+use Rattle.job.specs.Cleaned.{flowLeft, imageLeft, workLeft}
+use Rattle.job.proofs.Formers.{Shows, ofCheck, same-check, ofRun, same-run}
 
 -- the image that a call leaves is as long as the one it was lent, if that has a value for each pixel
 left-length : (n : ℕ) (v : Verdict) (new former : List ℤ) → length new ≡ n → length former ≡ n → length (left v new former) ≡ n
@@ -60,14 +60,14 @@ pub record Fits (samples flow : ℕ) (p : Progress) : Type 0 where
   pub flows : (length (p .flow) ≡ 0) ⊎ (length (p .flow) ≡ pairsOf (p .terms))
 
 pub whole-fits : (input samples : List ℕ) (flow : List ℤ) → ((i : ℕ) → getD input i 0 < 256) → (p : Progress) →
-    parse input (length samples) (length flow) ≡ whole p → Fits (length samples) (length flow) p
+    parse input (lentBy samples flow) ≡ whole p → Fits (length samples) (length flow) p
 whole-fits input samples flow byte p e =
-    let j = accepted-job input (record { samples = length samples; flow = length flow }) byte p (passed-parse input samples flow p e .0) in
+    let j = accepted-job input (lentBy samples flow) byte refl p (passed-parse input samples flow p e .0) in
     let size = j .sound .size (omega (arith, j .complete)) in
     record { size = size .0; samplesHold = size .1; flowHolds = size .2; sampled = j .samples; flows = j .flow }
 
--- the text of a job whose numbers stand in the fronts of the tables
-module _ (p : Progress) (samples : List ℕ) (flow image work : List ℤ) (f : Fits (length samples) (length flow) p)
+-- what is shown of a job whose numbers stand in the fronts of the tables
+module _ {X : Type 0} (shown : Answer → List ℤ → X) (shows : Shows shown) (p : Progress) (samples : List ℕ) (flow image work : List ℤ) (f : Fits (length samples) (length flow) p)
     (imageHolds : pixelsOf (p .terms) ≤ length image) (workHolds : 2 * pairsOf (p .terms) ≤ length work) where
   abbrev flowed : Bool
   flowed = not (eqb (length (p .flow)) 0)
@@ -84,34 +84,34 @@ module _ (p : Progress) (samples : List ℕ) (flow image work : List ℤ) (f : F
   front-length : length (take (pixelsOf (p .terms)) image) ≡ pixelsOf (p .terms)
   front-length = length-take-le _ image imageHolds
 
-  -- the text by the front of the image
+  -- the image by its front
   by-front : (b : Bool) → length (imageFront (p .terms) (p .rounds) b S F image work) ≡ pixelsOf (p .terms)
   by-front true = check-length (p .terms) _ _ _ front-length
   by-front false = run-length (p .terms) _ (p .rounds) _ _ _ front-length
 
-  abbrev text : Bool → List ℕ
-  text b = answerText (answerIn (p .terms) (p .rounds) b S F image work) (p .terms) (imageFront (p .terms) (p .rounds) b S F image work)
+  abbrev front : Bool → X
+  front b = shown (answerIn (p .terms) (p .rounds) b S F image work) (imageFront (p .terms) (p .rounds) b S F image work)
 
-  checked : length (p .flow) ≡ pairsOf (p .terms) → text true ≡ checkText (p .terms) (p .samples) (p .flow) (zeros (pixelsOf (p .terms)))
+  checked : length (p .flow) ≡ pairsOf (p .terms) → front true ≡ ofCheck shown shows (p .terms) (p .samples) (p .flow) (zeros (pixelsOf (p .terms)))
   checked e =
       let t : Terms = p .terms in
-      ap₂ (λ (s : List ℕ) (g : List ℤ). checkText t s g (take (pixelsOf t) image)) codes (take-at (p .flow) (drop (length (p .flow)) flow) (pairsOf t) e)
-      ∙ same-check t (p .samples) (p .flow) (take (pixelsOf t) image) (zeros (pixelsOf t)) (front-length ∙ sym (zeros-length (pixelsOf t)))
+      ap₂ (λ (s : List ℕ) (g : List ℤ). ofCheck shown shows t s g (take (pixelsOf t) image)) codes (take-at (p .flow) (drop (length (p .flow)) flow) (pairsOf t) e)
+      ∙ same-check shown shows t (p .samples) (p .flow) (take (pixelsOf t) image) (zeros (pixelsOf t)) (front-length ∙ sym (zeros-length (pixelsOf t)))
 
-  ran : length (p .flow) ≡ 0 → text false ≡ runText (p .terms) (p .rounds) (p .samples) (zeros (pairsOf (p .terms))) (zeros (pixelsOf (p .terms))) (zeros (2 * pairsOf (p .terms)))
+  ran : length (p .flow) ≡ 0 → front false ≡ ofRun shown shows (p .terms) (p .rounds) (p .samples) (zeros (pairsOf (p .terms))) (zeros (pixelsOf (p .terms))) (zeros (2 * pairsOf (p .terms)))
   ran e =
       let t : Terms = p .terms in
       let long : pairsOf t ≤ length F = omega (arith, f .flowHolds, length-append (p .flow) (drop (length (p .flow)) flow), length-drop (length (p .flow)) flow) in
-      ap (λ (s : List ℕ). runText t (p .rounds) s (take (pairsOf t) F) (take (pixelsOf t) image) (take (2 * pairsOf t) work)) codes
-      ∙ same-run t (p .rounds) (p .samples) _ _ _ (zeros (pairsOf t)) (zeros (pixelsOf t)) (zeros (2 * pairsOf t))
+      ap (λ (s : List ℕ). ofRun shown shows t (p .rounds) s (take (pairsOf t) F) (take (pixelsOf t) image) (take (2 * pairsOf t) work)) codes
+      ∙ same-run shown shows t (p .rounds) (p .samples) _ _ _ (zeros (pairsOf t)) (zeros (pixelsOf t)) (zeros (2 * pairsOf t))
       (length-take-le _ F long ∙ sym (zeros-length (pairsOf t))) (front-length ∙ sym (zeros-length (pixelsOf t)))
       (length-take-le _ work workHolds ∙ sym (zeros-length (2 * pairsOf t)))
 
-  pub job-text : answerText (answerIn (p .terms) (p .rounds) flowed S F image work) (p .terms)
-      (take (pixelsOf (p .terms)) (imageIn (p .terms) (p .rounds) flowed S F image work)) ≡ readText (whole p)
+  pub job-shown : shown (answerIn (p .terms) (p .rounds) flowed S F image work)
+      (take (pixelsOf (p .terms)) (imageIn (p .terms) (p .rounds) flowed S F image work)) ≡ shown (jobAnswer p) (jobImage p)
   unfolding jobAnswer jobImage
-  job-text =
-      ap (answerText (answerIn (p .terms) (p .rounds) flowed S F image work) (p .terms))
+  job-shown =
+      ap (shown (answerIn (p .terms) (p .rounds) flowed S F image work))
       (take-at (imageFront (p .terms) (p .rounds) flowed S F image work) (drop (pixelsOf (p .terms)) image) (pixelsOf (p .terms)) (by-front flowed))
       ∙ go (eqb (length (p .flow)) 0) refl
     where
@@ -119,13 +119,20 @@ module _ (p : Progress) (samples : List ℕ) (flow image work : List ℤ) (f : F
       listed h = ⊎-elim (λ (z : length (p .flow) ≡ 0). absurd (eqb-false _ _ h z)) (λ (e : length (p .flow) ≡ pairsOf (p .terms)). e) (f .flows)
 
       go : (b : Bool) → eqb (length (p .flow)) 0 ≡ b →
-          text (not b)
-          ≡ answerText
+          front (not b)
+          ≡ shown
           (cond b (runAnswer (p .terms) (p .rounds) (p .samples) (zeros (pairsOf (p .terms))) (zeros (pixelsOf (p .terms))) (zeros (2 * pairsOf (p .terms)))) (checkAnswer (p .terms) (p .samples) (p .flow) (zeros (pixelsOf (p .terms)))))
-          (p .terms)
           (cond b (runImage (p .terms) (p .rounds) (p .samples) (zeros (pairsOf (p .terms))) (zeros (pixelsOf (p .terms))) (zeros (2 * pairsOf (p .terms)))) (checkImage (p .terms) (p .samples) (p .flow) (zeros (pixelsOf (p .terms)))))
       go true h = ran (eqb-true _ _ h)
       go false h = checked (listed h)
+
+-- of its text, of its answer alone
+text-shows : (t : Terms) → Shows (λ a values. answerText a t values)
+unfolding answerText
+text-shows t = record { alike = λ _ _ _ _. refl }
+
+answer-shows : Shows (λ (a : Answer) (_ : List ℤ). a)
+answer-shows = record { alike = λ _ _ _ _. refl }
 
 -- ---- what read's answer says of the tape
 
@@ -135,7 +142,7 @@ none-small = refl
 
 module _ (input samples : List ℕ) (flow : List ℤ) (byte : (i : ℕ) → getD input i 0 < 256) where
   abbrev tape : Parse
-  tape = parse input (length samples) (length flow)
+  tape = parse input (lentBy samples flow)
 
   -- a job: the tape is whole
   pub record Taken (t : Terms) (r : Rounds) (flowed : Bool) : Type 0 where
@@ -210,40 +217,47 @@ module _ {input samples : List ℕ} {flow : List ℤ} {byte : (i : ℕ) → getD
   held : (pixelsOf t ≤ length samples) × (pairsOf t ≤ length flow)
   held = subst (λ (u : Terms). (pixelsOf u ≤ length samples) × (pairsOf u ≤ length flow)) (sym (k .terms)) (k .fits .samplesHold, k .fits .flowHolds)
 
-  module _ {image work output : ℕ} (room : Room (length samples) (length flow) image work output) where
+  module _ {image work : ℕ} (holds : Holds (length samples) (length flow) image work) where
     pub tables : {s f : ℕ} → s ≡ length samples → f ≡ length flow → Tables t s f image work
     tables e g =
         record {
           size = allowed;
           samplesHold = omega (arith, held);
           flowHolds = omega (arith, held);
-          imageHolds = omega (arith, held, room .imageHolds);
-          workHolds = omega (arith, held, room .workHolds);
+          imageHolds = omega (arith, held, holds .imageHolds);
+          workHolds = omega (arith, held, holds .workHolds);
         }
 
-    -- the room that the text asks
-    pub enough : 125 + t .height * (22 * t .width + 1) ≤ output
-    enough =
-        let size = allowed-size allowed in
-        let low : 1 * t .height ≤ t .width * t .height = mul-le-mul-right (t .height) (size .broad) in
-        omega (arith, held, room .outputHolds)
+  -- the room that the text asks
+  pub enough : {output : ℕ} → 125 + 23 * length samples ≤ output → 125 + t .height * (22 * t .width + 1) ≤ output
+  enough room =
+      let size = allowed-size allowed in
+      let low : 1 * t .height ≤ t .width * t .height = mul-le-mul-right (t .height) (size .broad) in
+      omega (arith, held)
 
-  -- the text, and what is left in the tables
-  module _ (image work : List ℤ) {output : ℕ} (room : Room (length samples) (length flow) (length image) (length work) output)
+  -- what is shown of the job, and what is left in the tables
+  module _ (image work : List ℤ) (holds : Holds (length samples) (length flow) (length image) (length work))
       {S : List ℕ} {F : List ℤ} (s : S ≡ readSamples input samples flow) (f : F ≡ readFlow input samples flow) where
-    pub read-text : {a : Answer} {values : List ℤ} → a ≡ answerIn t r flowed S F image work → values ≡ imageIn t r flowed S F image work →
-        answerText a t (take (pixelsOf t) values) ≡ readText (parse input (length samples) (length flow))
-    read-text e g =
-        ap₂ (λ (b : Answer) (l : List ℤ). answerText b t (take (pixelsOf t) l)) e g
-        ∙ ap (λ (u : Terms). printed u r flowed S F) (k .terms)
-        ∙ ap (λ (u : Rounds). printed (k .p .terms) u flowed S F) (k .rounds)
-        ∙ ap (λ (b : Bool). printed (k .p .terms) (k .p .rounds) b S F) (k .flows)
-        ∙ ap₂ (printed (k .p .terms) (k .p .rounds) (not (eqb (length (k .p .flow)) 0))) (s ∙ samples-by input samples flow (k .is)) (f ∙ flow-by input samples flow (k .is))
-        ∙ job-text (k .p) samples flow image work (k .fits) (omega (arith, k .fits .samplesHold, room .imageHolds)) (omega (arith, k .fits .flowHolds, room .workHolds))
-        ∙ ap readText (sym (k .is))
+    read-shown : {X : Type 0} (shown : Terms → Answer → List ℤ → X) → ((u : Terms) → Shows (shown u)) →
+        {a : Answer} {values : List ℤ} → a ≡ answerIn t r flowed S F image work → values ≡ imageIn t r flowed S F image work →
+        shown t a (take (pixelsOf t) values) ≡ shown (k .p .terms) (jobAnswer (k .p)) (jobImage (k .p))
+    read-shown {X} shown shows e g =
+        ap₂ (λ (b : Answer) (l : List ℤ). shown t b (take (pixelsOf t) l)) e g
+        ∙ ap (λ (u : Terms). there u r flowed S F) (k .terms)
+        ∙ ap (λ (u : Rounds). there (k .p .terms) u flowed S F) (k .rounds)
+        ∙ ap (λ (b : Bool). there (k .p .terms) (k .p .rounds) b S F) (k .flows)
+        ∙ ap₂ (there (k .p .terms) (k .p .rounds) (not (eqb (length (k .p .flow)) 0))) (s ∙ samples-by input samples flow (k .is)) (f ∙ flow-by input samples flow (k .is))
+        ∙ job-shown (shown (k .p .terms)) (shows (k .p .terms)) (k .p) samples flow image work (k .fits) (omega (arith, k .fits .samplesHold, holds .imageHolds)) (omega (arith, k .fits .flowHolds, holds .workHolds))
       where
-        printed : Terms → Rounds → Bool → List ℕ → List ℤ → List ℕ
-        printed u q b l m = answerText (answerIn u q b l m image work) u (take (pixelsOf u) (imageIn u q b l m image work))
+        there : Terms → Rounds → Bool → List ℕ → List ℤ → X
+        there u q b l m = shown u (answerIn u q b l m image work) (take (pixelsOf u) (imageIn u q b l m image work))
+
+    pub read-text : {a : Answer} {values : List ℤ} → a ≡ answerIn t r flowed S F image work → values ≡ imageIn t r flowed S F image work →
+        answerText a t (take (pixelsOf t) values) ≡ readText (parse input (lentBy samples flow))
+    read-text e g = read-shown (λ u a values. answerText a u values) text-shows e g ∙ ap readText (sym (k .is))
+
+    pub read-answer : {a : Answer} → a ≡ answerIn t r flowed S F image work → a ≡ jobAnswer (k .p)
+    read-answer e = read-shown (λ (_ : Terms) (a : Answer) (_ : List ℤ). a) (λ _. answer-shows) e refl
 
     module _ (e : readAnswerOf (ReadResult.Job t r flowed) ≡ readAnswer input samples flow) {values : List ℤ} where
       left-by : (leaves : Terms → Rounds → Bool → List ℕ → List ℤ → List ℤ) (former : List ℤ) → values ≡ leaves t r flowed S F →

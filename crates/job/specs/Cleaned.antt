@@ -5,12 +5,11 @@ use Prim.Native.Nat.{ℕ, _+_, _*_, _≤_}
 use lib.Dec.{eqb}
 use lib.IntN.{ℤ}
 use Rattle.model.specs.Tape.{ReadAnswer, readAnswer, readSamples, readFlow}
-use Rattle.job.specs.Tables.{flowIn, imageIn, workIn}
+use Rattle.job.specs.Tables.{Holds, flowIn, imageIn, workIn}
 
 -- room for every job whose samples and flow the tables hold, and for the text of its answer
 pub record Room (samples flow image work output : ℕ) : Type 0 where
-  pub imageHolds : samples ≤ image
-  pub workHolds : 2 * flow ≤ work
+  pub holds : Holds samples flow image work
   pub outputHolds : 125 + 23 * samples ≤ output
 
 module _ (input samples : List ℕ) (flow image work : List ℤ) where

@@ -18,6 +18,11 @@ pub record Tables (t : Terms) (samples flow image work : ℕ) : Type 0 where
   pub imageHolds : pixelsOf t ≤ image
   pub workHolds : 2 * pairsOf t ≤ work
 
+-- tables that hold the image and the work of every job whose samples and flow the others hold
+pub record Holds (samples flow image work : ℕ) : Type 0 where
+  pub imageHolds : samples ≤ image
+  pub workHolds : 2 * flow ≤ work
+
 module _ (t : Terms) (r : Rounds) (flowed : Bool) (samples : List ℕ) (flow image work : List ℤ) where
   -- what the calls are lent: the tables' fronts
   abbrev samplesLent : List ℕ

@@ -7,7 +7,7 @@ use text::answer::put_answer;
 use text::line::put_refusal;
 ghost use mathlib.Core.Path.{_≡_};
 ghost use lib.ListN.{length};
-ghost use Rattle.model.specs.Tape.{parse, readSamples};
+ghost use Rattle.model.specs.Tape.{lentBy, parse, readSamples};
 ghost use Rattle.model.specs.Program.{readText};
 ghost use Rattle.output.specs.Put.{Put};
 ghost use Rattle.job.specs.Cleaned.{Room, flowLeft, imageLeft, workLeft};
@@ -22,7 +22,7 @@ pub fn clean(
     output: &mut [u8],
 ) -> usize
     requires { ⌜ Room (length (now samples)) (length (now flow)) (length (now image)) (length (now work)) (length (now output)) ⌝ }
-    ensures { λ r. ⌜ Put 0 (readText (parse (now (input .entry)) (length (now (samples .entry))) (length (now (flow .entry))))) (now (output .entry)) r (now (output .exit)) ⌝ }
+    ensures { λ r. ⌜ Put 0 (readText (parse (now (input .entry)) (lentBy (now (samples .entry)) (now (flow .entry))))) (now (output .entry)) r (now (output .exit)) ⌝ }
     ensures { λ _. ⌜ now (samples .exit) ≡ readSamples (now (input .entry)) (now (samples .entry)) (now (flow .entry)) ⌝ }
     ensures { λ _. ⌜ now (flow .exit) ≡ flowLeft (now (input .entry)) (now (samples .entry)) (now (flow .entry)) (now (image .entry)) (now (work .entry)) ⌝ }
     ensures { λ _. ⌜ now (image .exit) ≡ imageLeft (now (input .entry)) (now (samples .entry)) (now (flow .entry)) (now (image .entry)) (now (work .entry)) ⌝ }

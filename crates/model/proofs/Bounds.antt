@@ -1,5 +1,6 @@
 -- Sizes within limits never overflow 64 bits: on an allowed job every price of an image of the box, and every floor of a
--- flow within the weight, is at most `largest` in size, and twice that is below 2⁶³. Assumes nothing.
+-- flow within the weight, is at most `perPixel` for each pixel in size, so at most `largest`, and twice that is below 2⁶³.
+-- Assumes nothing.
 use mathlib.Core.Path.{_≡_, refl, sym, subst}
 use mathlib.Core.Bool.{Bool, true, false, _&&_, true≢false}
 use mathlib.Core.List.{List}
@@ -57,9 +58,13 @@ size-limits w h e =
 abbrev pub most : ℕ
 most = 65280
 
--- the data term of 2²⁰ pixels, and four times that for 2²¹ pairs, each of them doubled
+-- for each pixel: the data term, and four times that for two pairs, each of them doubled
+abbrev pub perPixel : ℕ
+perPixel = 5 * (most * most)
+
+-- .. so for 2²⁰ pixels
 abbrev pub largest : ℕ
-largest = 5 * (1048576 * (most * most))
+largest = 1048576 * perPixel
 
 pub largest-fits : 2 * largest < 2 ^ 63
 largest-fits = lit< tt
@@ -68,9 +73,9 @@ pub pairs-most : (w h : ℕ) → length (gridPairs w h) ≤ 2 * (w * h)
 pairs-most w h = omega (arith, pair-count w h)
 
 -- the data term plus twice a sum over pairs, as price and floor are made
-two-sums : (n m : ℕ) (s c : ℤ) → natAbs s ≤ n * (most * most) → natAbs c ≤ m * (most * most) → n ≤ 1048576 → m ≤ 2 * n →
-    natAbs (s +ℤ pos 2 *ℤ c) ≤ largest
-two-sums n m s c u v h k = omega (arith, natAbs-sum s (pos 2 *ℤ c), natAbs-product (pos 2) c)
+two-sums : (n m : ℕ) (s c : ℤ) → natAbs s ≤ n * (most * most) → natAbs c ≤ m * (most * most) → m ≤ 2 * n →
+    natAbs (s +ℤ pos 2 *ℤ c) ≤ n * perPixel
+two-sums n m s c u v k = omega (arith, natAbs-sum s (pos 2 *ℤ c), natAbs-product (pos 2) c)
 
 -- An allowed job: allowed terms, and the box and the samples are bytes
 pub record Allowed (t : Terms) (samples : List ℕ) : Type 0 where
@@ -114,18 +119,20 @@ module _ (t : Terms) (samples : List ℕ) (ok : Allowed t samples) where
 
     -- the data term plus twice a sum over pairs of terms that a weight times a fall bounds
     objective-bound : (c : ℕ → ℤ) → ((j : ℕ) → j < pairCount (grid t samples) → natAbs (c j) ≤ most * most) →
-        natAbs (misfit (grid t samples) x +ℤ pos 2 *ℤ total (pairCount (grid t samples)) c) ≤ largest
-    objective-bound c each =
+        natAbs (misfit (grid t samples) x +ℤ pos 2 *ℤ total (pairCount (grid t samples)) c) ≤ t .width * t .height * perPixel
+    objective-bound c every =
         two-sums (t .width * t .height) (pairCount (grid t samples)) (misfit (grid t samples) x)
-        (total (pairCount (grid t samples)) c) misfit-bound (natAbs-total (pairCount (grid t samples)) c each)
-        (ok .terms .pixels-most)
+        (total (pairCount (grid t samples)) c) misfit-bound (natAbs-total (pairCount (grid t samples)) c every)
         (pairs-most (t .width) (t .height))
 
-    pub price-bound : natAbs (price (grid t samples) x) ≤ largest
+    price-by-pixels : natAbs (price (grid t samples) x) ≤ t .width * t .height * perPixel
     unfolding price
-    price-bound = objective-bound _ (λ j l.
+    price-by-pixels = objective-bound _ (λ j l.
         subst (λ (n : ℕ). n ≤ most * most) (sym (natAbs-product (pos (t .weight)) (abs (fall (grid t samples) x j))))
         (mul-le-mul (ok .terms .weight-most) (fall-bound j l)))
+
+    pub price-bound : natAbs (price (grid t samples) x) ≤ largest
+    price-bound = omega (arith, price-by-pixels, ok .terms .pixels-most)
 
   pub image-inside : (f : ℕ → ℤ) → InBox (grid t samples) (image (grid t samples) f)
   unfolding image lowEnd highEnd
@@ -135,17 +142,18 @@ module _ (t : Terms) (samples : List ℕ) (ok : Allowed t samples) where
       (clamp-≥ (pos (256 * t .low)) (pos (256 * t .high)) z o, clamp-≤ (pos (256 * t .low)) (pos (256 * t .high)) z o)
 
   module _ (f : ℕ → ℤ) (within : Feasible (grid t samples) f) where
-    pub floor-bound : natAbs (floor (grid t samples) f) ≤ largest
+    floor-by-pixels : natAbs (floor (grid t samples) f) ≤ t .width * t .height * perPixel
     unfolding floor
-    floor-bound = objective-bound (image (grid t samples) f) (image-inside f) _ (λ j l.
+    floor-by-pixels = objective-bound (image (grid t samples) f) (image-inside f) _ (λ j l.
         subst (λ (n : ℕ). n ≤ most * most) (sym (natAbs-product (f j) (fall (grid t samples) (image (grid t samples) f) j)))
         (mul-le-mul (le-trans (within j l) (ok .terms .weight-most))
         (fall-bound (image (grid t samples) f) (image-inside f) j l)))
 
-    pub slack-bound : natAbs (slack (grid t samples) f) ≤ 2 * largest
+    pub floor-bound : natAbs (floor (grid t samples) f) ≤ largest
+    floor-bound = omega (arith, floor-by-pixels, ok .terms .pixels-most)
+
+    pub slack-by-pixels : natAbs (slack (grid t samples) f) ≤ t .width * t .height * (2 * perPixel)
     unfolding slack
-    slack-bound =
+    slack-by-pixels =
         let x : ℕ → ℤ = image (grid t samples) f in
-        let a : natAbs (price (grid t samples) x) ≤ largest = price-bound x (image-inside f) in
-        let b : natAbs (floor (grid t samples) f) ≤ largest = floor-bound in
-        omega (arith, natAbs-difference (price (grid t samples) x) (floor (grid t samples) f))
+        omega (arith, price-by-pixels x (image-inside f), floor-by-pixels, natAbs-difference (price (grid t samples) x) (floor (grid t samples) f))

@@ -12,6 +12,7 @@
 --     Tape        the job tape: records, reading, writing
 --     Text        numbers and words as ASCII
 --     Program     the cleaning program's output
+--     Season      the season report's output
 --     Values      the values that document 01 marks to be proved
 pub mod Lists
 pub mod Problem
@@ -24,4 +25,5 @@ pub mod Accepted
 pub mod Tape
 pub mod Text
 pub mod Program
+pub mod Season
 pub mod Values

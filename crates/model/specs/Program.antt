@@ -1,5 +1,5 @@
 -- The cleaning program: the text that it prints for the bytes that it reads (docs/SPECIFICATION.md, section 7).
-use mathlib.Core.Bool.{true, false, cond}
+use mathlib.Core.Bool.{Bool, true, false, cond}
 use mathlib.Core.List.{List, _++_}
 use Prim.Native.Nat.{ℕ, _*_}
 use Prim.Native.String.{String}
@@ -10,7 +10,7 @@ use Rattle.model.specs.Lists.{at, zeros, chain}
 use Rattle.model.specs.Text.{ascii, decimal, signedDecimal}
 use Rattle.model.specs.Grid.{Terms, pixel}
 use Rattle.model.specs.Calls.{Outcome, refused, checked, settled, spent, Answer, refusal, pixelsOf, pairsOf, checkAnswer, checkImage, runAnswer, runImage}
-use Rattle.model.specs.Tape.{Progress, Parse, turned, whole, parse}
+use Rattle.model.specs.Tape.{Lent, Progress, Parse, turned, whole, parse}
 
 -- the word of an outcome
 abbrev pub word : Outcome → String
@@ -83,10 +83,13 @@ abbrev pub readText : Parse → List ℕ
 readText (turned number place) = refusalText (refusal number place)
 readText (whole p) = answerText (jobAnswer p) (p .terms) (jobImage p)
 
--- It reads one tape; 17 over 65,536 bytes. Its tables hold 4,096 samples and 8,064 flow values
--- (SPECIFICATION 7.1, 7.2)
+-- The tables hold 4,096 samples and 8,064 flow values (SPECIFICATION 7.1)
+abbrev pub tables : Bool → Lent
+tables followed = record { samples = 4096; flow = 8064; followed = followed }
+
+-- It reads one tape; 17 over 65,536 bytes (SPECIFICATION 7.1, 7.2)
 unfoldable pub programText : List ℕ → List ℕ
 programText input = elim (ltb 65536 (length input)) [
   | true ↦ refusalText (refusal 17 0)
-  | false ↦ readText (parse input 4096 8064)
+  | false ↦ readText (parse input (tables false))
 ]

@@ -5,6 +5,7 @@ use Prim.Native.Nat.{ℕ, zero, suc, _+_, _-_, _*_, _/_, _%_, _^_}
 use lib.Dec.{eqb, leb, ltb}
 use lib.IntN.{ℤ, pos, negsuc, subℕ}
 use lib.ListN.{length, getD}
+pub use Rattle.model.specs.declared.Lent.{Lent}
 pub use Rattle.model.specs.declared.Entry.{Entry}
 pub use Rattle.model.specs.declared.Entry.the-variants.{End, Size, WeightBox, RoundLimits, Sample, Flow}
 use Rattle.model.specs.Lists.{chain, overwritten, at}
@@ -161,30 +162,34 @@ absorbed p (Flow f) =
 -- ---- Where reading turns back (SPECIFICATION 6.5)
 
 -- Per record at offset o, where `may` tells which kinds are allowed: 12 unknown kind; 14 kind not allowed here; 13 the
--- input ends before the record does; 15 a byte after the end. Where the input ends and a record is due there is no kind
--- to judge: that 13 stands first
-unfoldable pub recordRows : List ℕ → ℕ → (ℕ → Bool) → List Row
-recordRows tape o may =
+-- input ends before the record does; 15 a byte after the end, unless more may follow it. Where the input ends and a record
+-- is due there is no kind to judge: that 13 stands first
+unfoldable pub recordRows : Bool → List ℕ → ℕ → (ℕ → Bool) → List Row
+recordRows followed tape o may =
     let kind : ℕ = getD tape o 0 in
     row (leb (length tape) o) 13 (length tape)
     ∷ row (not (known kind)) 12 o
     ∷ row (not (may kind)) 14 o
     ∷ row (ltb (length tape) (o + 1 + bodyLength kind)) 13 (length tape)
-    ∷ row (eqb kind 0 && ltb (o + 1) (length tape)) 15 (o + 1)
+    ∷ row (not followed && (eqb kind 0 && ltb (o + 1) (length tape))) 15 (o + 1)
     ∷ []
 
+-- the numbers that say that the input ends too early
+abbrev pub tooShort : ℕ → Bool
+tooShort number = eqb number 13
+
 -- Terms are judged at their record, whose offset is the place; 16 right after 1, for all samples and all pairs, at place 0
-abbrev pub entryRows : ℕ → ℕ → ℕ → Entry → List Row
-entryRows o samplesLent flowLent End = []
-entryRows o samplesLent flowLent (Size w h) =
+abbrev pub entryRows : ℕ → Lent → Entry → List Row
+entryRows o lent End = []
+entryRows o lent (Size w h) =
     sizeRow (sized w h) o
-    ∷ row (ltb samplesLent (pixelsOf (sized w h)) || ltb flowLent (pairsOf (sized w h))) 16 0
+    ∷ row (ltb (lent .samples) (pixelsOf (sized w h)) || ltb (lent .flow) (pairsOf (sized w h))) 16 0
     ∷ []
-entryRows o samplesLent flowLent (WeightBox weight low high) =
+entryRows o lent (WeightBox weight low high) =
     weightRow (weighted (sized 0 0) weight low high) o ∷ boxRow (weighted (sized 0 0) weight low high) o ∷ []
-entryRows o samplesLent flowLent (RoundLimits q a) = roundsRow (record { quick = q; allowance = a }) o ∷ []
-entryRows o samplesLent flowLent (Sample s) = []
-entryRows o samplesLent flowLent (Flow f) = []
+entryRows o lent (RoundLimits q a) = roundsRow (record { quick = q; allowance = a }) o ∷ []
+entryRows o lent (Sample s) = []
+entryRows o lent (Flow f) = []
 
 -- ---- Reading: the tape parsed (SPECIFICATION 5.5)
 
@@ -198,17 +203,17 @@ unless Accept r = r
 unless (Refuse number place) r = turned number place
 
 -- Records from offset o on; every record takes a byte at least, so as many records as bytes are enough
-unfoldable pub parseFrom : ℕ → List ℕ → ℕ → ℕ → ℕ → Progress → Parse
-parseFrom zero tape samplesLent flowLent o p = turned 13 (length tape)
-parseFrom (suc k) tape samplesLent flowLent o p =
+unfoldable pub parseFrom : ℕ → List ℕ → Lent → ℕ → Progress → Parse
+parseFrom zero tape lent o p = turned 13 (length tape)
+parseFrom (suc k) tape lent o p =
     let kind : ℕ = getD tape o 0 in
     let entry : Entry = decoded kind (λ i. getD tape (o + 1 + i) 0) in
-    elim (firstRefusal (recordRows tape o (allowed p) ++ entryRows o samplesLent flowLent entry)) [
+    elim (firstRefusal (recordRows (lent .followed) tape o (allowed p) ++ entryRows o lent entry)) [
       | Refuse number place ↦ turned number place
       | Accept ↦
           elim (eqb kind 0) [
             | true ↦ whole p
-            | false ↦ parseFrom k tape samplesLent flowLent (o + 1 + bodyLength kind) (absorbed p entry)
+            | false ↦ parseFrom k tape lent (o + 1 + bodyLength kind) (absorbed p entry)
           ]
     ]
 
@@ -217,9 +222,8 @@ abbrev pub judged : Parse → Parse
 judged (turned number place) = turned number place
 judged (whole p) = unless (firstRefusal (flowRow (p .terms .weight) (p .flow) ∷ [])) (whole p)
 
-unfoldable pub parse : List ℕ → ℕ → ℕ → Parse
-parse tape samplesLent flowLent =
-    judged (parseFrom (suc (length tape)) tape samplesLent flowLent 0 nothing)
+unfoldable pub parse : List ℕ → Lent → Parse
+parse tape lent = judged (parseFrom (suc (length tape)) tape lent 0 nothing)
 
 -- What read gives: the job's terms and rounds, and whether a flow was there (no, where there are no pairs). Accepted:
 -- number and place are 0. Refused: zeros but for number and place (SPECIFICATION 4.3, 4.8)
@@ -257,15 +261,19 @@ abbrev pub flowAfter : Parse → List ℤ → List ℤ
 flowAfter (turned number place) former = former
 flowAfter (whole p) former = overwritten (p .flow) former
 
+-- what read is lent by these buffers; nothing may follow the end
+abbrev pub lentBy : List ℕ → List ℤ → Lent
+lentBy samples flow = record { samples = length samples; flow = length flow; followed = false }
+
 -- Read: its answer, the sample buffer and the flow buffer (untouched without flow records) (SPECIFICATION 4.8)
 unfoldable pub readAnswer : List ℕ → List ℕ → List ℤ → ReadAnswer
-readAnswer tape samples flow = readOf (parse tape (length samples) (length flow))
+readAnswer tape samples flow = readOf (parse tape (lentBy samples flow))
 
 unfoldable pub readSamples : List ℕ → List ℕ → List ℤ → List ℕ
-readSamples tape samples flow = samplesAfter (parse tape (length samples) (length flow)) samples
+readSamples tape samples flow = samplesAfter (parse tape (lentBy samples flow)) samples
 
 unfoldable pub readFlow : List ℕ → List ℕ → List ℤ → List ℤ
-readFlow tape samples flow = flowAfter (parse tape (length samples) (length flow)) flow
+readFlow tape samples flow = flowAfter (parse tape (lentBy samples flow)) flow
 
 -- ---- Writing
 

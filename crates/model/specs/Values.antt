@@ -2,24 +2,27 @@
 -- asked, and what is to be given; after them the text that it prints for the 2 by 1 job, a 2 by 2 job of our own, worked by
 -- hand, in which the order of the pairs tells, and falls whose eighth is a half or just beyond. One theorem, `values` of
 -- proofs/Values.antt, says that the definitions give it in every case (docs/SPECIFICATION.md, section 9).
-use mathlib.Core.List.{List, [], _∷_}
+use mathlib.Core.List.{List, [], _∷_, _++_}
 use Prim.Native.Nat.{ℕ, _*_}
 use lib.IntN.{ℤ, pos, negℤ}
-use Rattle.model.specs.Lists.{zeros}
+use Rattle.model.specs.Lists.{zeros, chain}
 use Rattle.model.specs.Grid.{Terms, grid}
 use Rattle.model.specs.Rounds.{eighth, nearestEighth, quickRounds}
 use Rattle.model.specs.Calls.{Rounds, checked, settled, spent, Answer, refusal, figures, pixelsOf, pairsOf, checkAnswer, checkImage, runAnswer, runFlow, runImage}
 use Rattle.model.specs.Tape.{tapeOf}
 use Rattle.model.specs.Text.{ascii}
 use Rattle.model.specs.Program.{programText}
+use Rattle.model.specs.Season.{seasonText}
 
 -- A check of a flow; a run with these rounds; the T that k quick rounds leave, Tₖ₊₁; the program's text for the job's tape
--- with these rounds and no flow; or what a quick and a steady round's step add for a fall
+-- with these rounds and no flow; the season report's text for so many such tapes and more bytes behind them; or what a
+-- quick and a steady round's step add for a fall
 pub data Asked : Type 0 where
   checking : List ℤ → Asked
   running : ℕ → ℕ → Asked
   momentum : ℕ → Asked
   printing : ℕ → ℕ → Asked
+  reporting : ℕ → ℕ → ℕ → List ℕ → Asked
   sharing : ℤ → Asked
 
 -- What is given: the answer, the flow and the image that are left; a T; bytes of text; or the two shares
@@ -50,6 +53,9 @@ ask t samples (running quick allowance) =
 ask t samples (momentum k) = number (quickRounds eighth (grid t samples) k .momentum)
 ask t samples (printing quick allowance) =
     text (programText (tapeOf t (record { quick = quick; allowance = allowance }) samples []))
+ask t samples (reporting quick allowance times behind) =
+    text
+    (seasonText (chain times (λ _. tapeOf t (record { quick = quick; allowance = allowance }) samples []) ++ behind))
 ask t samples (sharing d) = shares (eighth d) (nearestEighth d)
 
 -- The 2 by 1 job: samples 0 and 2, weight 256, box 0 to 255 (SPECIFICATION 9.1, 9.2, 9.9); a share does not depend on it (9.11)
@@ -122,6 +128,12 @@ cases =
     (call (figures checked 0 (pos 11010048) (pos 11010048) (pos 0)) (one (negℤ (pos 1280))) (pair 2048 3072))
     ∷ onePixel (running 0 100) (call (figures settled 0 (pos 0) (pos 0) (pos 0)) [] (pos 1792 ∷ []))
     ∷ twoByOne (printing 0 100) (text (ascii "outcome moved price floor slack\nsettled 17 131080 131064 16\n254 258\n"))
+    ∷ twoByOne (reporting 0 100 1 [])
+    (text (ascii "jobs 1\npixels 2\nsettled 1\nspent 0\nchecked 0\ntotal 16\nlargest 16 1\nmean 8 0\n"))
+    ∷ twoByOne (reporting 0 100 0 [])
+    (text (ascii "jobs 0\npixels 0\nsettled 0\nspent 0\nchecked 0\ntotal 0\nlargest 0 0\nmean 0 0\n"))
+    ∷ twoByOne (reporting 0 16 2 (1 ∷ 2 ∷ []))
+    (text (ascii "jobs 2\npixels 4\nsettled 0\nspent 2\nchecked 0\ntotal 72\nlargest 36 1\nmean 18 0\njob 3 refused 13 at 2\n"))
     ∷ twoByTwo (checking (pos 1 ∷ pos 2 ∷ pos 4 ∷ pos 8 ∷ []))
     (call (figures checked 0 (pos 10496153) (negℤ (pos 143513)) (pos 10639666)) (pos 1 ∷ pos 2 ∷ pos 4 ∷ pos 8 ∷ [])
     (pos 0 ∷ pos 2562 ∷ pos 5113 ∷ pos 10250 ∷ []))

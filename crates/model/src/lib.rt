@@ -1,6 +1,6 @@
 // Document 01 as definitions (specs/) and their first laws (proofs/). There is no code here but the
 // types that the definitions and the calls of the crates above share: terms and rounds of a job,
-// a verdict, and a record of the tape.
+// a verdict, a record of the tape, what a reading of a tape is lent, and the numbers of a season.
 
 // Terms of a job without its rounds: size, weight W in sub-units, and the box in levels.
 pub struct Terms {
@@ -31,4 +31,25 @@ pub enum Entry {
     RoundLimits { quick: u32, allowance: u16 },
     Sample { code: u8 },
     Flow { value: i32 },
+}
+
+// What a reading of a tape is lent and allowed: the lengths of the sample and the flow buffer, and
+// whether the end record may be followed by more bytes.
+pub struct Lent {
+    pub samples: usize,
+    pub flow: usize,
+    pub followed: bool,
+}
+
+// The numbers of a season: jobs, their pixels, how many ended in each way, the sum of their slacks,
+// the largest slack, and the first job that has it, counted from 1.
+pub struct Totals {
+    pub jobs: u32,
+    pub pixels: u64,
+    pub settled: u32,
+    pub spent: u32,
+    pub checked: u32,
+    pub total: u64,
+    pub largest: u64,
+    pub first: u32,
 }

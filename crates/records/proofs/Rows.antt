@@ -29,19 +29,19 @@ form-known kind ok {b} {a} h = go (known kind) h
     go true e = (refl, cc, cc)
     go false e = (cc, cc, cc)
 
-module _ (tape : List ℕ) (o : ℕ) (may : ℕ → Bool) where
+module _ (followed : Bool) (tape : List ℕ) (o : ℕ) (may : ℕ → Bool) where
   -- the input ends where a record is due
-  pub ended : length tape ≤ o → firstRefusal (recordRows tape o may) ≡ Verdict.Refuse 13 (length tape)
+  pub ended : length tape ≤ o → firstRefusal (recordRows followed tape o may) ≡ Verdict.Refuse 13 (length tape)
   unfolding recordRows
   ended h = refused _ _ (le-leb (length tape) o h)
 
   module _ (h : o < length tape) where
-    pub unknown-kind : known (getD tape o 0) ≡ false → firstRefusal (recordRows tape o may) ≡ Verdict.Refuse 12 o
+    pub unknown-kind : known (getD tape o 0) ≡ false → firstRefusal (recordRows followed tape o may) ≡ Verdict.Refuse 12 o
     unfolding recordRows
     unknown-kind k = passed _ _ (lt-leb (length tape) o h) ∙ refused _ _ (ap not k)
 
     pub known-kind : known (getD tape o 0) ≡ true →
-        firstRefusal (recordRows tape o may)
-        ≡ firstRefusal (bodyRows (length tape) o (getD tape o 0) (bodyLength (getD tape o 0)) (may (getD tape o 0)))
+        firstRefusal (recordRows followed tape o may)
+        ≡ firstRefusal (bodyRows followed (length tape) o (getD tape o 0) (bodyLength (getD tape o 0)) (may (getD tape o 0)))
     unfolding recordRows
     known-kind k = passed _ _ (lt-leb (length tape) o h) ∙ passed _ _ (ap not k)

@@ -16,11 +16,11 @@ abbrev pub formOf : ℕ → Bool → Form
 formOf kind ok = cond (known kind) (Form.Body (bodyLength kind) ok) Form.Unknown
 
 -- the rows of a record at offset o whose kind is known: 14, 13, 15
-abbrev pub bodyRows : ℕ → ℕ → ℕ → ℕ → Bool → List Row
-bodyRows len o kind body ok =
+abbrev pub bodyRows : Bool → ℕ → ℕ → ℕ → ℕ → Bool → List Row
+bodyRows followed len o kind body ok =
     row (not ok) 14 o
     ∷ row (ltb len (o + 1 + body)) 13 len
-    ∷ row (eqb kind 0 && ltb (o + 1) len) 15 (o + 1)
+    ∷ row (not followed && (eqb kind 0 && ltb (o + 1) len)) 15 (o + 1)
     ∷ []
 
 -- the record at offset o with the offset of the next
@@ -29,11 +29,11 @@ recordAt tape o =
     Got.Record (decoded (getD tape o 0) (λ i. getD tape (o + 1 + i) 0)) (record { at = o + 1 + bodyLength (getD tape o 0) })
 
 -- that record where its kind is known, or the refusal of the first row that applies
-abbrev pub wholeAt : List ℕ → ℕ → Bool → Got
-wholeAt tape o ok =
-    decided (firstRefusal (bodyRows (length tape) o (getD tape o 0) (bodyLength (getD tape o 0)) ok)) (recordAt tape o)
+abbrev pub wholeAt : Bool → List ℕ → ℕ → Bool → Got
+wholeAt followed tape o ok =
+    decided (firstRefusal (bodyRows followed (length tape) o (getD tape o 0) (bodyLength (getD tape o 0)) ok)) (recordAt tape o)
     Got.Refused
 
 -- the same of any kind, by the model's rows
-unfoldable pub gotAt : List ℕ → ℕ → Tally → Got
-gotAt tape o t = decided (firstRefusal (recordRows tape o (may t))) (recordAt tape o) Got.Refused
+unfoldable pub gotAt : Bool → List ℕ → ℕ → Tally → Got
+gotAt followed tape o t = decided (firstRefusal (recordRows followed tape o (may t))) (recordAt tape o) Got.Refused

@@ -9,7 +9,7 @@ ghost use mathlib.Core.Path.{_≡_};
 ghost use Prim.Native.Nat.{_+_, _≤_, _<_};
 ghost use lib.ListN.{length, getD};
 ghost use Rattle.model.specs.Verdict.{firstRefusal};
-ghost use Rattle.model.specs.Tape.{bodyLength, decoded};
+ghost use Rattle.model.specs.Tape.{bodyLength, decoded, tooShort};
 ghost use Rattle.records.specs.Tally.{may};
 ghost use Rattle.records.specs.Record.{formOf, bodyRows, wholeAt, gotAt};
 
@@ -53,10 +53,17 @@ pub fn form_of(kind: u8, t: Tally) -> Form
     }
 }
 
-// The rows of a record whose kind is known: 14, 13, 15.
-fn judge_body(len: usize, at: usize, kind: u8, body: usize, allowed: bool) -> Verdict
+// The rows of a record whose kind is known: 14, 13, 15 (unless more may follow the end).
+fn judge_body(
+    len: usize,
+    at: usize,
+    kind: u8,
+    body: usize,
+    allowed: bool,
+    followed: bool,
+) -> Verdict
     requires { ⌜ at < len ⌝ }
-    ensures { λ r. ⌜ r ≡ firstRefusal (bodyRows len at kind body allowed) ⌝ }
+    ensures { λ r. ⌜ r ≡ firstRefusal (bodyRows followed len at kind body allowed) ⌝ }
 {
     let next = at + 1;
     if !allowed {
@@ -71,14 +78,21 @@ fn judge_body(len: usize, at: usize, kind: u8, body: usize, allowed: bool) -> Ve
             place: len,
         };
     }
-    let followed = (kind == 0) & (next < len);
-    if followed {
+    let refused = !followed & ((kind == 0) & (next < len));
+    if refused {
         return Verdict::Refuse {
             number: 15,
             place: next,
         };
     }
     Verdict::Accept
+}
+
+// Whether a refusal says that the input ends too early.
+pub fn too_short(number: u32) -> bool
+    ensures { λ r. ⌜ r ≡ tooShort number ⌝ }
+{
+    number == 13
 }
 
 // The numbers of the record at an offset, whose body is whole.
@@ -122,12 +136,12 @@ pub enum Got {
 }
 
 // The record at an offset, whose kind is known.
-fn whole_record(tape: &[u8], at: usize, body: usize, allowed: bool) -> Got
+fn whole_record(tape: &[u8], at: usize, body: usize, allowed: bool, followed: bool) -> Got
     requires { ⌜ (at < length (now tape)) × (body ≡ bodyLength (getD (now tape) at 0)) ⌝ }
-    ensures { λ r. ⌜ r ≡ wholeAt (now (tape .entry)) at allowed ⌝ }
+    ensures { λ r. ⌜ r ≡ wholeAt followed (now (tape .entry)) at allowed ⌝ }
 {
     let kind = tape[at];
-    let v = judge_body(tape.len(), at, kind, body, allowed);
+    let v = judge_body(tape.len(), at, kind, body, allowed, followed);
     match v {
         Verdict::Refuse { number, place } => Got::Refused(number, place),
         Verdict::Accept => {
@@ -137,9 +151,9 @@ fn whole_record(tape: &[u8], at: usize, body: usize, allowed: bool) -> Got
     }
 }
 
-// The record at an offset of the tape.
-pub fn next_record(tape: &[u8], at: usize, t: Tally) -> Got
-    ensures { λ r. ⌜ r ≡ gotAt (now (tape .entry)) at t ⌝ }
+// The record at an offset of the tape, whose end may be followed by more bytes or not.
+pub fn next_record(tape: &[u8], at: usize, t: Tally, followed: bool) -> Got
+    ensures { λ r. ⌜ r ≡ gotAt followed (now (tape .entry)) at t ⌝ }
 {
     if tape.len() <= at {
         return Got::Refused(13, tape.len());
@@ -147,6 +161,6 @@ pub fn next_record(tape: &[u8], at: usize, t: Tally) -> Got
     let f = form_of(tape[at], t);
     match f {
         Form::Unknown => Got::Refused(12, at),
-        Form::Body { body, allowed } => whole_record(tape, at, body, allowed),
+        Form::Body { body, allowed } => whole_record(tape, at, body, allowed, followed),
     }
 }

@@ -26,7 +26,7 @@ use Rattle.model.proofs.Lists.{last}
 use Rattle.model.proofs.Refusals.{accepted-row}
 use Rattle.model.proofs.Bounds.{both-true}
 use Rattle.model.proofs.Accepted.{neither}
-use Rattle.steps.specs.declared.Lent.{Lent}
+use Rattle.model.specs.declared.Lent.{Lent}
 use Rattle.steps.specs.declared.Step.{Step}
 use Rattle.records.proofs.Digits.{four-fits}
 use Rattle.roundtrip.proofs.Sequences.{listed, listed-snoc}
@@ -95,7 +95,7 @@ module _ (lent : Lent) (p : Progress) (s : Sound lent p) (o : ℕ) where
       ∙ sym (ap (λ (l : List ℕ). l ++ encoded e)
       (header-only p (empty .0) (empty .1) ∙ ap (λ (n : ℕ). headerBytes n (p .terms) (p .rounds)) is))
 
-  grown-size : (w h : ℕ) → p .header ≡ 0 → firstRefusal (entryRows o (lent .samples) (lent .flow) (Size w h)) ≡ Verdict.Accept → Grown (Size w h)
+  grown-size : (w h : ℕ) → p .header ≡ 0 → firstRefusal (entryRows o lent (Size w h)) ≡ Verdict.Accept → Grown (Size w h)
   unfolding headerBytes
   grown-size w h z v =
       let empty = s .early (omega arith) in
@@ -114,7 +114,7 @@ module _ (lent : Lent) (p : Progress) (s : Sound lent p) (o : ℕ) where
         header-grows (absorbed p (Size w h)) (Size w h) empty refl refl z refl,
       )
 
-  grown-weight : (weight low high : ℕ) → p .header ≡ 1 → firstRefusal (entryRows o (lent .samples) (lent .flow) (WeightBox weight low high)) ≡ Verdict.Accept →
+  grown-weight : (weight low high : ℕ) → p .header ≡ 1 → firstRefusal (entryRows o lent (WeightBox weight low high)) ≡ Verdict.Accept →
       Grown (WeightBox weight low high)
   unfolding headerBytes
   grown-weight weight low high z v =
@@ -134,7 +134,7 @@ module _ (lent : Lent) (p : Progress) (s : Sound lent p) (o : ℕ) where
         header-grows (absorbed p (WeightBox weight low high)) (WeightBox weight low high) empty refl refl z refl,
       )
 
-  grown-rounds : (q a : ℕ) → p .header ≡ 2 → firstRefusal (entryRows o (lent .samples) (lent .flow) (RoundLimits q a)) ≡ Verdict.Accept → a < 65536 →
+  grown-rounds : (q a : ℕ) → p .header ≡ 2 → firstRefusal (entryRows o lent (RoundLimits q a)) ≡ Verdict.Accept → a < 65536 →
       Grown (RoundLimits q a)
   unfolding headerBytes
   grown-rounds q a z v small =
@@ -203,7 +203,7 @@ module _ (lent : Lent) (p : Progress) (s : Sound lent p) (o : ℕ) where
 
   -- any record that is allowed
   grown : (kind : ℕ) (b : ℕ → ℕ) → known kind ≡ true → allowed p kind ≡ true → ¬ (kind ≡ 0) →
-      firstRefusal (entryRows o (lent .samples) (lent .flow) (decoded kind b)) ≡ Verdict.Accept → ((i : ℕ) → b i < 256) → Grown (decoded kind b)
+      firstRefusal (entryRows o lent (decoded kind b)) ≡ Verdict.Accept → ((i : ℕ) → b i < 256) → Grown (decoded kind b)
   unfolding allowedAfter
   grown zero b k a z v h = absurd (z refl)
   grown (suc zero) b k a z v h = grown-size _ _ (eqb-true _ 0 a) v
@@ -234,7 +234,7 @@ module _ (tape : List ℕ) (lent : Lent) (byte : (i : ℕ) → getD tape i 0 < 2
     pub flow : (length (p .flow) ≡ 0) ⊎ (length (p .flow) ≡ pairsOf (p .terms))
     pub bytes : tape ≡ tapeOf (p .terms) (p .rounds) (p .samples) (p .flow)
 
-  module _ (o : ℕ) (p : Progress) (g : Good o p) (h : Passed tape o (allowed p)) where
+  module _ (o : ℕ) (p : Progress) (g : Good o p) (h : Passed (lent .followed) tape o (allowed p)) where
     growing : termsVerdict tape lent o ≡ Verdict.Accept → ¬ (getD tape o 0 ≡ 0) → Good (nextAt tape o) (absorbed p (entryAt tape o))
     growing v z =
         let more = grown lent p (g .sound) o (getD tape o 0) (λ i. getD tape (o + 1 + i) 0) (h .isKnown) (h .isAllowed) z v (λ i. byte (o + 1 + i)) in
@@ -246,15 +246,15 @@ module _ (tape : List ℕ) (lent : Lent) (byte : (i : ℕ) → getD tape i 0 < 2
           sound = more .0;
         }
 
-    all : getD tape o 0 ≡ 0 → tape ≡ soFar p ++ encoded End
-    all z =
-        sym (take-all (nextAt tape o) tape (omega (arith, h .last z)))
+    all : lent .followed ≡ false → getD tape o 0 ≡ 0 → tape ≡ soFar p ++ encoded End
+    all alone z =
+        sym (take-all (nextAt tape o) tape (omega (arith, h .last alone z)))
         ∙ take-next tape o (h .isKnown) (h .inside) (h .fits) byte
         ∙ ap₂ (λ (l : List ℕ) (n : ℕ). l ++ encoded (decoded n (λ i. getD tape (o + 1 + i) 0))) (g .bytes) z
 
-    ending : getD tape o 0 ≡ 0 → Job p
+    ending : lent .followed ≡ false → getD tape o 0 ≡ 0 → Job p
     unfolding allowedAfter soFar headerBytes sampleBytes flowBytes tapeOf
-    ending z =
+    ending alone z =
         let c = both-true (eqb (p .header) 3 && eqb (length (p .samples)) (pixelsOf (p .terms))) _ (subst (λ (n : ℕ). allowed p n ≡ true) z (h .isAllowed)) in
         let d = both-true (eqb (p .header) 3) _ (c .0) in
         record {
@@ -262,7 +262,7 @@ module _ (tape : List ℕ) (lent : Lent) (byte : (i : ℕ) → getD tape i 0 < 2
           complete = eqb-true _ 3 (d .0);
           samples = eqb-true _ _ (d .1);
           flow = either (c .1);
-          bytes = all z ∙ ap (λ (n : ℕ). headerBytes n (p .terms) (p .rounds) ++ sampleBytes (p .samples) ++ flowBytes (p .flow) ++ encoded End) (eqb-true (p .header) 3 (d .0));
+          bytes = all alone z ∙ ap (λ (n : ℕ). headerBytes n (p .terms) (p .rounds) ++ sampleBytes (p .samples) ++ flowBytes (p .flow) ++ encoded End) (eqb-true (p .header) 3 (d .0));
         }
       where
         go : (a b : Bool) → (a || b) ≡ true → (a ≡ true) ⊎ (b ≡ true)
@@ -272,20 +272,20 @@ module _ (tape : List ℕ) (lent : Lent) (byte : (i : ℕ) → getD tape i 0 < 2
         either : (eqb (length (p .flow)) 0 || eqb (length (p .flow)) (pairsOf (p .terms))) ≡ true → (length (p .flow) ≡ 0) ⊎ (length (p .flow) ≡ pairsOf (p .terms))
         either t = ⊎-elim (λ (e : eqb (length (p .flow)) 0 ≡ true). inl (eqb-true _ 0 e)) (λ (e : eqb (length (p .flow)) (pairsOf (p .terms)) ≡ true). inr (eqb-true _ _ e)) (go _ _ t)
 
-  laid : (k o : ℕ) (p q : Progress) → Good o p → parseFrom k tape (lent .samples) (lent .flow) o p ≡ whole q → Job q
+  laid : lent .followed ≡ false → (k o : ℕ) (p q : Progress) → Good o p → parseFrom k tape lent o p ≡ whole q → Job q
   unfolding parseFrom
-  laid zero o p q g e = let z : _≡_ {A = ℕ} 0 1 = cc in absurd (omega arith)
-  laid (suc k) o p q g e = go (turn tape lent k o p) e (laid k)
+  laid alone zero o p q g e = let z : _≡_ {A = ℕ} 0 1 = cc in absurd (omega arith)
+  laid alone (suc k) o p q g e = go (turn tape lent k o p) e (laid alone k)
     where
       go : {s : Step} {r : Parse} → Turn tape lent k o p s r → r ≡ whole q →
-          ((o : ℕ) (p q : Progress) → Good o p → parseFrom k tape (lent .samples) (lent .flow) o p ≡ whole q → Job q) → Job q
+          ((o : ℕ) (p q : Progress) → Good o p → parseFrom k tape lent o p ≡ whole q → Job q) → Job q
       go (Turn.refuse n f _) w ih = let z : _≡_ {A = ℕ} 0 1 = cc in absurd (omega arith)
-      go (Turn.done h z) w ih = subst Job (cc) (ending o p g h z)
+      go (Turn.done h z) w ih = subst Job (cc) (ending o p g h alone z)
       go (Turn.more h v z) w ih = ih _ _ q (growing o p g h v z) w
 
-  pub accepted-job : (q : Progress) → parseFrom (suc (length tape)) tape (lent .samples) (lent .flow) 0 nothing ≡ whole q → Job q
+  pub accepted-job : lent .followed ≡ false → (q : Progress) → parseFrom (suc (length tape)) tape lent 0 nothing ≡ whole q → Job q
   unfolding soFar headerBytes sampleBytes flowBytes chain
-  accepted-job q e = laid (suc (length tape)) 0 nothing q (record { bytes = refl; sound = start }) e
+  accepted-job alone q e = laid alone (suc (length tape)) 0 nothing q (record { bytes = refl; sound = start }) e
     where
       start : Sound lent nothing
       start =

@@ -9,17 +9,17 @@ use borrow.Author.Tests.{lt-ltb, le-ltb, ltb-false}
 use Rattle.model.specs.declared.Verdict.{Verdict}
 use Rattle.model.specs.Verdict.{firstRefusal}
 use Rattle.model.specs.Calls.{firstBeyond, flowRow}
-use Rattle.model.specs.Tape.{Progress, nothing, Parse, turned, whole, parseFrom, unless, judged, parse, readOf, readAnswer, readSamples, readFlow, samplesAfter, flowAfter}
+use Rattle.model.specs.Tape.{Progress, nothing, Parse, turned, whole, parseFrom, unless, judged, parse, readOf, readAnswer, readSamples, readFlow, samplesAfter, flowAfter, lentBy}
 use Rattle.model.proofs.Refusals.{accepted, refused, passed, accepted-row, refused-number}
-use Rattle.steps.specs.declared.Lent.{Lent}
+use Rattle.model.specs.declared.Lent.{Lent}
 use Rattle.steps.specs.declared.Step.{Step}
 use Rattle.steps.proofs.Turns.{Turn, turn}
 
 module _ (tape : List ℕ) (samples : List ℕ) (flow : List ℤ) where
   abbrev pub all : Parse
-  all = parseFrom (suc (length tape)) tape (length samples) (length flow) 0 nothing
+  all = parseFrom (suc (length tape)) tape (lentBy samples flow) 0 nothing
 
-  pub refused-parse : {n q : ℕ} → all ≡ turned n q → parse tape (length samples) (length flow) ≡ turned n q
+  pub refused-parse : {n q : ℕ} → all ≡ turned n q → parse tape (lentBy samples flow) ≡ turned n q
   unfolding parse
   refused-parse e = ap judged e
 
@@ -27,16 +27,16 @@ module _ (tape : List ℕ) (samples : List ℕ) (flow : List ℤ) where
     abbrev first : ℕ
     first = firstBeyond (p .terms .weight) (p .flow)
 
-    pub beyond-parse : first < length (p .flow) → parse tape (length samples) (length flow) ≡ turned 8 first
+    pub beyond-parse : first < length (p .flow) → parse tape (lentBy samples flow) ≡ turned 8 first
     unfolding parse
     beyond-parse h = ap judged e ∙ ap (λ (v : Verdict). unless v (whole p)) (refused _ _ (lt-ltb _ _ h))
 
-    pub whole-parse : length (p .flow) ≤ first → parse tape (length samples) (length flow) ≡ whole p
+    pub whole-parse : length (p .flow) ≤ first → parse tape (lentBy samples flow) ≡ whole p
     unfolding parse
     whole-parse h = ap judged e ∙ ap (λ (v : Verdict). unless v (whole p)) (passed _ _ (le-ltb _ _ h) ∙ accepted)
 
   -- the answer and the buffers by the parse
-  module _ {r : Parse} (e : parse tape (length samples) (length flow) ≡ r) where
+  module _ {r : Parse} (e : parse tape (lentBy samples flow) ≡ r) where
     pub answer-by : readAnswer tape samples flow ≡ readOf r
     unfolding readAnswer
     answer-by = ap readOf e
@@ -52,13 +52,13 @@ module _ (tape : List ℕ) (samples : List ℕ) (flow : List ℤ) where
 -- ---- an answer with number 0 is an acceptance
 
 turned-number : (tape : List ℕ) (lent : Lent) (k o : ℕ) (p : Progress) {n q : ℕ} →
-    parseFrom k tape (lent .samples) (lent .flow) o p ≡ turned n q → 0 < n
+    parseFrom k tape lent o p ≡ turned n q → 0 < n
 unfolding parseFrom
 turned-number tape lent zero o p {n} e = let z : _≡_ {A = ℕ} 13 n = cc in omega arith
 turned-number tape lent (suc k) o p {n} {q} e = go (turn tape lent k o p) e (λ o p. turned-number tape lent k o p)
   where
     go : {s : Step} {r : Parse} → Turn tape lent k o p s r → r ≡ turned n q →
-        ((o : ℕ) (p : Progress) → parseFrom k tape (lent .samples) (lent .flow) o p ≡ turned n q → 0 < n) → 0 < n
+        ((o : ℕ) (p : Progress) → parseFrom k tape lent o p ≡ turned n q → 0 < n) → 0 < n
     go (Turn.refuse m l h) w ih = let same : m ≡ n = cc in omega arith
     go (Turn.done h z) w ih = let z : _≡_ {A = ℕ} 0 1 = cc in absurd (omega arith)
     go (Turn.more h v z) w ih = ih _ _ w
@@ -69,7 +69,7 @@ unless-whole p Verdict.Accept e = (refl, cc)
 unless-whole p (Verdict.Refuse n o) e = (cc, cc)
 
 module _ (tape : List ℕ) (samples : List ℕ) (flow : List ℤ) where
-  pub passed-parse : (p : Progress) → parse tape (length samples) (length flow) ≡ whole p →
+  pub passed-parse : (p : Progress) → parse tape (lentBy samples flow) ≡ whole p →
       (all tape samples flow ≡ whole p) × (length (p .flow) ≤ firstBeyond (p .terms .weight) (p .flow))
   unfolding parse
   passed-parse p h = go (all tape samples flow) refl h
@@ -82,7 +82,7 @@ module _ (tape : List ℕ) (samples : List ℕ) (flow : List ℤ) where
           let l : length (o .flow) ≤ firstBeyond (o .terms .weight) (o .flow) = ltb-false _ _ (accepted-row _ _ (c .0) .0) in
           (e ∙ ap whole (c .1), subst (λ (x : Progress). length (x .flow) ≤ firstBeyond (x .terms .weight) (x .flow)) (c .1) l)
 
-  pub accepted-parse : readAnswer tape samples flow .number ≡ 0 → (p : Progress) × (parse tape (length samples) (length flow) ≡ whole p)
+  pub accepted-parse : readAnswer tape samples flow .number ≡ 0 → (p : Progress) × (parse tape (lentBy samples flow) ≡ whole p)
   unfolding readAnswer parse
   accepted-parse h = go (all tape samples flow) refl h
     where
@@ -94,5 +94,5 @@ module _ (tape : List ℕ) (samples : List ℕ) (flow : List ℤ) where
 
       go : (r : Parse) → all tape samples flow ≡ r → readOf (judged r) .number ≡ 0 → (p : Progress) × (judged r ≡ whole p)
       go (turned n q) e z =
-          absurd (omega (arith, turned-number tape (record { samples = length samples; flow = length flow }) (suc (length tape)) 0 nothing e))
+          absurd (omega (arith, turned-number tape (lentBy samples flow) (suc (length tape)) 0 nothing e))
       go (whole o) e z = decide o _ refl z

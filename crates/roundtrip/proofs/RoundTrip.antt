@@ -17,11 +17,11 @@ use Rattle.model.specs.declared.Rounds.{Rounds}
 use Rattle.model.specs.declared.Entry.the-variants.{End, Size, WeightBox, RoundLimits, Sample, Flow}
 use Rattle.model.specs.Lists.{at, overwritten}
 use Rattle.model.specs.Calls.{pixelsOf, pairsOf, firstBeyond}
-use Rattle.model.specs.Tape.{Progress, nothing, allowedAfter, Parse, whole, parseFrom, ReadAnswer, readAnswer, readSamples, readFlow, tapeOf, WriteAnswer, writeAnswer, writeOutput}
+use Rattle.model.specs.Tape.{Progress, nothing, allowedAfter, Parse, whole, parseFrom, ReadAnswer, readAnswer, readSamples, readFlow, tapeOf, WriteAnswer, writeAnswer, writeOutput, lentBy}
 use Rattle.model.proofs.Refusals.{accepted, passed}
 use Rattle.model.specs.Accepted.{JobAllowed, ReadAllowed}
 use Rattle.model.proofs.Accepted.{terms-pass, rounds-pass, flow-passes, write-accepted}
-use Rattle.steps.specs.declared.Lent.{Lent}
+use Rattle.model.specs.declared.Lent.{Lent}
 use Rattle.roundtrip.specs.RoundTrip.{Reads, ReadsBack, WritesBack, flowCount}
 use Rattle.roundtrip.proofs.Offsets.{tape-length, sample-here, flow-here, end-here, header-here}
 use Rattle.roundtrip.proofs.WriteRows.{accepted-answer, written-answer, written-output}
@@ -45,7 +45,7 @@ module _ (t : Terms) (r : Rounds) (s : List ℕ) (f : List ℤ) (w : JobAllowed 
   after read numbers = record { header = 3; terms = t; rounds = r; samples = read; flow = numbers }
 
   abbrev from : ℕ → ℕ → Progress → Parse
-  from k o p = parseFrom k tape (lent .samples) (lent .flow) o p
+  from k o p = parseFrom k tape lent o p
 
   header-read : (k : ℕ) → from (suc (suc (suc k))) 0 nothing ≡ from k 15 (after [] [])
   unfolding allowedAfter
@@ -118,7 +118,7 @@ module _ (t : Terms) (r : Rounds) (s : List ℕ) (f : List ℤ) (w : JobAllowed 
           (λ (g : length f ≡ pairsOf t). ap (λ (b : Bool). eqb (length f) 0 || b) (eq-eqb (length f) (pairsOf t) g) ∙ or-true (eqb (length f) 0))
           (w .flow-length)
 
-  pub reads-back : parseFrom (suc (length tape)) tape (lent .samples) (lent .flow) 0 nothing ≡ whole (after s f)
+  pub reads-back : parseFrom (suc (length tape)) tape lent 0 nothing ≡ whole (after s f)
   reads-back =
       let spare : ℕ = 13 + length s + 4 * length f in
       let fuel : suc (length tape) ≡ suc (suc (suc (length s + (length f + suc spare)))) = omega (arith, tape-length t r s f) in
@@ -143,7 +143,7 @@ written-reads-back t r s f output small answer samples flow long broad =
     let count = ap (λ (a : WriteAnswer). a .count) (written-answer t r s f output v) in
     let same : tapeOf t r s f ≡ take (writeAnswer t r s f output .count) (writeOutput t r s f output) =
     sym (ap₂ take count (written-output t r s f output v) ∙ take-append-seam (tapeOf t r s f) (drop (length (tapeOf t r s f)) output)) in
-    let lent : Lent = record { samples = length samples; flow = length flow } in
+    let lent : Lent = lentBy samples flow in
     let p : Progress = record { header = 3; terms = t; rounds = r; samples = s; flow = f } in
     let read = whole-parse (tapeOf t r s f) samples flow p (reads-back t r s f w small lent (long, broad)) (within-first w) in
     subst (λ (tape : List ℕ). Reads t r s f tape samples flow) same
@@ -204,8 +204,8 @@ pub read-writes-back : (tape : List ℕ) → ((i : ℕ) → getD tape i 0 < 256)
 read-writes-back tape byte samples flow number =
     let (p, e) = accepted-parse tape samples flow number in
     let (all-read, within) = passed-parse tape samples flow p e in
-    let lent : Lent = record { samples = length samples; flow = length flow } in
-    let j : Job tape lent byte p = accepted-job tape lent byte p all-read in
+    let lent : Lent = lentBy samples flow in
+    let j : Job tape lent byte p = accepted-job tape lent byte refl p all-read in
     let answer = answer-by tape samples flow e in
     let codes : take (pixelsOf (readAnswer tape samples flow .terms)) (readSamples tape samples flow) ≡ p .samples =
     ap₂ (λ (a : ReadAnswer) (b : List ℕ). take (pixelsOf (a .terms)) b) answer (samples-by tape samples flow e)
@@ -234,13 +234,13 @@ pub read-number : (tape : List ℕ) → ((i : ℕ) → getD tape i 0 < 256) → 
 read-number tape byte samples flow = (allowed, taken)
   where
     lent : Lent
-    lent = record { samples = length samples; flow = length flow }
+    lent = lentBy samples flow
 
     allowed : readAnswer tape samples flow .number ≡ 0 → ReadAllowed tape samples flow
     allowed z =
         let (p, e) = accepted-parse tape samples flow z in
         let (all-read, within) = passed-parse tape samples flow p e in
-        let j : Job tape lent byte p = accepted-job tape lent byte p all-read in
+        let j : Job tape lent byte p = accepted-job tape lent byte refl p all-read in
         let size = j .sound .size (omega (arith, j .complete)) in
         record {
           terms = p .terms;

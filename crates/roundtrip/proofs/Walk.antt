@@ -13,24 +13,25 @@ use Rattle.model.specs.declared.Entry.the-variants.{End, Size, WeightBox, Round
 use Rattle.model.specs.Verdict.{firstRefusal}
 use Rattle.model.specs.Tape.{known, bodyLength, encoded, Progress, allowed, absorbed, recordRows, entryRows, whole, parseFrom}
 use Rattle.model.proofs.Refusals.{accepted, passed}
-use Rattle.steps.specs.declared.Lent.{Lent}
+use Rattle.model.specs.declared.Lent.{Lent}
 use Rattle.steps.proofs.Turns.{nextAt, termsVerdict, Passed, unrolled-on, unrolled-end}
 use Rattle.roundtrip.proofs.Entries.{Ranged, kindOf, kind-here, entry-here}
 
 -- the rows of a record accept it
-record-passes : (tape : List ℕ) (o : ℕ) (may : ℕ → Bool) → Passed tape o may → firstRefusal (recordRows tape o may) ≡ Verdict.Accept
+pub record-passes : (followed : Bool) (tape : List ℕ) (o : ℕ) (may : ℕ → Bool) → Passed followed tape o may → firstRefusal (recordRows followed tape o may) ≡ Verdict.Accept
 unfolding recordRows
-record-passes tape o may h =
+record-passes followed tape o may h =
     passed _ _ (lt-leb (length tape) o (h .inside))
     ∙ passed _ _ (ap not (h .isKnown))
     ∙ passed _ _ (ap not (h .isAllowed))
     ∙ passed _ _ (le-ltb (length tape) (nextAt tape o) (h .fits))
-    ∙ passed _ _ (after (getD tape o 0) (h .last))
+    ∙ passed _ _ (after followed (getD tape o 0) (h .last))
     ∙ accepted
   where
-    after : (kind : ℕ) → (kind ≡ 0 → length tape ≤ o + 1) → (eqb kind 0 && ltb (o + 1) (length tape)) ≡ false
-    after zero l = le-ltb (o + 1) (length tape) (l refl)
-    after (suc k) l = ap (λ (t : Bool). t && ltb (o + 1) (length tape)) (ne-eqb (suc k) 0 (λ z. absurd (omega arith)))
+    after : (f : Bool) (kind : ℕ) → (f ≡ false → kind ≡ 0 → length tape ≤ o + 1) → (not f && (eqb kind 0 && ltb (o + 1) (length tape))) ≡ false
+    after true kind l = refl
+    after false zero l = le-ltb (o + 1) (length tape) (l refl refl)
+    after false (suc k) l = ap (λ (t : Bool). t && ltb (o + 1) (length tape)) (ne-eqb (suc k) 0 (λ z. absurd (omega arith)))
 
 encoded-size : (e : Entry) → length (encoded e) ≡ suc (bodyLength (kindOf e))
 encoded-size End = refl
@@ -49,7 +50,7 @@ kind-known (Sample s) = refl
 kind-known (Flow f) = refl
 
 module _ (tape : List ℕ) (lent : Lent) (k o : ℕ) (p : Progress) (e : Entry) (rest : List ℕ) (here : drop o tape ≡ encoded e ++ rest)
-    (may : allowed p (kindOf e) ≡ true) (v : firstRefusal (entryRows o (lent .samples) (lent .flow) e) ≡ Verdict.Accept) where
+    (may : allowed p (kindOf e) ≡ true) (v : firstRefusal (entryRows o lent e) ≡ Verdict.Accept) where
   kind : getD tape o 0 ≡ kindOf e
   kind = kind-here tape o e rest here
 
@@ -61,14 +62,14 @@ module _ (tape : List ℕ) (lent : Lent) (k o : ℕ) (p : Progress) (e : Entry) 
   fills : length tape ≡ o + length (encoded e) + length rest
   fills = omega (arith, length-drop o tape, ap length here, length-append (encoded e) rest, encoded-size e)
 
-  passes : (kindOf e ≡ 0 → length rest ≡ 0) → Passed tape o (allowed p)
+  passes : (kindOf e ≡ 0 → length rest ≡ 0) → Passed (lent .followed) tape o (allowed p)
   passes last =
       record {
         inside = omega (arith, fills, encoded-size e);
         isKnown = ap known kind ∙ kind-known e;
         isAllowed = ap (allowed p) kind ∙ may;
         fits = omega (arith, fills, next);
-        last = λ z. ends (sym kind ∙ z);
+        last = λ _ z. ends (sym kind ∙ z);
       }
     where
       ends : kindOf e ≡ 0 → length tape ≤ o + 1
@@ -79,14 +80,14 @@ module _ (tape : List ℕ) (lent : Lent) (k o : ℕ) (p : Progress) (e : Entry) 
   module _ (r : Ranged e) where
     judged : termsVerdict tape lent o ≡ Verdict.Accept
     judged =
-        ap (λ (x : Entry). firstRefusal (entryRows o (lent .samples) (lent .flow) x)) (entry-here tape o e rest here r) ∙ v
+        ap (λ (x : Entry). firstRefusal (entryRows o lent x)) (entry-here tape o e rest here r) ∙ v
 
     pub walk-on : ¬ (kindOf e ≡ 0) →
-        parseFrom (suc k) tape (lent .samples) (lent .flow) o p
-        ≡ parseFrom k tape (lent .samples) (lent .flow) (o + length (encoded e)) (absorbed p e)
+        parseFrom (suc k) tape lent o p
+        ≡ parseFrom k tape lent (o + length (encoded e)) (absorbed p e)
     walk-on z =
-        unrolled-on tape lent k o p (record-passes tape o (allowed p) (passes (λ y. absurd (z y)))) judged (λ y. z (sym kind ∙ y))
-        ∙ ap₂ (λ (n : ℕ) (x : Entry). parseFrom k tape (lent .samples) (lent .flow) n (absorbed p x)) next (entry-here tape o e rest here r)
+        unrolled-on tape lent k o p (record-passes (lent .followed) tape o (allowed p) (passes (λ y. absurd (z y)))) judged (λ y. z (sym kind ∙ y))
+        ∙ ap₂ (λ (n : ℕ) (x : Entry). parseFrom k tape lent n (absorbed p x)) next (entry-here tape o e rest here r)
 
-    pub walk-end : kindOf e ≡ 0 → length rest ≡ 0 → parseFrom (suc k) tape (lent .samples) (lent .flow) o p ≡ whole p
-    walk-end z l = unrolled-end tape lent k o p (record-passes tape o (allowed p) (passes (λ _. l))) judged (kind ∙ z)
+    pub walk-end : kindOf e ≡ 0 → length rest ≡ 0 → parseFrom (suc k) tape lent o p ≡ whole p
+    walk-end z l = unrolled-end tape lent k o p (record-passes (lent .followed) tape o (allowed p) (passes (λ _. l))) judged (kind ∙ z)

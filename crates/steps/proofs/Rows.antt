@@ -7,10 +7,10 @@ use Rattle.model.specs.Verdict.{firstRefusal, decided}
 use Rattle.model.specs.Tape.{entryRows}
 use Rattle.records.specs.declared.record.Cursor.{Cursor}
 use Rattle.records.specs.declared.tally.Tally.{Tally}
-use Rattle.steps.specs.declared.Lent.{Lent}
+use Rattle.model.specs.declared.Lent.{Lent}
 use Rattle.steps.specs.declared.Step.{Step}
 use Rattle.steps.specs.Step.{continued, judgedEntry}
 
 pub judged-entry : (t : Tally) (e : Entry) (next : Cursor) (o : ℕ) (lent : Lent) {v : Verdict} →
-    firstRefusal (entryRows o (lent .samples) (lent .flow) e) ≡ v → decided v (continued t e next) Step.Refused ≡ judgedEntry t e next o lent
+    firstRefusal (entryRows o lent e) ≡ v → decided v (continued t e next) Step.Refused ≡ judgedEntry t e next o lent
 judged-entry t e next o lent h = ap (λ (v : Verdict). decided v (continued t e next) Step.Refused) (sym h)

@@ -9,7 +9,7 @@ use Rattle.model.specs.Tape.{sized, weighted, entryRows}
 use Rattle.records.specs.declared.tally.Tally.{Tally}
 use Rattle.records.specs.declared.record.Cursor.{Cursor}
 use Rattle.records.specs.declared.record.Got.{Got}
-use Rattle.steps.specs.declared.Lent.{Lent}
+use Rattle.model.specs.declared.Lent.{Lent}
 use Rattle.steps.specs.declared.Step.{Step}
 use Rattle.records.specs.Record.{gotAt}
 
@@ -78,7 +78,7 @@ continued t (Flow f) next = Step.More (tallied t (Flow f)) next
 
 -- the record's terms judged, at offset o
 abbrev pub judgedEntry : Tally → Entry → Cursor → ℕ → Lent → Step
-judgedEntry t e next o lent = decided (firstRefusal (entryRows o (lent .samples) (lent .flow) e)) (continued t e next) Step.Refused
+judgedEntry t e next o lent = decided (firstRefusal (entryRows o lent e)) (continued t e next) Step.Refused
 
 abbrev pub taken : Got → ℕ → Tally → Lent → Step
 taken (Got.Refused number place) o t lent = Step.Refused number place
@@ -86,4 +86,4 @@ taken (Got.Record e next) o t lent = judgedEntry t e next o lent
 
 -- the record at offset o
 unfoldable pub stepOf : List ℕ → ℕ → Tally → Lent → Step
-stepOf tape o t lent = taken (gotAt tape o t) o t lent
+stepOf tape o t lent = taken (gotAt (lent .followed) tape o t) o t lent

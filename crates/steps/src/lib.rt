@@ -1,6 +1,7 @@
 // One record taken into the tally: its terms are judged at the record, and the counts move on.
 
 use model::Entry;
+use model::Lent;
 use model::Rounds;
 use model::Terms;
 use records::record::Cursor;
@@ -17,12 +18,6 @@ ghost use mathlib.Core.Path.{_≡_};
 ghost use Prim.Native.Nat.{_<_, _^_};
 ghost use Rattle.model.specs.declared.Entry.{Entry};
 ghost use Rattle.steps.specs.Step.{judgedEntry, stepOf};
-
-// The lengths of the buffers that the caller lends.
-pub struct Lent {
-    pub samples: usize,
-    pub flow: usize,
-}
 
 // What taking a record gives: a refusal with its place, the job's end, or what has been read now
 // with the place of the next record.
@@ -133,7 +128,7 @@ pub fn take_record(tape: &[u8], at: usize, t: Tally, lent: Lent) -> Step
     requires { ⌜ (t .samples < 2 ^ 63) × (t .flows < 2 ^ 63) ⌝ }
     ensures { λ r. ⌜ r ≡ stepOf (now (tape .entry)) at t lent ⌝ }
 {
-    let got = next_record(tape, at, t);
+    let got = next_record(tape, at, t, lent.followed);
     match got {
         Got::Refused(number, place) => Step::Refused(number, place),
         Got::Record(entry, next) => take(t, entry, next, at, lent),

@@ -1,10 +1,10 @@
 -- The laws of read.
---     Scanned     what a scan says of the parse
---     Reached     what a scan keeps from turn to turn
+--     Prefix      a record is read alike on every tape that has its bytes
+--     Reached     what a scan keeps from record to record, and what it says where it stops
 --     Numbers     an accepted tape's numbers, where the code reads them
 --     Promised    what read promises, from what it gave and left
 --     Passed      what the counts of a tape that has passed say
-pub mod Scanned
+pub mod Prefix
 pub mod Reached
 pub mod Numbers
 pub mod Promised

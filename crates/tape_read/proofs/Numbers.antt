@@ -12,7 +12,7 @@ use Rattle.model.specs.Lists.{at, table, firstWhere}
 use Rattle.model.specs.Calls.{firstBeyond}
 use Rattle.model.specs.Tape.{decoded, fromFour, Progress, tapeOf}
 use Rattle.model.proofs.Lists.{length-table, getD-table, firstWhere-cong}
-use Rattle.steps.specs.declared.Lent.{Lent}
+use Rattle.model.specs.declared.Lent.{Lent}
 use Rattle.tape_read.specs.Places.{numberAt}
 use Rattle.steps.proofs.Turns.{entryAt}
 use Rattle.roundtrip.proofs.Entries.{kind-here, entry-here}

@@ -5,20 +5,19 @@ use crate::fill::fill_flow;
 use crate::fill::fill_samples;
 use crate::scan::Scanned;
 use crate::scan::scan_tape;
+use model::Lent;
 use model::Rounds;
 use model::Terms;
 use records::tally::Tally;
-use steps::Lent;
+use records::tally::fresh;
 ghost use mathlib.Core.Path.{_≡_};
 ghost use mathlib.Core.Logic.{_↔_};
-ghost use Prim.Native.Nat.{suc};
-ghost use lib.ListN.{length, take};
-ghost use Rattle.model.specs.Tape.{parseFrom, nothing, readAnswer, readSamples, readFlow};
+ghost use lib.ListN.{take};
+ghost use Rattle.model.specs.Tape.{lentBy, readAnswer, readSamples, readFlow};
 ghost use Rattle.model.specs.Calls.{pixelsOf};
 ghost use Rattle.model.specs.Accepted.{ReadAllowed};
 ghost use Rattle.roundtrip.specs.RoundTrip.{WritesBack, flowCount};
-ghost use Rattle.tape_read.specs.declared.scan.Scanned.{Scanned};
-ghost use Rattle.tape_read.specs.Scan.{scannedOf};
+ghost use Rattle.tape_read.specs.Scan.{WholeRecords};
 ghost use Rattle.tape_read.specs.Answers.{readAnswerOf};
 
 // The job's terms and whether a flow was there (no, where there are no pairs), or a refusal.
@@ -34,9 +33,9 @@ pub enum ReadResult {
     },
 }
 
-// The numbers of a tape that has passed: 8 is judged, and the buffers are filled.
-fn take_numbers(tape: &[u8], t: Tally, samples: &mut [u8], flow: &mut [i32]) -> ReadResult
-    requires { ⌜ scannedOf (parseFrom (suc (length (now tape))) (now tape) (length (now samples)) (length (now flow)) 0 nothing) ≡ Scanned.Whole t ⌝ }
+// The numbers of a tape whose records have passed: 8 is judged, and the buffers are filled.
+pub fn take_numbers(tape: &[u8], t: Tally, samples: &mut [u8], flow: &mut [i32]) -> ReadResult
+    requires { ⌜ WholeRecords (now tape) (lentBy (now samples) (now flow)) t ⌝ }
     ensures { λ r. ⌜ readAnswerOf r ≡ readAnswer (now (tape .entry)) (now (samples .entry)) (now (flow .entry)) ⌝ }
     ensures { λ _. ⌜ now (samples .exit) ≡ readSamples (now (tape .entry)) (now (samples .entry)) (now (flow .entry)) ⌝ }
     ensures { λ _. ⌜ now (flow .exit) ≡ readFlow (now (tape .entry)) (now (samples .entry)) (now (flow .entry)) ⌝ }
@@ -68,10 +67,11 @@ pub fn read(tape: &[u8], samples: &mut [u8], flow: &mut [i32]) -> ReadResult
     let lent = Lent {
         samples: samples.len(),
         flow: flow.len(),
+        followed: false,
     };
-    let scanned = scan_tape(tape, lent);
+    let scanned = scan_tape(tape, 0, fresh(), lent);
     match scanned {
-        Scanned::Refused(number, place) => ReadResult::Refused { number, place },
-        Scanned::Whole(t) => take_numbers(tape, t, samples, flow),
+        Scanned::Refused(number, place, _, _) => ReadResult::Refused { number, place },
+        Scanned::Whole(t, _) => take_numbers(tape, t, samples, flow),
     }
 }

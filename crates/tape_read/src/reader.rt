@@ -1,9 +1,9 @@
 // The tape's bytes and the offset of the next record, kept together. Each function over the struct is
 // thin: the work is done by `take_record`, on the slice and the number.
 
+use model::Lent;
 use records::record::Cursor;
 use records::tally::Tally;
-use steps::Lent;
 use steps::Step;
 use steps::take_record;
 ghost use mathlib.Core.Path.{_≡_};
@@ -15,11 +15,11 @@ pub struct Reader<'a> {
     pub at: usize,
 }
 
-// A reader at the first record.
-pub fn new<'a>(tape: &'a [u8]) -> Reader<'a>
-    ensures { λ r. ⌜ (r .tape ≡ tape .entry) × (r .at ≡ 0) ⌝ }
+// A reader at the record that begins at an offset.
+pub fn new<'a>(tape: &'a [u8], at: usize) -> Reader<'a>
+    ensures { λ r. ⌜ (r .tape ≡ tape .entry) × (r .at ≡ at) ⌝ }
 {
-    Reader { tape, at: 0 }
+    Reader { tape, at }
 }
 
 // The next record, read and taken into the tally.

@@ -1,35 +1,33 @@
-// The whole tape, record by record, with nothing written.
+// A tape, record by record, with nothing written. A scan that stopped where the bytes ended is taken
+// up again from there when more have come.
 
 use crate::reader::forward;
 use crate::reader::new;
 use crate::reader::next;
+use model::Lent;
 use records::tally::Tally;
-use records::tally::fresh;
-use steps::Lent;
 use steps::Step;
-ghost use mathlib.Core.Path.{_≡_};
-ghost use Prim.Native.Nat.{suc};
-ghost use lib.ListN.{length};
-ghost use Rattle.model.specs.Tape.{parseFrom, nothing};
-ghost use Rattle.tape_read.specs.Scan.{scannedOf};
+ghost use Rattle.tape_read.specs.Scan.{Reached, StopsAt};
 
-// What a scan gives: the first refusal, or the counts and the terms of the whole job.
+// Where a scan stops, and what has been read before: at a record that is refused, with its number and
+// place, or at the end record. The last number is where this record begins.
 pub enum Scanned {
-    Refused(u32, usize),
-    Whole(Tally),
+    Refused(u32, usize, Tally, usize),
+    Whole(Tally, usize),
 }
 
-// One reader, moved on record by record.
-pub fn scan_tape(tape: &[u8], lent: Lent) -> Scanned
-    ensures { λ r. ⌜ r ≡ scannedOf (parseFrom (suc (length (now (tape .entry)))) (now (tape .entry)) (lent .samples) (lent .flow) 0 nothing) ⌝ }
+// One reader, moved on record by record, from the record at an offset.
+pub fn scan_tape(tape: &[u8], at: usize, before: Tally, lent: Lent) -> Scanned
+    requires { ⌜ Reached (now tape) lent before at ⌝ }
+    ensures { λ r. ⌜ StopsAt (now (tape .entry)) lent r ⌝ }
 {
-    let mut r = new(tape);
-    let mut t = fresh();
+    let mut r = new(tape, at);
+    let mut t = before;
     loop {
         let s = next(r, t, lent);
         match s {
-            Step::Refused(number, place) => return Scanned::Refused(number, place),
-            Step::Done => return Scanned::Whole(t),
+            Step::Refused(number, place) => return Scanned::Refused(number, place, t, r.at),
+            Step::Done => return Scanned::Whole(t, r.at),
             Step::More(u, cursor) => {
                 t = u;
                 r = forward(r, cursor);

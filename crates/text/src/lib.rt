@@ -6,4 +6,4 @@
 pub mod answer;
 mod image;
 pub mod line;
-mod number;
+pub mod number;

@@ -20,7 +20,7 @@ take-requires : tie.Need-take-requires
 take-requires c κs = search needs
 
 -- the step of what was got
-stepped : (c : tie.Start) {g : Got} → g ≡ gotAt (c .args .tape .now) (c .args .at) (c .args .t) →
+stepped : (c : tie.Start) {g : Got} → g ≡ gotAt (c .args .lent .followed) (c .args .tape .now) (c .args .at) (c .args .t) →
     taken g (c .args .at) (c .args .t) (c .args .lent) ≡ stepOf (c .args .tape .now) (c .args .at) (c .args .t) (c .args .lent)
 unfolding stepOf
 stepped c h = ap (λ (g : Got). taken g (c .args .at) (c .args .t) (c .args .lent)) h

@@ -42,7 +42,7 @@ treat-requires : tie.Need-treat-requires
 treat-requires c κs =
     let s = c .before .before .before .before .before in
     let kept = s .before .before .before .before .before .read .kept in
-    tables (job-read s) (s .before .before .before .before .before .before .before .before .before .before .before .pre) (kept .1 .0) (kept .1 .1 .0)
+    tables (job-read s) (s .before .before .before .before .before .before .before .before .before .before .before .pre .holds) (kept .1 .0) (kept .1 .1 .0)
 
 pixels-requires : tie.Need-pixels-requires
 pixels-requires c κs = allowed (job-read (c .before .before .before .before .before .before .before .before .before))
@@ -51,7 +51,7 @@ pixels-requires c κs = allowed (job-read (c .before .before .before .before .be
 shown : (c : tie.After-treat) → let t = c .before .before .before .before .before .before .got2 .given .0 .0 in t .width * t .height ≤ length (c .treat .last .1 .1 .1 .1 .1 .0)
 shown c =
     let s = c .before .before .before .before .before .before in
-    omega (arith, c .treat .kept .1 .1 .1 .1 .1 .0, tables (job-read s) (s .before .before .before .before .before .before .before .before .before .before .before .pre) refl refl .imageHolds)
+    omega (arith, c .treat .kept .1 .1 .1 .1 .1 .0, tables (job-read s) (s .before .before .before .before .before .before .before .before .before .before .before .pre .holds) refl refl .imageHolds)
 
 slice-reshare-prefix-put-answer : tie.Need-slice-reshare-prefix-put-answer
 slice-reshare-prefix-put-answer c = omega (arith, c .before .pixels .ensures, shown (c .before .before .before .before .before))
@@ -63,7 +63,7 @@ put-answer-requires : tie.Need-put-answer-requires
 put-answer-requires c κs =
     let s = c .before .before .before .before .before .before in (
       omega (arith, c .before .before .pixels .ensures, shown s, length-take-le (c .before .before .pixels .result) (s .treat .last .1 .1 .1 .1 .1 .0) (omega (arith, c .before .before .pixels .ensures, shown s))),
-      enough (job-read (s .before .before .before .before .before .before)) (s .before .before .before .before .before .before .before .before .before .before .before .before .before .before .before .before .before .pre),
+      enough (job-read (s .before .before .before .before .before .before)) (s .before .before .before .before .before .before .before .before .before .before .before .before .before .before .before .before .before .pre .outputHolds),
     )
 
 same-length : tie.Need-same-length
@@ -122,15 +122,15 @@ returns-2 c =
     let left = s .treat .ensures in (
       put-as
           (ap (λ (n : ℕ). answerText (answerOf (s .treat .result)) (g .got2 .given .0 .0) (take n (s .treat .last .1 .1 .1 .1 .1 .0))) (c .before .before .before .before .before .pixels .ensures)
-          ∙ read-text k (a .image .now) (a .work .now) (start .pre) sampled flows (left .0) (left .1 .1 .0))
+          ∙ read-text k (a .image .now) (a .work .now) (start .pre .holds) sampled flows (left .0) (left .1 .1 .0))
           (c .before .before .put-answer .ensures),
       (
         sampled,
         (
-          flow-left k (a .image .now) (a .work .now) (start .pre) sampled flows e (left .1 .0),
+          flow-left k (a .image .now) (a .work .now) (start .pre .holds) sampled flows e (left .1 .0),
           (
-            image-left k (a .image .now) (a .work .now) (start .pre) sampled flows e (left .1 .1 .0),
-            work-left k (a .image .now) (a .work .now) (start .pre) sampled flows e (left .1 .1 .1),
+            image-left k (a .image .now) (a .work .now) (start .pre .holds) sampled flows e (left .1 .1 .0),
+            work-left k (a .image .now) (a .work .now) (start .pre .holds) sampled flows e (left .1 .1 .1),
           ),
         ),
       ),

@@ -17,12 +17,13 @@ use Rattle.records.proofs.record.next_record.Statement.{statement}
 use Rattle.records.proofs.record.next_record.Tie as tie
 
 -- what the verdict of the rows gives
-got : (tape : List ℕ) (o : ℕ) (t : Tally) {v : Verdict} → firstRefusal (recordRows tape o (may t)) ≡ v → decided v (recordAt tape o) Got.Refused ≡ gotAt tape o t
+got : (followed : Bool) (tape : List ℕ) (o : ℕ) (t : Tally) {v : Verdict} → firstRefusal (recordRows followed tape o (may t)) ≡ v →
+    decided v (recordAt tape o) Got.Refused ≡ gotAt followed tape o t
 unfolding gotAt
-got tape o t e = ap (λ (v : Verdict). decided v (recordAt tape o) Got.Refused) (sym e)
+got followed tape o t e = ap (λ (v : Verdict). decided v (recordAt tape o) Got.Refused) (sym e)
 
 returns : tie.Need-returns
-returns c = got _ _ _ (ended _ _ _ (c .if1 .taken))
+returns c = got _ _ _ _ (ended _ _ _ _ (c .if1 .taken))
 
 shared-slice-read-form-of : tie.Need-shared-slice-read-form-of
 shared-slice-read-form-of c = search needs
@@ -52,8 +53,8 @@ returns-2 : tie.Need-returns-2
 returns-2 c =
     let a = c .before .before .before .before .before .before .args in
     let kind : ℕ = getD (a .tape .now) (a .at) 0 in
-    got _ _ _
-    (unknown-kind _ _ _ (c .before .before .before .before .if1 .left)
+    got _ _ _ _
+    (unknown-kind _ _ _ _ (c .before .before .before .before .if1 .left)
     (form-unknown kind (may (a .t) kind) (sym (c .before .before .form-of .ensures) ∙ c .enum-told .given .1)))
 
 returns-3 : tie.Need-returns-3
@@ -61,8 +62,8 @@ returns-3 c =
     let a = c .before .before .before .before .before .before .before .before .args in
     let f = form-is (c .before) in
     c .whole-record .ensures
-    ∙ ap (λ (ok : Bool). wholeAt (a .tape .now) (a .at) ok) (f .2)
-    ∙ got (a .tape .now) (a .at) (a .t) (known-kind _ _ _ (c .before .before .before .before .before .before .if1 .left) (f .0))
+    ∙ ap (λ (ok : Bool). wholeAt (a .followed) (a .tape .now) (a .at) ok) (f .2)
+    ∙ got (a .followed) (a .tape .now) (a .at) (a .t) (known-kind _ _ _ _ (c .before .before .before .before .before .before .if1 .left) (f .0))
 
 pub next-record-spec : {M : Type 1} → statement M
 next-record-spec =

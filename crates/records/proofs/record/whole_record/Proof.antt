@@ -30,11 +30,11 @@ enum-told c = search needs
 -- the verdict is that of the rows
 judged : (c : tie.After-judge-body) → let a = c .before .before .before .args in
     c .judge-body .result
-    ≡ firstRefusal (bodyRows (length (a .tape .now)) (a .at) (getD (a .tape .now) (a .at) 0) (bodyLength (getD (a .tape .now) (a .at) 0)) (a .allowed))
+    ≡ firstRefusal (bodyRows (a .followed) (length (a .tape .now)) (a .at) (getD (a .tape .now) (a .at) 0) (bodyLength (getD (a .tape .now) (a .at) 0)) (a .allowed))
 judged c =
     let a = c .before .before .before .args in
     c .judge-body .ensures
-    ∙ ap (λ (b : ℕ). firstRefusal (bodyRows (length (a .tape .now)) (a .at) (getD (a .tape .now) (a .at) 0) b (a .allowed))) (c .before .before .before .pre .1)
+    ∙ ap (λ (b : ℕ). firstRefusal (bodyRows (a .followed) (length (a .tape .now)) (a .at) (getD (a .tape .now) (a .at) 0) b (a .allowed))) (c .before .before .before .pre .1)
 
 -- where they accept, the body is whole
 room : (c : tie.After-enum-told) → let a = c .before .before .before .before .before .args in
@@ -47,11 +47,11 @@ room c =
 decode-requires : tie.Need-decode-requires
 decode-requires c κs = room c
 
-add-t14 : tie.Need-add-t14
-add-t14 c = search needs
-
 add-t15 : tie.Need-add-t15
-add-t15 c = omega (arith, room (c .before), c .before .before .before .before .before .before .pre .1)
+add-t15 c = search needs
+
+add-t16 : tie.Need-add-t16
+add-t16 c = omega (arith, room (c .before), c .before .before .before .before .before .before .pre .1)
 
 returns : tie.Need-returns
 returns c =
@@ -76,7 +76,7 @@ whole-record-spec =
     enum-known-v
     enum-told
     decode-requires
-    add-t14
     add-t15
+    add-t16
     returns
     returns-2)

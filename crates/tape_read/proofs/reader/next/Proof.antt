@@ -1,5 +1,5 @@
--- `tape_read::reader::next` meets its contract: a walk of its MIR, by hand. The struct is taken apart, and `take_record` is called on the slice, the number, the tally and the lengths. All that the proof knows of `take_record` is that it meets its contract.
--- The struct is Copy: what it owns is had twice, one copy is kept whole for the exit, and of the other what the slice owns goes to the callee, beside the lifetime's token, which comes back. The tally and the lengths hold no reference: what they own is made anew from their facts.
+-- `tape_read::reader::next` meets its contract: a walk of its MIR, by hand. The struct is taken apart, and `take_record` is called on the slice, the number, the tally and what is lent. All that the proof knows of `take_record` is that it meets its contract.
+-- The struct is Copy: what it owns is had twice, one copy is kept whole for the exit, and of the other what the slice owns goes to the callee, beside the lifetime's token, which comes back. The tally and what is lent hold no reference: what they own is made anew from their facts.
 -- Assumes nothing.
 use mathlib.Core.Path.{_≡_, refl}
 use Prim.Native.Nat.{_<_, _^_}
@@ -45,15 +45,15 @@ use denote.Exit.{yes}
 use denote.Triple.Clauses.{ensured, lasts}
 use Rattle.steps.specs.Step.{stepOf}
 use Rattle.tape_read.specs.declared.reader.Reader.{Reader}
-use Rattle.steps.specs.declared.Lent.{Lent}
+use Rattle.model.specs.declared.Lent.{Lent}
 use Rattle.steps.specs.declared.Step.{Step}
 use Rattle.records.specs.declared.tally.Tally.{Tally}
 use Rattle.tape_read.proofs.reader.Reader as T
 use Rattle.tape_read.proofs.reader.Reader.Laws as T′
 use Rattle.steps.proofs.Step as S
 use Rattle.steps.proofs.Step.Laws as S′
-use Rattle.steps.proofs.Lent as Z
-use Rattle.steps.proofs.Lent.Laws as Z′
+use Rattle.model.proofs.Lent as Z
+use Rattle.model.proofs.Lent.Laws as Z′
 use Rattle.records.proofs.tally.Tally as Y
 use Rattle.records.proofs.tally.Tally.Laws as Y′
 use Rattle.steps.proofs.take_record as step

@@ -1,0 +1,42 @@
+-- The slack that check and run give, by the pixels of the job. Assumes nothing.
+use mathlib.Core.Path.{_≡_, refl, sym, ap, subst}
+use mathlib.Core.List.{List}
+use Prim.Native.Nat.{ℕ, _*_, _≤_, _<_, zero-le}
+use lib.IntN.{ℤ, natAbs}
+use lib.ListN.{getD}
+use Rattle.model.specs.declared.Terms.{Terms}
+use Rattle.model.specs.declared.Rounds.{Rounds}
+use Rattle.model.specs.declared.Verdict.{Verdict}
+use Rattle.model.specs.Calls.{Answer, pixelsOf, figuresOf, ending, checkVerdict, checkAnswer, runVerdict, runAnswer}
+use Rattle.model.specs.Lists.{at}
+use Rattle.model.proofs.Accepted.{check-accepted, check-feasible, run-accepted}
+use Rattle.model.proofs.Answers.{check-answer, run-answer}
+use Rattle.model.proofs.Bounds.{perPixel, slack-by-pixels}
+use Rattle.certificate.proofs.Grid.{ending-flow}
+use Rattle.calls.proofs.Jobs.{with-bytes}
+
+module _ (t : Terms) (samples : List ℕ) (high : t .high < 256) (bytes : (i : ℕ) → getD samples i 0 < 256) where
+  abbrev Small : Answer → Type 0
+  Small a = natAbs (a .slack) ≤ pixelsOf t * (2 * perPixel)
+
+  pub check-small : (flow values : List ℤ) → Small (checkAnswer t samples flow values)
+  unfolding figuresOf
+  check-small flow values = go (checkVerdict t samples flow values) refl
+    where
+      go : (v : Verdict) → checkVerdict t samples flow values ≡ v → Small (checkAnswer t samples flow values)
+      go Verdict.Accept e =
+          let a = check-accepted t samples flow values .0 e in
+          subst Small (sym (check-answer t samples flow values e))
+          (slack-by-pixels t samples (with-bytes t samples (a .terms) high bytes) (at flow) (check-feasible t samples flow values a))
+      go (Verdict.Refuse n q) e = subst Small (sym (check-answer t samples flow values e)) zero-le
+
+  pub run-small : (r : Rounds) (flow values work : List ℤ) → Small (runAnswer t r samples flow values work)
+  unfolding figuresOf
+  run-small r flow values work = go (runVerdict t r samples flow values work) refl
+    where
+      go : (v : Verdict) → runVerdict t r samples flow values work ≡ v → Small (runAnswer t r samples flow values work)
+      go Verdict.Accept e =
+          let a = run-accepted t r samples flow values work .0 e in
+          subst Small (sym (run-answer t r samples flow values work e))
+          (slack-by-pixels t samples (with-bytes t samples (a .terms) high bytes) (at (ending t r samples .flow)) (ending-flow t r samples (a .terms .box) .1))
+      go (Verdict.Refuse n q) e = subst Small (sym (run-answer t r samples flow values work e)) zero-le

@@ -1,0 +1,33 @@
+-- The slack of a job in tables, by its pixels. Assumes nothing.
+use mathlib.Core.Path.{_≡_, refl, sym, subst}
+use mathlib.Core.Bool.{Bool, true, false}
+use mathlib.Core.List.{List}
+use Prim.Native.Nat.{ℕ, _*_, _≤_, _<_}
+use native.Mathlib.Omega.{arith}
+use lib.Dec.{ltb}
+use lib.IntN.{ℤ, natAbs}
+use borrow.Author.Tests.{ltb-true, ltb-false}
+use lib.ListN.{length, getD, take, length-take, List·getD-eq-default}
+use lib.Seq.{getD-take}
+use Rattle.model.specs.declared.Terms.{Terms}
+use Rattle.model.specs.declared.Rounds.{Rounds}
+use Rattle.model.specs.Calls.{Answer, pixelsOf}
+use Rattle.model.proofs.Bounds.{perPixel}
+use Rattle.calls.proofs.Sizes.{check-small, run-small}
+use Rattle.job.specs.Tables.{answerIn}
+
+-- the bytes of a front
+front-bytes : (n : ℕ) (l : List ℕ) → ((i : ℕ) → getD l i 0 < 256) → (i : ℕ) → getD (take n l) i 0 < 256
+front-bytes n l bytes i = go (ltb i n) refl
+  where
+    go : (b : Bool) → ltb i n ≡ b → getD (take n l) i 0 < 256
+    go true h = subst (λ (x : ℕ). x < 256) (sym (getD-take n l i 0 (ltb-true i n h))) (bytes i)
+    go false h =
+        subst (λ (x : ℕ). x < 256) (sym (List·getD-eq-default (take n l) 0 (omega (arith, length-take n l, ltb-false i n h)))) (omega arith)
+
+pub slack-most : (t : Terms) (r : Rounds) (flowed : Bool) (samples : List ℕ) (flow image work : List ℤ) → t .high < 256 → ((i : ℕ) → getD samples i 0 < 256) →
+    natAbs (answerIn t r flowed samples flow image work .slack) ≤ pixelsOf t * (2 * perPixel)
+slack-most t r true samples flow image work high bytes =
+    check-small t (take (pixelsOf t) samples) high (front-bytes (pixelsOf t) samples bytes) _ _
+slack-most t r false samples flow image work high bytes =
+    run-small t (take (pixelsOf t) samples) high (front-bytes (pixelsOf t) samples bytes) r _ _ _

@@ -1,0 +1,44 @@
+// The answer of a tape whose records have passed, with nothing printed.
+
+use crate::treat::treat;
+use calls::answer::Answer;
+use records::tally::Tally;
+use tape_read::read::ReadResult;
+use tape_read::read::take_numbers;
+ghost use lib.ListN.{length};
+ghost use Rattle.model.specs.Tape.{lentBy, parse};
+ghost use Rattle.tape_read.specs.Scan.{WholeRecords};
+ghost use Rattle.job.specs.Tables.{Holds};
+ghost use Rattle.job.specs.Answered.{AnswerTo};
+
+// A refusal, or the answer of the job and how many pixels it has.
+pub enum Answered {
+    Refused(u32, usize),
+    Job(Answer, usize),
+}
+
+// 8 is judged, then the job is treated.
+pub fn answer_of(
+    tape: &[u8],
+    t: Tally,
+    samples: &mut [u8],
+    flow: &mut [i32],
+    image: &mut [i32],
+    work: &mut [i32],
+) -> Answered
+    requires { ⌜ WholeRecords (now tape) (lentBy (now samples) (now flow)) t × Holds (length (now samples)) (length (now flow)) (length (now image)) (length (now work)) ⌝ }
+    ensures { λ r. ⌜ AnswerTo (parse (now (tape .entry)) (lentBy (now (samples .entry)) (now (flow .entry)))) r ⌝ }
+{
+    let got = take_numbers(tape, t, samples, flow);
+    match got {
+        ReadResult::Refused { number, place } => Answered::Refused(number, place),
+        ReadResult::Job {
+            terms,
+            rounds,
+            flowed,
+        } => {
+            let answer = treat(terms, rounds, flowed, samples, flow, image, work);
+            Answered::Job(answer, terms::pixels(terms.width, terms.height))
+        }
+    }
+}
