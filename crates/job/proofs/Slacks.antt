@@ -17,7 +17,7 @@ use Rattle.calls.proofs.Sizes.{check-small, run-small}
 use Rattle.job.specs.Tables.{answerIn}
 
 -- the bytes of a front
-front-bytes : (n : ℕ) (l : List ℕ) → ((i : ℕ) → getD l i 0 < 256) → (i : ℕ) → getD (take n l) i 0 < 256
+pub front-bytes : (n : ℕ) (l : List ℕ) → ((i : ℕ) → getD l i 0 < 256) → (i : ℕ) → getD (take n l) i 0 < 256
 front-bytes n l bytes i = go (ltb i n) refl
   where
     go : (b : Bool) → ltb i n ≡ b → getD (take n l) i 0 < 256

@@ -9,13 +9,14 @@ use Rattle.calls.specs.declared.answer.Answer.{Answer}
 use Rattle.calls.specs.Answers.{answerOf}
 use Rattle.job.specs.declared.answer.Answered.{Answered}
 
--- a job's answer, whose slack is at most so much for each pixel, and its count of pixels
-pub record Answers (p : Progress) (a : Answer) (n : ℕ) : Type 0 where
+-- a job's answer, whose slack is at most so much for each pixel, and its count of pixels, for which there are samples
+pub record Answers (p : Progress) (samples : ℕ) (a : Answer) (n : ℕ) : Type 0 where
   pub answer : answerOf a ≡ jobAnswer p
   pub pixels : n ≡ pixelsOf (p .terms)
+  pub held : pixelsOf (p .terms) ≤ samples
   pub slack : natAbs (jobAnswer p .slack) ≤ pixelsOf (p .terms) * (10 * (65280 * 65280))
 
 -- what is given for what was read: the refusal, or the job's answer
-abbrev pub AnswerTo : Parse → Answered → Type 0
-AnswerTo r (Answered.Refused number place) = r ≡ turned number place
-AnswerTo r (Answered.Job a n) = (p : Progress) × (r ≡ whole p) × Answers p a n
+abbrev pub AnswerTo : Parse → ℕ → Answered → Type 0
+AnswerTo r samples (Answered.Refused number place) = r ≡ turned number place
+AnswerTo r samples (Answered.Job a n) = (p : Progress) × (r ≡ whole p) × Answers p samples a n

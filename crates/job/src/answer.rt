@@ -27,7 +27,7 @@ pub fn answer_of(
     work: &mut [i32],
 ) -> Answered
     requires { ⌜ WholeRecords (now tape) (lentBy (now samples) (now flow)) t × Holds (length (now samples)) (length (now flow)) (length (now image)) (length (now work)) ⌝ }
-    ensures { λ r. ⌜ AnswerTo (parse (now (tape .entry)) (lentBy (now (samples .entry)) (now (flow .entry)))) r ⌝ }
+    ensures { λ r. ⌜ AnswerTo (parse (now (tape .entry)) (lentBy (now (samples .entry)) (now (flow .entry)))) (length (now (samples .entry))) r ⌝ }
 {
     let got = take_numbers(tape, t, samples, flow);
     match got {

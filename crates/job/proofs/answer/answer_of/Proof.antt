@@ -90,6 +90,7 @@ returns-2 c =
       record {
         answer = given;
         pixels = c .pixels .ensures ∙ ap (λ (u : Terms). pixelsOf u) (k .terms);
+        held = k .fits .samplesHold;
         slack =
             subst (λ (n : ℕ). natAbs (jobAnswer (k .p) .slack) ≤ n * (2 * perPixel)) (ap (λ (u : Terms). pixelsOf u) (k .terms))
             (subst (λ (x : Answer). natAbs (x .slack) ≤ pixelsOf (v .0) * (2 * perPixel)) (sym (s .treat .ensures .0) ∙ given) small);

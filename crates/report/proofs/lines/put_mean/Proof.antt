@@ -1,0 +1,68 @@
+-- `report::lines::put_mean` meets its contract. Assumes nothing.
+use mathlib.Core.Path.{_≡_, refl, sym, ap}
+use Prim.Native.Nat.{ℕ, zero, suc, _/_, _%_}
+use Rattle.model.specs.Text.{ascii}
+use Rattle.model.specs.Season.{lineOfTwo, meanLine}
+use Rattle.output.proofs.Laid.{put-as}
+use borrow.Author.Needs.{needs}
+use Rattle.report.proofs.lines.put_mean.Statement.{statement}
+use Rattle.report.proofs.lines.put_mean.Tie as tie
+
+-- the line where there are no pixels, and where there are some
+no-pixels : (total pixels : ℕ) → pixels ≡ 0 → lineOfTwo "mean" 0 0 ≡ meanLine total pixels
+no-pixels total pixels e = sym (ap (meanLine total) e)
+
+some-pixels : (total pixels : ℕ) → (pixels ≡ 0 → ⊥) → lineOfTwo "mean" (total / pixels) (total % pixels) ≡ meanLine total pixels
+some-pixels total zero n = absurd (n refl)
+some-pixels total (suc pixels) n = refl
+
+slice-aggregate-put-two : tie.Need-slice-aggregate-put-two
+slice-aggregate-put-two c = search needs
+
+put-two-requires : tie.Need-put-two-requires
+put-two-requires c κs = search needs
+
+div-quotient : tie.Need-div-quotient
+div-quotient c = search needs
+
+rem-remainder : tie.Need-rem-remainder
+rem-remainder c = search needs
+
+slice-aggregate-put-two-2 : tie.Need-slice-aggregate-put-two-2
+slice-aggregate-put-two-2 c = search needs
+
+put-two-requires-2 : tie.Need-put-two-requires-2
+put-two-requires-2 c κs = search needs
+
+same-length : tie.Need-same-length
+same-length c = search needs
+
+returns : tie.Need-returns
+unfolding ascii
+returns c =
+    let a = c .before .before .before .before .before .before .before .args in
+    (put-as (no-pixels (a .total) (a .pixels) (c .before .before .before .before .before .if1 .taken)) (c .before .before .put-two .ensures .0), c .before .before .put-two .ensures .1)
+
+same-length-2 : tie.Need-same-length-2
+same-length-2 c = search needs
+
+returns-2 : tie.Need-returns-2
+unfolding ascii
+returns-2 c =
+    let a = c .before .before .before .before .before .before .before .args in
+    (put-as (some-pixels (a .total) (a .pixels) (c .before .before .before .before .before .if1 .left)) (c .before .before .put-two2 .ensures .0), c .before .before .put-two2 .ensures .1)
+
+pub put-mean-spec : {M : Type 1} → statement M
+put-mean-spec =
+    tie.close
+    (tie.spec
+    slice-aggregate-put-two
+    put-two-requires
+    div-quotient
+    rem-remainder
+    slice-aggregate-put-two-2
+    put-two-requires-2
+    same-length
+    returns
+    same-length-2
+    returns-2)

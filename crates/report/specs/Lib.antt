@@ -1,0 +1,2 @@
+-- What the contracts cite beside the model's definitions.
+pub mod Counted

@@ -1,0 +1,43 @@
+// What the program prints for standard input.
+
+use crate::jobs::Ended;
+use crate::jobs::read_season;
+use report::whole::put_report;
+ghost use mathlib.Core.Bool.{true};
+ghost use Rattle.io.specs.Counts.{Counts};
+ghost use Rattle.model.specs.Program.{tables};
+ghost use Rattle.season.specs.Stream.{ReportOf};
+ghost use Rattle.season.specs.Printed.{Prints};
+
+// How many bytes the text has, and whether a read failed.
+pub struct Printed {
+    pub count: usize,
+    pub failed: bool,
+}
+
+// The tables hold 4,096 samples and 8,064 flow values, whatever the input.
+fn read_input() -> Ended
+    ensures { λ r. ⌜ ReportOf (tables true) r ⌝ }
+{
+    let mut buffer = [0u8; 262144];
+    let mut samples = [0u8; 4096];
+    let mut flow = [0i32; 8064];
+    let mut image = [0i32; 4096];
+    let mut work = [0i32; 16128];
+    read_season(&mut buffer, &mut samples, &mut flow, &mut image, &mut work)
+}
+
+// The text stands at the front of the output.
+pub fn season_text(output: &mut [u8; 512]) -> Printed
+    ensures { λ r. ⌜ Prints (now (output .entry)) r (now (output .exit)) ⌝ }
+    ensures { λ r. ⌜ Counts (r .count) (now (output .exit)) ⌝ }
+{
+    let e = read_input();
+    let totals = e.totals;
+    let ending = e.ending;
+    let count = put_report(output, 0, totals, ending);
+    Printed {
+        count,
+        failed: e.failed,
+    }
+}

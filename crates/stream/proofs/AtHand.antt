@@ -1,0 +1,81 @@
+-- What the bytes at hand come to, from what taking a job of the first 65,536 of them gives. Assumes nothing.
+use mathlib.Core.Path.{_≡_, refl, sym, ap, ap₂, _∙_, subst}
+use mathlib.Core.Bool.{Bool, true, false, true≢false}
+use mathlib.Core.List.{List, [], _∷_, _++_, append-nil}
+use Prim.Native.Nat.{ℕ, zero, suc, _+_, _≤_, _<_}
+use native.Mathlib.Omega.{arith}
+use lib.ListN.{length, take, drop, length-append, length-take}
+use lib.Seq.{take-all, drop-append-le}
+use Rattle.model.specs.declared.Lent.{Lent}
+use Rattle.model.specs.declared.Totals.{Totals}
+use Rattle.model.specs.declared.Verdict.{Verdict}
+use Rattle.model.specs.Tape.{Parse, turned, parse, tooShort}
+use Rattle.model.specs.Season.{bytesOf, treated}
+use Rattle.records.specs.declared.tally.Tally.{Tally}
+use Rattle.tape_read.specs.Scan.{Reached}
+use Rattle.roundtrip.proofs.Offsets.{tape-length}
+use Rattle.report.specs.Counted.{withJob}
+use Rattle.stream.specs.Report.{Report, reportFrom}
+use Rattle.stream.specs.Taken.{Short, Refused, Counted}
+use Rattle.stream.specs.Window.{Follows, Reports, GoesOn, Wants}
+use Rattle.stream.proofs.First.{no-bytes, first-whole, first-faulty, first-past, first-ended}
+use Rattle.stream.proofs.Reports.{over-report, refused-report, counted-report}
+
+abbrev ends : Totals → ℕ → ℕ → Report
+ends t number place = record { totals = t; ending = Verdict.Refuse number place }
+
+empty : (l : List ℕ) → length l ≡ 0 → l ≡ []
+empty [] e = refl
+empty (x ∷ l) e = absurd (omega arith)
+
+module _ (bytes : List ℕ) (lent : Lent) (t : Totals) (few : t .jobs < 65535) where
+  abbrev front : List ℕ
+  front = take 65536 bytes
+
+  pub next-counted : {after : Totals} {size : ℕ} → Counted front lent t after size → GoesOn bytes lent t after size
+  unfolding bytesOf
+  next-counted {after} {size} c =
+      let long : size ≤ length bytes = omega (arith, c .inside, length-take 65536 bytes) in
+      record {
+        inside = long;
+        one = ap (λ (x : Totals). x .jobs) (c .added .totals);
+        bounded = c .added .bounded;
+        report =
+            λ rest.
+            counted-report lent t few (bytes ++ rest)
+            (λ z. omega (arith, z, length-append bytes rest, c .size, tape-length (c .job .terms) (c .job .rounds) (c .job .samples) (c .job .flow)))
+            (first-whole lent bytes rest (c .read))
+            ∙ ap₂ (λ (x : Totals) (n : ℕ). reportFrom lent x (drop n (bytes ++ rest))) (sym (c .added .totals)) (sym (c .size))
+            ∙ ap (reportFrom lent after) (drop-append-le size bytes rest long);
+      }
+
+  pub next-refused : {n q : ℕ} {ended : Bool} → Refused front lent n q → Reports bytes ended lent t (ends t n q)
+  next-refused {n} {q} r rest _ =
+      refused-report lent t few (bytes ++ rest) some (first-faulty lent bytes rest (r .faulty) (r .refused))
+    where
+      some : length (bytes ++ rest) ≡ 0 → ⊥
+      some z =
+          let none : take 65536 bytes ++ [] ≡ [] = append-nil (take 65536 bytes) ∙ ap (take 65536) (empty bytes (omega (arith, length-append bytes rest))) in
+          let x : turned 13 0 ≡ turned n q = sym (ap (λ (l : List ℕ). parse l lent) none ∙ no-bytes lent) ∙ r .refused [] in
+          let is : 13 ≡ n = cc in
+          true≢false (subst (λ (m : ℕ). tooShort m ≡ false) (sym is) (r .faulty))
+
+  module _ {n q : ℕ} {u : Tally} {o : ℕ} (s : Short front lent n q u o) where
+    pub next-past : {ended : Bool} → 65536 < length bytes → Reports bytes ended lent t (ends t 17 0)
+    next-past l rest _ =
+        refused-report lent t few (bytes ++ rest) (λ z. omega (arith, z, l, length-append bytes rest))
+        (first-past lent bytes rest l (s .refused) (s .short))
+
+    module _ (l : length bytes ≤ 65536) where
+      pub next-more : {ended : Bool} → ended ≡ false → Wants bytes ended lent u o
+      next-more e =
+          record { reached = subst (λ (x : List ℕ). Reached x lent u o) (take-all 65536 bytes l) (s .reached); few = l; goesOn = e }
+
+      pub next-ended : {ended : Bool} → ended ≡ true → ¬ (length bytes ≡ 0) → Reports bytes ended lent t (ends t n q)
+      next-ended e some rest follows =
+          ap (reportFrom lent t) (ap (λ (x : List ℕ). bytes ++ x) (follows e) ∙ append-nil bytes)
+          ∙ refused-report lent t few bytes some
+          (first-ended lent bytes l (ap (λ (x : List ℕ). parse x lent) (sym (take-all 65536 bytes l)) ∙ s .refused))
+
+  pub next-over : {ended : Bool} → ended ≡ true → length bytes ≡ 0 → Reports bytes ended lent t (record { totals = t; ending = Verdict.Accept })
+  next-over e z rest follows = ap₂ (λ (x y : List ℕ). reportFrom lent t (x ++ y)) (empty bytes z) (follows e) ∙ over-report lent t

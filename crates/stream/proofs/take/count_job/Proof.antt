@@ -1,0 +1,112 @@
+-- `stream::take::count_job` meets its contract. Assumes nothing.
+use mathlib.Core.Path.{_≡_, refl, sym, ap, ap₂, _∙_, subst, subst⁻¹}
+use Prim.Native.Nat.{ℕ, _*_, _≤_}
+use native.Mathlib.Omega.{arith}
+use lib.IntN.{natAbs}
+use lib.ListN.{length}
+use Rattle.model.specs.Calls.{Answer, pixelsOf}
+use Rattle.model.specs.Tape.{Progress, lentBy, parse}
+use Rattle.model.specs.Program.{jobAnswer}
+use Rattle.model.specs.Season.{Treated, treated, slackOf}
+use Rattle.calls.specs.Answers.{answerOf}
+use Rattle.job.specs.declared.answer.Answered.{Answered}
+use Rattle.job.specs.Answered.{AnswerTo}
+use Rattle.report.specs.Counted.{withJob, mostSlack, Bounded}
+use Rattle.report.proofs.Season.{countable-more}
+use borrow.Author.Needs.{needs}
+use Rattle.stream.proofs.take.count_job.Statement.{statement}
+use Rattle.stream.proofs.take.count_job.Tie as tie
+
+answer-of-requires : tie.Need-answer-of-requires
+answer-of-requires c κs = search needs
+
+enum-known-a : tie.Need-enum-known-a
+enum-known-a c = search needs
+
+enum-known-a-2 : tie.Need-enum-known-a-2
+enum-known-a-2 c = search needs
+
+-- what the answer says of the tape, by its case
+answered : (c : tie.After-answer-of) {x : Answered} → c .answer-of .result ≡ x → let a = c .before .before .before .before .before .before .before .args in
+    AnswerTo (parse (a .tape .now) (lentBy (a .samples .now) (a .flow .now))) (length (a .samples .now)) x
+answered c e =
+    let a = c .before .before .before .before .before .before .before .args in
+    subst (AnswerTo (parse (a .tape .now) (lentBy (a .samples .now) (a .flow .now))) (length (a .samples .now))) e (c .answer-of .ensures)
+
+counted-requires : tie.Need-counted-requires
+counted-requires c κs =
+    let g = c .before in
+    let d = g .before .before .before .before .before .before .before in
+    let s = d .before .before .before .before .before .before .before in
+    let (p, is, given) = answered d (g .a2 .given .1) in
+    let same = ap (λ (x : Answer). natAbs (x .slack)) (given .answer) in
+    record {
+      bounded = s .pre .1 .bounded;
+      notLast = s .pre .1 .notLast;
+      pixelsAllowed = omega (arith, given .pixels, given .held, s .pre .1 .samplesMost);
+      slackAllowed = omega (arith, same, given .pixels, given .slack);
+    }
+
+same-length : tie.Need-same-length
+same-length c = search needs
+
+same-length-2 : tie.Need-same-length-2
+same-length-2 c = search needs
+
+same-length-3 : tie.Need-same-length-3
+same-length-3 c = search needs
+
+same-length-4 : tie.Need-same-length-4
+same-length-4 c = search needs
+
+returns : tie.Need-returns
+returns c =
+    let g = c .before in
+    answered (g .before .before .before .before .before .before .before) (g .a .given .1)
+
+same-length-5 : tie.Need-same-length-5
+same-length-5 c = search needs
+
+same-length-6 : tie.Need-same-length-6
+same-length-6 c = search needs
+
+same-length-7 : tie.Need-same-length-7
+same-length-7 c = search needs
+
+same-length-8 : tie.Need-same-length-8
+same-length-8 c = search needs
+
+returns-2 : tie.Need-returns-2
+returns-2 c =
+    let g = c .before .before in
+    let d = g .before .before .before .before .before .before .before in
+    let s = d .before .before .before .before .before .before .before in
+    let (p, is, given) = answered d (g .a2 .given .1) in
+    let added = c .counted .ensures ∙ ap₂ (λ (n : ℕ) (x : Answer). withJob (s .args .totals) (record { pixels = n; answer = x })) (given .pixels) (given .answer) in (
+      p,
+      is,
+      refl,
+      record {
+        totals = added;
+        bounded = subst⁻¹ Bounded added (countable-more (s .args .totals) (treated p) (s .pre .1 .bounded) (omega (arith, given .held, s .pre .1 .samplesMost)) (omega (arith, given .slack)));
+      },
+    )
+
+pub count-job-spec : {M : Type 1} → statement M
+count-job-spec =
+    tie.close
+    (tie.spec
+    answer-of-requires
+    enum-known-a
+    enum-known-a-2
+    counted-requires
+    same-length
+    same-length-2
+    same-length-3
+    same-length-4
+    returns
+    same-length-5
+    same-length-6
+    same-length-7
+    same-length-8
+    returns-2)
