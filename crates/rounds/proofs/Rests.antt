@@ -2,7 +2,7 @@
 use mathlib.Core.Path.{_≡_, refl, sym, ap, _∙_, subst}
 use mathlib.Core.Bool.{Bool, true, false, not}
 use mathlib.Core.List.{List}
-use Prim.Native.Nat.{ℕ, zero, suc, _+_, _-_, _≤_, _<_, zero-le}
+use Prim.Native.Nat.{ℕ, zero, suc, _+_, _-_, _*_, _≤_, _<_}
 use native.Mathlib.Omega.{arith}
 use lib.Dec.{ltb}
 use lib.IntN.{ℤ}
@@ -12,7 +12,6 @@ use Rattle.model.specs.Lists.{at}
 use Rattle.model.specs.Problem.{Problem, pairCount}
 use Rattle.model.specs.Grid.{grid}
 use Rattle.model.specs.Rounds.{step, firstMoving, Steady, oneMore, steadyRounds}
-use Rattle.model.specs.Calls.{imageOf}
 use Rattle.runs.specs.Limits.{Within}
 use Rattle.rounds.specs.Ready.{SteadyReady}
 use Rattle.model.proofs.Sizes.{step-size}
@@ -63,63 +62,57 @@ module _ (share : ℤ → ℤ) (p : Problem) (flow : List ℤ) where
   unfolding steadyRounds
   goes-on n e = ap (next n) e
 
--- after k rounds: the flow with its image, and what the rounds to come, of those allowed, make of it
-pub record Rested (share : ℤ → ℤ) (t : Terms) (allowance : ℕ) (samples : List ℕ) (flow₀ : List ℤ) (k : ℕ) (flow image : List ℤ) (moving : Bool) : Type 0 where
-  pub round-most : k ≤ allowance
-  pub flow-length : length flow ≡ pairCount (grid t samples)
-  pub flow-most : Within (t .weight) flow
-  pub image-is : image ≡ imageOf t samples flow
-  pub moving-is : moving ≡ someMoves share (grid t samples) flow
-  pub rest-is : steadyRounds share (grid t samples) allowance flow₀ ≡ later k (steadyRounds share (grid t samples) (allowance - k) flow)
+-- after k rounds: what the rounds to come, of those allowed, make of the flow
+pub record Rested (share : ℤ → ℤ) (p : Problem) (allowance : ℕ) (flow₀ : List ℤ) (k : ℕ) (flow : List ℤ) : Type 0 where
+  pub rest-is : steadyRounds share p allowance flow₀ ≡ later k (steadyRounds share p (allowance - k) flow)
 
 -- before the first round
-pub rested-none : (share : ℤ → ℤ) {t : Terms} (allowance : ℕ) {samples : List ℕ} {flow image₀ image : List ℤ} {moving : Bool} → SteadyReady t samples flow image₀ →
-    image ≡ imageOf t samples flow → moving ≡ someMoves share (grid t samples) flow → Rested share t allowance samples flow 0 flow image moving
-rested-none share {t} allowance {samples} {flow} r e m =
+pub rested-none : (share : ℤ → ℤ) (p : Problem) (allowance : ℕ) (flow : List ℤ) → Rested share p allowance flow 0 flow
+rested-none share p allowance flow =
     record {
-      round-most = zero-le;
-      flow-length = r .lengths .flow-length;
-      flow-most = r .flow-most;
-      image-is = e;
-      moving-is = m;
       rest-is =
           let n : allowance ≡ allowance - 0 = omega arith in
-          later-none _ ∙ ap (λ (a : ℕ). later 0 (steadyRounds share (grid t samples) a flow)) n;
+          later-none _ ∙ ap (λ (a : ℕ). later 0 (steadyRounds share p a flow)) n;
     }
 
-module _ {share : ℤ → ℤ} {t : Terms} {allowance : ℕ} {samples : List ℕ} {flow₀ : List ℤ} {k : ℕ} {flow image : List ℤ} {moving : Bool}
-    (r : Rested share t allowance samples flow₀ k flow image moving)
-  where
-    -- a round
-    pub rested-more : {flow₁ image₁ : List ℤ} {moving₁ : Bool} → moving ≡ true → k < allowance → flow₁ ≡ step share (grid t samples) flow →
-        image₁ ≡ imageOf t samples flow₁ → moving₁ ≡ someMoves share (grid t samples) flow₁ →
-        Rested share t allowance samples flow₀ (k + 1) flow₁ image₁ moving₁
-    rested-more {flow₁} g l s e m =
-        record {
-          round-most = omega arith;
-          flow-length = ap length s ∙ step-size share (grid t samples) flow;
-          flow-most = subst (Within (t .weight)) (sym s) (step-within t samples share flow);
-          image-is = e;
-          moving-is = m;
-          rest-is =
-              let p : Problem = grid t samples in
-              let n : allowance - k ≡ suc (allowance - (k + 1)) = omega arith in
-              r .rest-is
-              ∙ ap (λ (a : ℕ). later k (steadyRounds share p a flow)) n
-              ∙ ap (later k) (goes-on share p flow (allowance - (k + 1)) (sym (r .moving-is) ∙ g))
-              ∙ later-more k _
-              ∙ ap (λ (f : List ℤ). later (k + 1) (steadyRounds share p (allowance - (k + 1)) f)) (sym s);
-        }
+module _ {share : ℤ → ℤ} {p : Problem} {allowance : ℕ} {flow₀ : List ℤ} {k : ℕ} {flow : List ℤ} (r : Rested share p allowance flow₀ k flow) where
+  -- a round
+  pub rested-more : {flow₁ : List ℤ} → someMoves share p flow ≡ true → k < allowance → flow₁ ≡ step share p flow →
+      Rested share p allowance flow₀ (k + 1) flow₁
+  rested-more g l s =
+      record {
+        rest-is =
+            let n : allowance - k ≡ suc (allowance - (k + 1)) = omega arith in
+            r .rest-is
+            ∙ ap (λ (a : ℕ). later k (steadyRounds share p a flow)) n
+            ∙ ap (later k) (goes-on share p flow (allowance - (k + 1)) g)
+            ∙ later-more k _
+            ∙ ap (λ (f : List ℤ). later (k + 1) (steadyRounds share p (allowance - (k + 1)) f)) (sym s);
+      }
 
-    -- the end
-    pub rested-end : (moving ≡ true → allowance ≤ k) → steadyRounds share (grid t samples) allowance flow₀ ≡ later k (ended flow moving)
-    rested-end h = r .rest-is ∙ ap (later k) (by moving (r .moving-is) h)
-      where
-        by : (b : Bool) → b ≡ someMoves share (grid t samples) flow → (b ≡ true → allowance ≤ k) →
-            steadyRounds share (grid t samples) (allowance - k) flow ≡ ended flow b
-        by true e h =
-            let n : allowance - k ≡ 0 = omega (arith, h refl) in
-            ap (λ (a : ℕ). steadyRounds share (grid t samples) a flow) n
-            ∙ spent share (grid t samples) flow
-            ∙ ap (ended flow) (sym e)
-        by false e h = rests share (grid t samples) flow (allowance - k) (sym e)
+  -- the end
+  pub rested-end : (moving : Bool) → moving ≡ someMoves share p flow → (moving ≡ true → allowance ≤ k) →
+      steadyRounds share p allowance flow₀ ≡ later k (ended flow moving)
+  rested-end moving e h = r .rest-is ∙ ap (later k) (by moving e h)
+    where
+      by : (b : Bool) → b ≡ someMoves share p flow → (b ≡ true → allowance ≤ k) → steadyRounds share p (allowance - k) flow ≡ ended flow b
+      by true e h =
+          let n : allowance - k ≡ 0 = omega (arith, h refl) in
+          ap (λ (a : ℕ). steadyRounds share p a flow) n ∙ spent share p flow ∙ ap (ended flow) (sym e)
+      by false e h = rests share p flow (allowance - k) (sym e)
+
+-- the buffers after a round: a step on the flow, and an image of the length that it had
+pub ready-more : (share : ℤ → ℤ) {t : Terms} {samples : List ℕ} {flow image : List ℤ} → SteadyReady t samples flow image →
+    {flow₁ image₁ : List ℤ} → flow₁ ≡ step share (grid t samples) flow → length image₁ ≡ t .width * t .height →
+    SteadyReady t samples flow₁ image₁
+ready-more share {t} {samples} {flow} r s l =
+    record {
+      limits = r .limits;
+      lengths =
+          record {
+            samples-length = r .lengths .samples-length;
+            flow-length = ap length s ∙ step-size share (grid t samples) flow;
+            image-length = l;
+          };
+      flow-most = subst (Within (t .weight)) (sym s) (step-within t samples share flow);
+    }

@@ -64,14 +64,15 @@ pub fn steady_rounds(
     let weight = signed::natural(t.weight);
     let most = allowance as u32;
     let mut moved: u32 = 0;
-    let mut moving = some_moves(t, samples, flow, image);
-    while moving && moved < most {
+    loop {
+        let moving = some_moves(t, samples, flow, image);
+        if !moving || most <= moved {
+            return Steady {
+                moved: moved,
+                settled: !moving,
+            };
+        }
         grid::step_grid(flow, image, w, h, weight);
         moved += 1;
-        moving = some_moves(t, samples, flow, image);
-    }
-    Steady {
-        moved: moved,
-        settled: !moving,
     }
 }

@@ -53,7 +53,7 @@ pub fn next_of(
         Taken::Counted(after, size) => Next::Counted(after, size),
         Taken::Refused(number, place) => Next::Refused(number, place),
         Taken::Short(number, place, t, next) => {
-            if 65536 < len {
+            if count < len {
                 return Next::Refused(17, 0);
             }
             if !ended {

@@ -31,6 +31,11 @@ front c =
 within : (c : tie.Joined1) → c .if1 .count ≤ length (c .before .before .before .args .bytes .now)
 within c = ⊎-elim (λ h. omega arith) (λ h. omega arith) (c .if1 .came)
 
+-- there are more bytes than these exactly where there are more than 65,536
+past : (c : tie.Joined1) → let n : ℕ = length (c .before .before .before .args .bytes .now) in
+    (c .if1 .count < n → 65536 < n) × (n ≤ c .if1 .count → n ≤ 65536)
+past c = (λ l. ⊎-elim (λ h. omega arith) (λ h. omega arith) (c .if1 .came), λ l. ⊎-elim (λ h. omega arith) (λ h. omega arith) (c .if1 .came))
+
 slice-aggregate-take-job : tie.Need-slice-aggregate-take-job
 slice-aggregate-take-job c = sym (length-take-le _ _ (within (c .before)))
 
@@ -81,7 +86,7 @@ returns c =
     let g = c .before .before in
     let k = g .before .before .before .before .before .before .before in
     let s = k .before .before .before .before .before .before .before .before .before in
-    next-past (s .args .bytes .now) _ (s .args .totals) (s .pre .2 .notLast) (got k (g .s3 .given .1)) (omega arith)
+    next-past (s .args .bytes .now) _ (s .args .totals) (s .pre .2 .notLast) (got k (g .s3 .given .1)) (past (k .before .before .before .before .before .before) .0 (c .if2 .taken))
 
 same-length-5 : tie.Need-same-length-5
 same-length-5 c = search needs
@@ -100,7 +105,7 @@ returns-2 c =
     let g = c .before .before .before in
     let k = g .before .before .before .before .before .before .before in
     let s = k .before .before .before .before .before .before .before .before .before in
-    next-more (s .args .bytes .now) _ (s .args .totals) (s .pre .2 .notLast) (got k (g .s3 .given .1)) (omega arith) (not-true _ (c .if3 .taken))
+    next-more (s .args .bytes .now) _ (s .args .totals) (s .pre .2 .notLast) (got k (g .s3 .given .1)) (past (k .before .before .before .before .before .before) .1 (c .before .if2 .left)) (not-true _ (c .if3 .taken))
 
 same-length-9 : tie.Need-same-length-9
 same-length-9 c = search needs
@@ -176,7 +181,7 @@ returns-6 c =
     let g = c .before .before .before .before in
     let k = g .before .before .before .before .before .before .before in
     let s = k .before .before .before .before .before .before .before .before .before in
-    next-ended (s .args .bytes .now) _ (s .args .totals) (s .pre .2 .notLast) (got k (g .s3 .given .1)) (omega arith) (not-false _ (c .before .if3 .left)) (c .if4 .left)
+    next-ended (s .args .bytes .now) _ (s .args .totals) (s .pre .2 .notLast) (got k (g .s3 .given .1)) (past (k .before .before .before .before .before .before) .1 (c .before .before .if2 .left)) (not-false _ (c .before .if3 .left)) (c .if4 .left)
 
 pub next-of-spec : {M : Type 1} → statement M
 next-of-spec =
