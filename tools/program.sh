@@ -17,4 +17,4 @@ if [ ! -x "$program" ]; then
     exit 1
 fi
 cd rust
-cargo run --offline --quiet --release -p relief-program -- "$program" "${1:-quick}"
+cargo run --offline --quiet --release -p relief-program -- relief "$program" "${1:-quick}"

@@ -1,13 +1,13 @@
 #!/usr/bin/env bash
 # All tests. First the layout, the header and the second implementation's own tests; then every proof from nothing, with
-# the must-fail edits and the program's stored answer (`rt ci`); then what was proved there is compared with the second
-# implementation on about one input in twenty, called with guard pages behind its buffers, and called through the Rust
+# the must-fail edits and the programs' stored answers (`rt ci`); then what was proved there is compared with the second
+# implementation on a part of the inputs, called with guard pages behind its buffers, and called through the Rust
 # wrapper; the picture scripts are tested and the examples run. Any step that fails ends it. The last line is the last
 # line of `rt ci`: `N passed, 0 failed`.
 set -euo pipefail
 cd "$(dirname "$0")/.."
 # what is tested is built here, not another library or program that the caller names
-unset RELIEF_LIB_DIR RELIEF_BIN
+unset RELIEF_LIB_DIR RELIEF_BIN RELIEF_SEASON
 proofs=$(mktemp)
 trap 'rm -f "$proofs"' EXIT
 
@@ -26,7 +26,7 @@ rt ci | tee "$proofs"
 echo "== the static library beside the second implementation"
 # compiled once, from what was proved above; every step below takes it as it is
 bash tools/library.sh > /dev/null
-export RELIEF_LIB_DIR=$PWD/target/staticlib RELIEF_BIN=$PWD/target/bin/relief
+export RELIEF_LIB_DIR=$PWD/target/staticlib RELIEF_BIN=$PWD/target/bin/relief RELIEF_SEASON=$PWD/target/bin/season
 bash tools/static.sh quick
 
 echo "== the static library with a guard page behind every buffer"
@@ -38,9 +38,15 @@ echo "== the Rust wrapper"
 echo "== the program beside the second implementation"
 bash tools/program.sh quick
 
+echo "== the season report beside the second implementation"
+bash tools/season.sh quick
+
 echo "== the examples"
 python3 examples/pgm2tape.py --low 30 --high 200 < examples/facade.pgm | cmp - examples/facade.tape
 python3 tests/scripts.py
+# the sample season is these tapes, one behind the other
+cat examples/two-by-one.tape examples/facade.tape examples/two-by-one-flow.tape | cmp - examples/season.tape
+"$RELIEF_SEASON" < examples/season.tape | cmp - examples/season.txt
 # the first command of the README, as it stands there: the program is proved already
 env -u RELIEF_BIN bash tools/clean-sample.sh
 bash tools/example.sh

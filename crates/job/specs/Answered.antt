@@ -9,9 +9,11 @@ use Rattle.calls.specs.declared.answer.Answer.{Answer}
 use Rattle.calls.specs.Answers.{answerOf}
 use Rattle.job.specs.declared.answer.Answered.{Answered}
 
--- a job's answer, whose slack is at most so much for each pixel, and its count of pixels, for which there are samples
+-- a job's answer, which is no refusal and whose slack is at most so much for each pixel, and its count of pixels, for which
+-- there are samples
 pub record Answers (p : Progress) (samples : ℕ) (a : Answer) (n : ℕ) : Type 0 where
   pub answer : answerOf a ≡ jobAnswer p
+  pub accepted : jobAnswer p .number ≡ 0
   pub pixels : n ≡ pixelsOf (p .terms)
   pub held : pixelsOf (p .terms) ≤ samples
   pub slack : natAbs (jobAnswer p .slack) ≤ pixelsOf (p .terms) * (10 * (65280 * 65280))

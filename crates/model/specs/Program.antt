@@ -83,7 +83,7 @@ abbrev pub readText : Parse → List ℕ
 readText (turned number place) = refusalText (refusal number place)
 readText (whole p) = answerText (jobAnswer p) (p .terms) (jobImage p)
 
--- The tables hold 4,096 samples and 8,064 flow values (SPECIFICATION 7.1)
+-- The tables hold 4,096 samples and 8,064 flow values (SPECIFICATION 7.2)
 abbrev pub tables : Bool → Lent
 tables followed = record { samples = 4096; flow = 8064; followed = followed }
 

@@ -1,7 +1,8 @@
 -- The values that document 01 marks to be proved (●), in its order and with the steady rounds of request F-1: what is
--- asked, and what is to be given; after them the text that it prints for the 2 by 1 job, a 2 by 2 job of our own, worked by
--- hand, in which the order of the pairs tells, and falls whose eighth is a half or just beyond. One theorem, `values` of
--- proofs/Values.antt, says that the definitions give it in every case (docs/SPECIFICATION.md, section 9).
+-- asked, and what is to be given; after them the text that it prints for the 2 by 1 job, the report's text for three
+-- seasons of that job (request F-2), a 2 by 2 job of our own, worked by hand, in which the order of the pairs tells, and
+-- falls whose eighth is a half or just beyond. One theorem, `values` of proofs/Values.antt, says that the definitions give
+-- it in every case (docs/SPECIFICATION.md, section 9).
 use mathlib.Core.List.{List, [], _∷_, _++_}
 use Prim.Native.Nat.{ℕ, _*_}
 use lib.IntN.{ℤ, pos, negℤ}
@@ -58,7 +59,7 @@ ask t samples (reporting quick allowance times behind) =
     (seasonText (chain times (λ _. tapeOf t (record { quick = quick; allowance = allowance }) samples []) ++ behind))
 ask t samples (sharing d) = shares (eighth d) (nearestEighth d)
 
--- The 2 by 1 job: samples 0 and 2, weight 256, box 0 to 255 (SPECIFICATION 9.1, 9.2, 9.9); a share does not depend on it (9.11)
+-- The 2 by 1 job: samples 0 and 2, weight 256, box 0 to 255 (SPECIFICATION 9.1, 9.2, 9.9, 9.12); a share does not depend on it (9.11)
 abbrev pub twoByOne : Asked → Given → Case
 twoByOne a g =
     record {

@@ -1,6 +1,7 @@
 //! Times the proved library beside the second implementation's loop nests: the same input in
 //! the same buffers, by turns in one process, both compiled for release.
 
+mod clock;
 #[cfg(feature = "judge")]
 mod judge;
 mod measure;

@@ -1,9 +1,9 @@
 //! The job that both sides work on, and how they are timed.
 
-use std::time::{Duration, Instant};
-
 use relief_inputs::Random;
 use relief_reference::{Grid, Terms};
+
+use crate::clock::{by_turns, Side};
 
 /// Measurements of each side, after one that warms up.
 pub const REPETITIONS: usize = 7;
@@ -69,25 +69,12 @@ pub fn report(
     let pixels = lent.samples.len();
     let repeats = PIXELS.div_ceil(pixels * turns);
     let visits = (repeats * turns * pixels) as f64;
-    let mut times = [Vec::new(), Vec::new()];
-    for _ in 0..=REPETITIONS {
-        times[0].push(timed(|| (0..repeats).for_each(|_| library(lent))));
-        times[1].push(timed(|| (0..repeats).for_each(|_| reference(lent))));
-    }
-    let [ours, theirs] = times.map(|times| median(&times[1..]).as_secs_f64() * 1e9 / visits);
+    let [ours, theirs] = by_turns(REPETITIONS, |side| match side {
+        Side::Proved => (0..repeats).for_each(|_| library(lent)),
+        Side::Plain => (0..repeats).for_each(|_| reference(lent)),
+    })
+    .map(|times| times.median() * 1e9 / visits);
     let ratio = ours / theirs;
     let side = lent.side;
     println!("{name:13}{side:5} x {side:<5}{ours:9.2}{theirs:11.2}{ratio:8.2}");
-}
-
-fn timed(work: impl FnOnce()) -> Duration {
-    let start = Instant::now();
-    work();
-    start.elapsed()
-}
-
-fn median(times: &[Duration]) -> Duration {
-    let mut times = times.to_vec();
-    times.sort();
-    times[times.len() / 2]
 }

@@ -1,14 +1,16 @@
-//! What tests, comparisons and benchmark share: jobs and their tapes, random, extreme and
-//! damaged, and the counts of what a family of them was answered.
+//! What tests, comparisons and benchmark share: jobs, their tapes and seasons of them, random,
+//! extreme and damaged, and the counts of what a family of them was answered.
 
 mod case;
 mod chessboard;
 mod family;
 mod random;
+mod season;
 mod tape;
 
 pub use case::{flat, narrow_box, two_by_one, Case, TWO_BY_ONE_TEXT};
 pub use chessboard::{chessboard, chessboard_flow};
 pub use family::{compare_family, status, Answer, Difference, Tally};
 pub use random::Random;
-pub use tape::{small_tapes, tape_length, Tape};
+pub use season::{filler, season_job, TWO_BY_ONE_SEASON};
+pub use tape::{changes_of, prefixes_of, small_tapes, tape_length, Tape};

@@ -35,6 +35,20 @@ pub fn small_tapes(count: u64) -> impl Iterator<Item = (Random, Tape)> {
     })
 }
 
+/// Every prefix, all of the bytes among them.
+pub fn prefixes_of(bytes: Vec<u8>) -> impl Iterator<Item = Vec<u8>> {
+    (0..=bytes.len()).map(move |length| bytes[..length].to_vec())
+}
+
+/// The bytes with each of them set to each value.
+pub fn changes_of(bytes: Vec<u8>) -> impl Iterator<Item = Vec<u8>> {
+    (0..256 * bytes.len()).map(move |change| {
+        let mut changed = bytes.clone();
+        changed[change / 256] = (change % 256) as u8;
+        changed
+    })
+}
+
 impl Tape {
     /// The tape of a job, where an empty flow is none.
     pub fn new(case: &Case, flow: &[i32]) -> Tape {
@@ -60,16 +74,12 @@ impl Tape {
 
     /// Every prefix, the whole tape among them.
     pub fn prefixes(self) -> impl Iterator<Item = Vec<u8>> {
-        (0..=self.bytes.len()).map(move |length| self.bytes[..length].to_vec())
+        prefixes_of(self.bytes)
     }
 
     /// The tape with each byte set to each value.
     pub fn changes(self) -> impl Iterator<Item = Vec<u8>> {
-        (0..256 * self.bytes.len()).map(move |change| {
-            let mut changed = self.bytes.clone();
-            changed[change / 256] = (change % 256) as u8;
-            changed
-        })
+        changes_of(self.bytes)
     }
 
     /// The tape with records out of order, terms or flow numbers beyond their limits, bytes

@@ -6,8 +6,8 @@ use std::process::{Child, ChildStdin, Command, ExitStatus, Stdio};
 use std::thread;
 use std::time::{Duration, Instant};
 
-/// How long the program may take for one tape.
-const TIME_LIMIT: Duration = Duration::from_secs(60);
+/// How long the program may take for one input.
+const TIME_LIMIT: Duration = Duration::from_secs(120);
 
 /// The path of the program.
 pub struct Program(PathBuf);
@@ -15,10 +15,14 @@ pub struct Program(PathBuf);
 /// Bytes for the standard input of the program, and how they are written to the pipe.
 pub struct Input {
     pub bytes: Vec<u8>,
+    /// How many times they are written, one behind the other.
+    pub times: usize,
     /// The most bytes in one write.
     pub piece: usize,
     /// What the writer waits after each write.
     pub pause: Duration,
+    /// Whether the pipe stays open until the program has ended.
+    pub stays_open: bool,
 }
 
 /// Everything in one write.
@@ -26,17 +30,37 @@ impl From<Vec<u8>> for Input {
     fn from(bytes: Vec<u8>) -> Input {
         Input {
             bytes,
+            times: 1,
             piece: usize::MAX,
             pause: Duration::ZERO,
+            stays_open: false,
         }
     }
 }
 
 impl Input {
+    /// In pieces of so many bytes, with pauses.
+    pub fn in_pieces(bytes: Vec<u8>, piece: usize, milliseconds: u64) -> Input {
+        Input {
+            piece,
+            pause: Duration::from_millis(milliseconds),
+            ..bytes.into()
+        }
+    }
+
+    /// By a pipe that stays open.
+    pub fn left_open(bytes: Vec<u8>) -> Input {
+        Input {
+            stays_open: true,
+            ..bytes.into()
+        }
+    }
+
     /// Writes until the end, or until the program reads no more: it need not read on once it
     /// knows its answer.
-    fn write_to(&self, mut pipe: ChildStdin) {
-        for piece in self.bytes.chunks(self.piece) {
+    fn write_to(&self, pipe: &mut ChildStdin) {
+        let pieces = (0..self.times).flat_map(|_| self.bytes.chunks(self.piece));
+        for piece in pieces {
             if pipe.write_all(piece).is_err() {
                 return;
             }
@@ -106,9 +130,16 @@ fn finish(
     stdout: Option<impl Read + Send>,
     input: &Input,
 ) -> Result<Ended, String> {
-    let (stdin, stderr) = (child.stdin.take(), child.stderr.take());
+    let (mut stdin, stderr) = (child.stdin.take(), child.stderr.take());
     thread::scope(|scope| {
-        scope.spawn(|| stdin.map(|pipe| input.write_to(pipe)));
+        scope.spawn(|| {
+            if let Some(pipe) = &mut stdin {
+                input.write_to(pipe);
+            }
+            if !input.stays_open {
+                stdin = None;
+            }
+        });
         let stdout = scope.spawn(|| everything(stdout));
         let stderr = scope.spawn(|| everything(stderr));
         let status = wait(&mut child)?;

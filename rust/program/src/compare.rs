@@ -1,4 +1,4 @@
-//! One tape, cleaned by the program and by the reference.
+//! One input: what the program prints for it, beside the reference's text.
 
 use relief_inputs::{Answer, Difference};
 use relief_reference::program::clean;
@@ -6,35 +6,54 @@ use relief_reference::Refusal;
 
 use crate::child::{run, Ended, Input, Program};
 
-/// Starts the program on the tape and gives the answer, if it prints the reference's text and
-/// nothing else.
+/// The most bytes of an input that a report shows.
+const SHOWN: usize = 100_000;
+
+/// Starts the cleaning program on the tape and gives the answer, if it prints the reference's
+/// text and nothing else.
 pub fn compare(program: &Program, input: &Input) -> Result<Answer<String>, Difference> {
     let expected = clean(&input.bytes);
+    compare_text(program, input, &expected)?;
+    Ok(answer(&expected))
+}
+
+/// Starts the program on the input. It must print this text and nothing else.
+pub fn compare_text(program: &Program, input: &Input, expected: &str) -> Result<(), Difference> {
     let differs = match run(&mut program.command(), input) {
         Err(failure) => Some(failure),
         Ok(ended) => difference(&ended, expected.as_bytes()),
     };
     match differs {
         Some(differs) => Err(report(&differs, input)),
-        None => Ok(answer(&expected)),
+        None => Ok(()),
     }
 }
 
-/// What differs, with the whole tape.
+/// What differs, with the whole input, unless it is very long.
 pub fn report(differs: &str, input: &Input) -> Difference {
-    let hex: String = input
+    let length = input.bytes.len();
+    let mut hex: String = input
         .bytes
         .iter()
+        .take(SHOWN)
         .map(|byte| format!("{byte:02x}"))
         .collect();
-    let (length, piece, pause) = (input.bytes.len(), input.piece, input.pause);
-    let pieces = if piece < length {
-        format!(", written in pieces of {piece} with pauses of {pause:?}")
-    } else {
-        String::new()
-    };
+    if length > SHOWN {
+        hex.push_str("...");
+    }
+    let mut written = String::new();
+    if input.times > 1 {
+        written.push_str(&format!(", {} times", input.times));
+    }
+    if input.piece < length {
+        let (piece, pause) = (input.piece, input.pause);
+        written.push_str(&format!(", in pieces of {piece} with pauses of {pause:?}"));
+    }
+    if input.stays_open {
+        written.push_str(", by a pipe that stays open");
+    }
     Difference(format!(
-        "program DIFFERS: {differs}\ntape of {length} bytes{pieces}: {hex}"
+        "program DIFFERS: {differs}\ninput of {length} bytes{written}: {hex}"
     ))
 }
 
@@ -67,19 +86,25 @@ fn first_line(printed: &[u8], expected: &[u8]) -> String {
     }
 }
 
-/// The refusal that a text of the reference tells, or its outcome with what is special in it.
+/// The refusal that a text of the cleaning program tells, or its outcome with what is special
+/// in it.
 fn answer(text: &str) -> Answer<String> {
     let words: Vec<&str> = text.split_whitespace().take(10).collect();
     match words[..] {
-        ["refused", number, "at", place] => Err(Refusal {
-            number: number.parse().expect("a number"),
-            place: place.parse().expect("a place"),
-        }),
+        ["refused", number, "at", place] => Err(refusal(number, place)),
         [_, _, _, _, _, outcome, _, _, floor, slack] => Ok(match (floor, slack) {
             (floor, _) if floor.starts_with('-') => format!("{outcome} with floor below 0"),
             (_, "0") => format!("{outcome} with slack 0"),
             _ => outcome.to_string(),
         }),
         _ => panic!("the reference prints {text:?}"),
+    }
+}
+
+/// The refusal that two printed words tell.
+pub fn refusal(number: &str, place: &str) -> Refusal {
+    Refusal {
+        number: number.parse().expect("a number"),
+        place: place.parse().expect("a place"),
     }
 }

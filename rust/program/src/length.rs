@@ -1,7 +1,5 @@
 //! Inputs about as long as the program takes, much longer ones, and inputs in pieces.
 
-use std::time::Duration;
-
 use relief_inputs::{compare_family, two_by_one, Difference};
 use relief_reference::program::INPUT_LIMIT;
 
@@ -23,18 +21,18 @@ fn inputs() -> Vec<Input> {
     for tape in [&[], &small[..], &full] {
         for length in [INPUT_LIMIT - 1, INPUT_LIMIT, INPUT_LIMIT + 1, 1_000_000] {
             inputs.push(padded(tape, length).into());
-            inputs.push(in_pieces(padded(tape, length), 997, 0));
+            inputs.push(Input::in_pieces(padded(tape, length), 997, 0));
         }
     }
     let (longest, too_long) = (INPUT_LIMIT, INPUT_LIMIT + 1);
     inputs.extend([
-        in_pieces(small.clone(), 1, 1),
-        in_pieces(full.clone(), 1, 0),
-        in_pieces(full, 4_096, 1),
-        in_pieces(padded(&small, longest), 16_384, 1),
+        Input::in_pieces(small.clone(), 1, 1),
+        Input::in_pieces(full.clone(), 1, 0),
+        Input::in_pieces(full, 4_096, 1),
+        Input::in_pieces(padded(&small, longest), 16_384, 1),
         // The byte too many comes late.
-        in_pieces(padded(&small, too_long), longest, 5),
-        in_pieces(padded(&small, too_long), 1, 0),
+        Input::in_pieces(padded(&small, too_long), longest, 5),
+        Input::in_pieces(padded(&small, too_long), 1, 0),
     ]);
     inputs
 }
@@ -44,12 +42,4 @@ fn padded(tape: &[u8], length: usize) -> Vec<u8> {
     let mut bytes = tape.to_vec();
     bytes.resize(length, 0);
     bytes
-}
-
-fn in_pieces(bytes: Vec<u8>, piece: usize, milliseconds: u64) -> Input {
-    Input {
-        bytes,
-        piece,
-        pause: Duration::from_millis(milliseconds),
-    }
 }

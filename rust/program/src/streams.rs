@@ -1,6 +1,10 @@
-//! Streams that fail: the program must end, and print nothing where it could read nothing.
+//! Streams that fail: the program must end, say so on standard error, and print nothing where
+//! it could not read.
 
 use std::fs::File;
+use std::io::{self, Write};
+use std::os::fd::OwnedFd;
+use std::os::unix::net::UnixStream;
 
 use relief_inputs::{two_by_one, Difference};
 
@@ -9,56 +13,74 @@ use crate::compare::report;
 use crate::tapes::full_tape;
 
 /// Starts the program with an output that cannot be written, then with an input that cannot
-/// be read.
-pub fn compare(program: &Program) -> Result<(), Difference> {
-    output_fails(program, &two_by_one().tape(&[]).into())?;
-    output_fails(program, &full_tape().into())?;
+/// be read. In what it says it names itself so.
+pub fn compare(program: &Program, name: &str) -> Result<(), Difference> {
+    for tape in [two_by_one().tape(&[]), full_tape()] {
+        output_fails(program, name, &tape.into())?;
+    }
     println!("output that cannot be written: ended");
-    input_fails(program)?;
+    input_fails(program, name)?;
     println!("input that cannot be read: ended, nothing printed");
     Ok(())
 }
 
-fn output_fails(program: &Program, input: &Input) -> Result<(), Difference> {
+fn output_fails(program: &Program, name: &str, input: &Input) -> Result<(), Difference> {
+    let said = format!("{name}: standard output cannot be written\n");
     let unread = run_unread(&mut program.command(), input);
-    ended("output that nobody reads", unread, input)?;
+    // By the system's signal, without a word.
+    says("output that nobody reads", unread, input, "")?;
     let mut signal_ignored = program.shell(r#"trap "" PIPE; exec "$0""#);
     let unread = run_unread(&mut signal_ignored, input);
-    ended(
-        "output that nobody reads, its signal ignored",
-        unread,
-        input,
-    )?;
-    let to_full = run(
-        program.command().stdout(open(File::create("/dev/full"))?),
-        input,
-    );
-    ended("output to a full device", to_full, input)?;
+    let what = "output that nobody reads, its signal ignored";
+    says(what, unread, input, &said)?;
+    let full = opened(File::create("/dev/full"))?;
+    let to_full = run(program.command().stdout(full), input);
+    says("output to a full device", to_full, input, &said)?;
     let to_none = run(&mut program.shell(r#"exec "$0" >&-"#), input);
-    ended("output closed", to_none, input).map(drop)
+    says("output closed", to_none, input, &said)
 }
 
-fn input_fails(program: &Program) -> Result<(), Difference> {
+fn input_fails(program: &Program, name: &str) -> Result<(), Difference> {
+    let said = format!("{name}: standard input cannot be read\n");
     let none = Vec::new().into();
-    let from_folder = run(program.command().stdin(open(File::open("/"))?), &none);
+    let folder = opened(File::open("/"))?;
+    let from_folder = run(program.command().stdin(folder), &none);
+    says("input from a folder", from_folder, &none, &said)?;
     let closed = run(&mut program.shell(r#"exec "$0" <&-"#), &none);
-    for (what, result) in [
-        ("input from a folder", from_folder),
-        ("input closed", closed),
-    ] {
-        let printed = ended(what, result, &none)?.stdout;
-        if !printed.is_empty() {
-            let differs = format!("{what}: it printed \"{}\"", printed.escape_ascii());
-            return Err(report(&differs, &none));
+    says("input closed", closed, &none, &said)?;
+
+    // Behind this tape the system would have to wait, which it is told not to do.
+    let tape = two_by_one().tape(&[]);
+    let (mut near, far) = opened(UnixStream::pair())?;
+    opened(far.set_nonblocking(true))?;
+    opened(near.write_all(&tape))?;
+    let fails_late = run(program.command().stdin(OwnedFd::from(far)), &none);
+    says("input that fails late", fails_late, &tape.into(), &said)
+}
+
+fn opened<T>(stream: io::Result<T>) -> Result<T, Difference> {
+    stream.map_err(|error| Difference(error.to_string()))
+}
+
+/// Sees to it that the program has ended, with nothing printed and this on standard error.
+fn says(
+    what: &str,
+    result: Result<Ended, String>,
+    input: &Input,
+    said: &str,
+) -> Result<(), Difference> {
+    let differs = match result {
+        Err(failure) => failure,
+        Ok(ended) if !ended.stdout.is_empty() => {
+            format!("it printed \"{}\"", ended.stdout.escape_ascii())
         }
-    }
-    Ok(())
-}
-
-fn open(file: std::io::Result<File>) -> Result<File, Difference> {
-    file.map_err(|error| Difference(error.to_string()))
-}
-
-fn ended(what: &str, result: Result<Ended, String>, input: &Input) -> Result<Ended, Difference> {
-    result.map_err(|failure| report(&format!("{what}: {failure}"), input))
+        Ok(ended) if ended.stderr != said.as_bytes() => {
+            format!("standard error has \"{}\"", ended.stderr.escape_ascii())
+        }
+        Ok(ended) if !said.is_empty() && !ended.status.success() => {
+            format!("it ended with {}", ended.status)
+        }
+        Ok(_) => return Ok(()),
+    };
+    Err(report(&format!("{what}: {differs}"), input))
 }

@@ -1,7 +1,7 @@
 //! Tapes of accepted jobs, and damaged ones.
 
 use relief_inputs::{
-    chessboard, chessboard_flow, compare_family, small_tapes, tape_length, two_by_one, Case,
+    chessboard, chessboard_flow, compare_family, flat, small_tapes, tape_length, two_by_one, Case,
     Difference, Random, Tally, Tape,
 };
 use relief_reference::program::{FLOW_TABLE, SAMPLE_TABLE};
@@ -38,13 +38,10 @@ fn family(
 }
 
 /// Tapes of the most pixels: with the largest totals, with any flow, and without one.
-fn largest() -> impl Iterator<Item = Vec<u8>> {
+pub fn largest() -> impl Iterator<Item = Vec<u8>> {
     let mut random = Random::new(0x1A26E4);
     LARGEST.into_iter().flat_map(move |(width, height)| {
-        let mut extreme = Case::sized(&mut random, width, height);
-        extreme.terms.weight = WEIGHT_LIMIT;
-        (extreme.terms.low, extreme.terms.high) = (0, 255);
-        extreme.samples = chessboard(width as usize, height as usize);
+        let extreme = extreme(Case::sized(&mut random, width, height));
         let end = WEIGHT_LIMIT as i32;
         let [apart, together] =
             [end, -end].map(|value| chessboard_flow(width as usize, height as usize, value));
@@ -68,6 +65,20 @@ fn largest() -> impl Iterator<Item = Vec<u8>> {
             long.tape(&[]),
         ]
     })
+}
+
+/// The job with the samples, weight and box of the largest totals.
+fn extreme(mut case: Case) -> Case {
+    case.terms.weight = WEIGHT_LIMIT;
+    (case.terms.low, case.terms.high) = (0, 255);
+    case.samples = chessboard(case.terms.width as usize, case.terms.height as usize);
+    case
+}
+
+/// The tape with the largest slack that the program takes: at every pair the fall and the flow
+/// are as large as they can be.
+pub fn slackest_tape() -> Vec<u8> {
+    extreme(flat(64, 64)).tape(&chessboard_flow(64, 64, WEIGHT_LIMIT as i32))
 }
 
 /// The longest tape that the program takes: all samples and all flow numbers.

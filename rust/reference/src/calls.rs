@@ -21,6 +21,22 @@ pub struct Figures {
     pub slack: u64,
 }
 
+/// The form of [`check`].
+type Check = fn(&Terms, &[u8], &[i32], &mut [i32]) -> Result<Figures, Refusal>;
+
+/// The form of [`run`].
+type Run =
+    fn(&Terms, &Rounds, &[u8], &mut [i32], &mut [i32], &mut [i32]) -> Result<Figures, Refusal>;
+
+/// Check and run, as one of the two pairs of functions that are written here for them.
+pub(crate) struct Calls {
+    pub(crate) check: Check,
+    pub(crate) run: Run,
+}
+
+/// The definitions.
+pub(crate) const DEFINED: Calls = Calls { check, run };
+
 /// Judges a given image.
 pub fn price(terms: &Terms, samples: &[u8], image: &[i32]) -> Result<Figures, Refusal> {
     let grid = terms.judge()?;
@@ -83,13 +99,7 @@ pub fn run(
     image: &mut [i32],
     work: &mut [i32],
 ) -> Result<Figures, Refusal> {
-    let grid = terms.judge()?;
-    rounds.judge()?;
-    Fault::SamplesLength.unless(samples.len() == grid.pixel_count())?;
-    Fault::FlowLength.unless(flow.len() == grid.pair_count())?;
-    Fault::ImageLength.unless(image.len() == grid.pixel_count())?;
-    Fault::WorkLength.unless(work.len() == 2 * grid.pair_count())?;
-
+    let grid = judge_run(terms, rounds, samples, flow, image, work)?;
     let problem = Problem::new(grid, terms, samples);
     let quick = quick_rounds(&problem, rounds.quick);
     let steady = steady_rounds(&problem, quick, rounds.allowance);
@@ -102,6 +112,24 @@ pub fn run(
         steady.moved,
         image,
     ))
+}
+
+/// The grid of a run, if nothing makes it turn back.
+pub(crate) fn judge_run(
+    terms: &Terms,
+    rounds: &Rounds,
+    samples: &[u8],
+    flow: &[i32],
+    image: &[i32],
+    work: &[i32],
+) -> Result<Grid, Refusal> {
+    let grid = terms.judge()?;
+    rounds.judge()?;
+    Fault::SamplesLength.unless(samples.len() == grid.pixel_count())?;
+    Fault::FlowLength.unless(flow.len() == grid.pair_count())?;
+    Fault::ImageLength.unless(image.len() == grid.pixel_count())?;
+    Fault::WorkLength.unless(work.len() == 2 * grid.pair_count())?;
+    Ok(grid)
 }
 
 /// Fills `image` with the image of `flow` and gives the figures of both.

@@ -1,9 +1,10 @@
-//! The relief cleaner of document 01, with request F-1 of document 02, written a second
-//! time for comparison.
+//! The relief cleaner of document 01, with requests F-1 and F-2 of document 02, written a
+//! second time for comparison.
 //!
 //! The calls work in buffers that the caller lends, test all of their input
 //! themselves, and leave every buffer as it was when they refuse. Inside, plain
-//! definitions on vectors are preferred to speed; only the loop nests of [`plain`] are fast.
+//! definitions on vectors are preferred to speed; only the loop nests of [`plain`], and with
+//! them [`season::report_plain`], are fast.
 //!
 //! Names follow the literature on total variation. Document 01's words are kept
 //! in formats and answers, and given in a comment where a name differs:
@@ -24,6 +25,7 @@ pub mod problem;
 pub mod program;
 pub mod refusal;
 pub mod rounds;
+pub mod season;
 pub mod tape;
 pub mod terms;
 

@@ -1,16 +1,23 @@
-//! Check and the rounds again, as loop nests over lent 32-bit buffers, for speed.
+//! Check, run and the rounds again, as loop nests over lent 32-bit buffers, for speed.
 //!
-//! The rounds expect accepted terms and buffers of the exact lengths.
+//! Check and run test all of their input. The rounds expect accepted terms and buffers of
+//! the exact lengths.
 //!
 //! 32 bits are enough: T never falls, so an extrapolated flow stays within three
 //! times the weight, and readings less four such numbers stay below 2^20.
 
 use std::ops::Range;
 
-use crate::calls::{judge_check, Figures};
+use crate::calls::{judge_check, judge_run, Calls, Figures};
 use crate::refusal::Refusal;
 use crate::rounds::{next_t, Outcome, T_UNIT};
-use crate::terms::{reading, Terms};
+use crate::terms::{reading, Rounds, Terms};
+
+/// The loop nests.
+pub(crate) const PLAIN: Calls = Calls {
+    check: check_plain,
+    run: run_plain,
+};
 
 /// Judges a given flow and fills `image` with its image: what `check` answers.
 pub fn check_plain(
@@ -21,6 +28,53 @@ pub fn check_plain(
 ) -> Result<Figures, Refusal> {
     judge_check(terms, samples, flow, image)?;
     fill_image(terms, samples, flow, image);
+    Ok(figures(terms, samples, flow, image, Outcome::Checked, 0))
+}
+
+/// Does the rounds and fills `flow` and `image`: what `run` answers and leaves.
+pub fn run_plain(
+    terms: &Terms,
+    rounds: &Rounds,
+    samples: &[u8],
+    flow: &mut [i32],
+    image: &mut [i32],
+    work: &mut [i32],
+) -> Result<Figures, Refusal> {
+    judge_run(terms, rounds, samples, flow, image, work)?;
+    flow.fill(0);
+    work.fill(0);
+    let ahead = &mut work[..flow.len()];
+    let mut t = T_UNIT;
+    for _ in 0..rounds.quick {
+        t = quick_round_plain(terms, samples, t, flow, ahead, image);
+    }
+    ahead.fill(0);
+
+    let allowance = rounds.allowance.into();
+    let mut moved = 0;
+    // A round that changes nothing is the test that finds no pair.
+    while moved < allowance && steady_round_plain(terms, samples, flow, image) {
+        moved += 1;
+    }
+    let spent = moved == allowance && would_move(terms, samples, flow, image);
+    let outcome = if spent {
+        Outcome::Spent
+    } else {
+        Outcome::Settled
+    };
+    // The last round or test has left the image of this flow.
+    Ok(figures(terms, samples, flow, image, outcome, moved))
+}
+
+/// The figures of a flow and its image.
+fn figures(
+    terms: &Terms,
+    samples: &[u8],
+    flow: &[i32],
+    image: &[i32],
+    outcome: Outcome,
+    moved: u32,
+) -> Figures {
     let mut fidelity = 0;
     for (&value, &sample) in image.iter().zip(samples) {
         let distance = u64::from(value.abs_diff(reading(sample)));
@@ -36,13 +90,13 @@ pub fn check_plain(
     });
     let price = fidelity + 2 * u64::from(terms.weight) * variation;
     let floor = fidelity as i64 + 2 * coupling;
-    Ok(Figures {
-        outcome: Outcome::Checked,
-        moved: 0,
+    Figures {
+        outcome,
+        moved,
         price,
         floor,
         slack: (price as i64 - floor) as u64,
-    })
+    }
 }
 
 /// Replaces `flow` by its step, leaves in `image` the image of the flow before the
@@ -64,6 +118,21 @@ pub fn steady_round_plain(
         }
     });
     changed
+}
+
+/// Whether a steady round would change `flow`. Leaves its image in `image`.
+fn would_move(terms: &Terms, samples: &[u8], flow: &[i32], image: &mut [i32]) -> bool {
+    fill_image(terms, samples, flow, image);
+    let weight = terms.weight as i32;
+    let mut moving = false;
+    for_each_run(terms, image, |pairs, firsts, seconds| {
+        let mut pairs = flow[pairs].iter().zip(firsts).zip(seconds);
+        moving = moving
+            || pairs.any(|((&value, first), second)| {
+                (value + steady_share(first - second)).clamp(-weight, weight) != value
+            });
+    });
+    moving
 }
 
 /// One quick round at `t`: takes `flow` and `ahead` (document 01: P and R) to the

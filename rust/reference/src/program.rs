@@ -1,8 +1,8 @@
 //! The cleaning program: from the bytes of its input to the text it prints.
 
-use crate::calls::{check, run, Figures};
+use crate::calls::{Calls, Figures, DEFINED};
 use crate::refusal::{Fault, Refusal};
-use crate::tape::read;
+use crate::tape::{AfterEnd, Capacity, Contents};
 
 /// The longest input in bytes.
 pub const INPUT_LIMIT: usize = 65_536;
@@ -11,6 +11,12 @@ pub const SAMPLE_TABLE: usize = 4_096;
 /// Values in the program's flow table.
 pub const FLOW_TABLE: usize = 8_064;
 
+/// The program's tables.
+pub const TABLES: Capacity = Capacity {
+    samples: SAMPLE_TABLE,
+    flow: FLOW_TABLE,
+};
+
 /// The text that the program prints for `input`.
 pub fn clean(input: &[u8]) -> String {
     answer(input).unwrap_or_else(|refusal| format!("{refusal}\n"))
@@ -18,24 +24,48 @@ pub fn clean(input: &[u8]) -> String {
 
 fn answer(input: &[u8]) -> Result<String, Refusal> {
     Fault::InputTooLong.unless(input.len() <= INPUT_LIMIT)?;
+    let mut workspace = Workspace::new();
+    workspace.job.read(input, AfterEnd::Nothing, TABLES)?;
+    let figures = workspace.treat(&DEFINED)?;
+    let width = workspace.job.terms.width as usize;
+    Ok(report(&figures, &workspace.image, width))
+}
 
-    let mut samples = [0; SAMPLE_TABLE];
-    let mut flow = [0; FLOW_TABLE];
-    let mut image = [0; SAMPLE_TABLE];
-    let mut work = [0; 2 * FLOW_TABLE];
-    let job = read(input, &mut samples, &mut flow)?;
+/// A job that has been read, and what it is checked or run in.
+pub(crate) struct Workspace {
+    pub(crate) job: Contents,
+    image: Vec<i32>,
+    work: Vec<i32>,
+}
 
-    let grid = job.terms.judge()?;
-    let samples = &samples[..grid.pixel_count()];
-    let flow = &mut flow[..grid.pair_count()];
-    let image = &mut image[..grid.pixel_count()];
-    let work = &mut work[..2 * grid.pair_count()];
-    let figures = if job.has_flow {
-        check(&job.terms, samples, flow, image)?
-    } else {
-        run(&job.terms, &job.rounds, samples, flow, image, work)?
-    };
-    Ok(report(&figures, image, grid.width()))
+impl Workspace {
+    pub(crate) fn new() -> Workspace {
+        Workspace {
+            job: Contents::new(),
+            image: Vec::new(),
+            work: Vec::new(),
+        }
+    }
+
+    /// Checks the job, if it has flow records, or else runs it.
+    pub(crate) fn treat(&mut self, calls: &Calls) -> Result<Figures, Refusal> {
+        let Contents {
+            terms,
+            rounds,
+            samples,
+            flow,
+            ..
+        } = &mut self.job;
+        let image = &mut self.image;
+        image.resize(samples.len(), 0);
+        if !flow.is_empty() {
+            return (calls.check)(terms, samples, flow, image);
+        }
+        let pair_count = terms.judge()?.pair_count();
+        flow.resize(pair_count, 0);
+        self.work.resize(2 * pair_count, 0);
+        (calls.run)(terms, rounds, samples, flow, image, &mut self.work)
+    }
 }
 
 /// The text for an accepted job: heading, figures, and a line for each row.

@@ -10,9 +10,6 @@ const ROUNDS: u8 = 3;
 const SAMPLE: u8 = 4;
 const FLOW: u8 = 5;
 
-/// Bytes in the longest body of a record.
-const LONGEST_BODY: usize = 4;
-
 /// A record: its kind with its numbers.
 #[derive(Clone, Copy, Debug, PartialEq, Eq)]
 enum Record {
@@ -69,52 +66,43 @@ struct Layout {
     /// Where the record may stand.
     allowed: &'static [Due],
     body_length: usize,
-    /// The record of a body, which is followed by zeros.
-    decode: fn([u8; LONGEST_BODY]) -> Record,
 }
 
 fn layout(kind: u8) -> Option<Layout> {
-    Some(match kind {
-        END => Layout {
-            allowed: &[Due::FlowOrEnd, Due::End],
-            body_length: 0,
-            decode: |_| Record::End,
+    let (allowed, body_length): (&[Due], usize) = match kind {
+        END => (&[Due::FlowOrEnd, Due::End], 0),
+        SIZE => (&[Due::Size], 4),
+        WEIGHT_AND_BOX => (&[Due::WeightAndBox], 4),
+        ROUNDS => (&[Due::Rounds], 4),
+        SAMPLE => (&[Due::Sample], 1),
+        FLOW => (&[Due::FlowOrEnd, Due::Flow], 4),
+        _ => return None,
+    };
+    Some(Layout {
+        allowed,
+        body_length,
+    })
+}
+
+/// The record of a kind and its body, if that has the length of the layout.
+fn decode(kind: u8, body: &[u8]) -> Option<Record> {
+    Some(match (kind, body) {
+        (END, &[]) => Record::End,
+        (SIZE, &[a, b, c, d]) => Record::Size {
+            width: u16::from_le_bytes([a, b]),
+            height: u16::from_le_bytes([c, d]),
         },
-        SIZE => Layout {
-            allowed: &[Due::Size],
-            body_length: 4,
-            decode: |[a, b, c, d]| Record::Size {
-                width: u16::from_le_bytes([a, b]),
-                height: u16::from_le_bytes([c, d]),
-            },
+        (WEIGHT_AND_BOX, &[a, b, low, high]) => Record::WeightAndBox {
+            weight: u16::from_le_bytes([a, b]),
+            low,
+            high,
         },
-        WEIGHT_AND_BOX => Layout {
-            allowed: &[Due::WeightAndBox],
-            body_length: 4,
-            decode: |[a, b, low, high]| Record::WeightAndBox {
-                weight: u16::from_le_bytes([a, b]),
-                low,
-                high,
-            },
+        (ROUNDS, &[a, b, c, d]) => Record::Rounds {
+            quick: u16::from_le_bytes([a, b]),
+            allowance: u16::from_le_bytes([c, d]),
         },
-        ROUNDS => Layout {
-            allowed: &[Due::Rounds],
-            body_length: 4,
-            decode: |[a, b, c, d]| Record::Rounds {
-                quick: u16::from_le_bytes([a, b]),
-                allowance: u16::from_le_bytes([c, d]),
-            },
-        },
-        SAMPLE => Layout {
-            allowed: &[Due::Sample],
-            body_length: 1,
-            decode: |[sample, ..]| Record::Sample(sample),
-        },
-        FLOW => Layout {
-            allowed: &[Due::FlowOrEnd, Due::Flow],
-            body_length: 4,
-            decode: |body| Record::Flow(i32::from_le_bytes(body)),
-        },
+        (SAMPLE, &[sample]) => Record::Sample(sample),
+        (FLOW, &[a, b, c, d]) => Record::Flow(i32::from_le_bytes([a, b, c, d])),
         _ => return None,
     })
 }
@@ -129,99 +117,133 @@ fn record_at(tape: &[u8], offset: usize, due: Due) -> Result<(Record, usize), Re
     }
     let body_start = offset + 1;
     let next = body_start + layout.body_length;
-    let bytes = tape.get(body_start..next).ok_or(input_ends)?;
-    let mut body = [0; LONGEST_BODY];
-    body[..bytes.len()].copy_from_slice(bytes);
-    Ok(((layout.decode)(body), next))
+    let body = tape.get(body_start..next).ok_or(input_ends)?;
+    let record = decode(kind, body).expect("the body has this length");
+    Ok((record, next))
 }
 
-/// The lent bytes with the offset of the next record.
-struct Reader<'a> {
-    tape: &'a [u8],
+/// What may stand behind a job's end record.
+#[derive(Clone, Copy, Debug, PartialEq, Eq)]
+pub(crate) enum AfterEnd {
+    /// Not a byte: the tape has one job.
+    Nothing,
+    /// Anything: another job may begin there.
+    Anything,
+}
+
+/// The lengths of the buffers that a job is read for.
+#[derive(Clone, Copy, Debug, PartialEq, Eq)]
+pub struct Capacity {
+    /// Values in the sample buffer.
+    pub samples: usize,
+    /// Values in the flow buffer.
+    pub flow: usize,
+}
+
+/// What the records of one job say, as far as they have been read.
+pub(crate) struct Contents {
+    pub(crate) terms: Terms,
+    pub(crate) rounds: Rounds,
+    pub(crate) samples: Vec<u8>,
+    pub(crate) flow: Vec<i32>,
+    pixel_count: usize,
+    pair_count: usize,
+    /// The offset of the next record.
     offset: usize,
+    due: Due,
 }
 
-impl Reader<'_> {
-    /// Takes the next record.
-    fn next(&mut self, due: Due) -> Result<Record, Refusal> {
-        let (record, next_offset) = record_at(self.tape, self.offset, due)?;
-        self.offset = next_offset;
-        Ok(record)
+impl Contents {
+    /// Nothing has been read.
+    pub(crate) fn new() -> Contents {
+        Contents {
+            terms: Terms::default(),
+            rounds: Rounds::default(),
+            samples: Vec::new(),
+            flow: Vec::new(),
+            pixel_count: 0,
+            pair_count: 0,
+            offset: 0,
+            due: Due::Size,
+        }
     }
 
-    /// The offset of the next byte, if there is one.
-    fn rest(&self) -> Option<usize> {
-        (self.offset < self.tape.len()).then_some(self.offset)
+    /// Nothing has been read, in the buffers that are there.
+    pub(crate) fn clear(&mut self) {
+        self.samples.clear();
+        self.flow.clear();
+        (self.offset, self.due) = (0, Due::Size);
     }
-}
 
-/// What the records of one job say.
-#[derive(Default)]
-struct Contents {
-    terms: Terms,
-    rounds: Rounds,
-    samples: Vec<u8>,
-    flow: Vec<i32>,
-}
+    /// Reads the job at the front of `tape` and gives the number of its bytes.
+    ///
+    /// After refusal 13 it goes on with a tape that begins with this one, if it is called again.
+    pub(crate) fn read(
+        &mut self,
+        tape: &[u8],
+        after_end: AfterEnd,
+        capacity: Capacity,
+    ) -> Result<usize, Refusal> {
+        let end = loop {
+            let (record, next) = record_at(tape, self.offset, self.due)?;
+            match self.take(record, capacity)? {
+                Some(due) => (self.offset, self.due) = (next, due),
+                None => break next,
+            }
+        };
+        if after_end == AfterEnd::Nothing {
+            Fault::ByteAfterEnd.at_any((end < tape.len()).then_some(end))?;
+        }
+        self.terms.judge_flow(&self.flow)?;
+        Ok(end)
+    }
 
-/// Reads a job to its end record, for buffers of the given lengths. Flow numbers
-/// are not judged yet.
-fn read_contents(
-    reader: &mut Reader,
-    samples_length: usize,
-    flow_length: usize,
-) -> Result<Contents, Refusal> {
-    let mut contents = Contents::default();
-    let Contents {
-        terms,
-        rounds,
-        samples,
-        flow,
-    } = &mut contents;
-    let (mut pixel_count, mut pair_count) = (0, 0);
-    let mut due = Due::Size;
-    loop {
-        let offset = reader.offset;
+    /// Takes the record that was due, and gives what is due then: nothing after the end. Flow
+    /// numbers are not judged yet.
+    fn take(&mut self, record: Record, capacity: Capacity) -> Result<Option<Due>, Refusal> {
+        let offset = self.offset;
         let at_record = |fault: Fault| fault.at(offset);
-        due = match reader.next(due)? {
+        Ok(Some(match record {
             Record::Size { width, height } => {
-                (terms.width, terms.height) = (width.into(), height.into());
-                let grid = terms.judge_size().map_err(at_record)?;
-                (pixel_count, pair_count) = (grid.pixel_count(), grid.pair_count());
-                Fault::BufferTooShort
-                    .unless(samples_length >= pixel_count && flow_length >= pair_count)?;
+                (self.terms.width, self.terms.height) = (width.into(), height.into());
+                let grid = self.terms.judge_size().map_err(at_record)?;
+                (self.pixel_count, self.pair_count) = (grid.pixel_count(), grid.pair_count());
+                let holds =
+                    capacity.samples >= self.pixel_count && capacity.flow >= self.pair_count;
+                Fault::BufferTooShort.unless(holds)?;
                 Due::WeightAndBox
             }
             Record::WeightAndBox { weight, low, high } => {
+                let terms = &mut self.terms;
                 (terms.weight, terms.low, terms.high) = (weight.into(), low, high);
                 terms.judge_weight_and_box().map_err(at_record)?;
                 Due::Rounds
             }
             Record::Rounds { quick, allowance } => {
-                (rounds.quick, rounds.allowance) = (quick.into(), allowance);
-                rounds.judge().map_err(at_record)?;
+                (self.rounds.quick, self.rounds.allowance) = (quick.into(), allowance);
+                self.rounds.judge().map_err(at_record)?;
                 Due::Sample
             }
             Record::Sample(sample) => {
-                samples.push(sample);
-                if samples.len() < pixel_count {
+                self.samples.push(sample);
+                if self.samples.len() < self.pixel_count {
                     Due::Sample
-                } else if pair_count > 0 {
+                } else if self.pair_count > 0 {
                     Due::FlowOrEnd
                 } else {
                     Due::End
                 }
             }
             Record::Flow(value) => {
-                flow.push(value);
-                if flow.len() < pair_count {
+                self.flow.push(value);
+                if self.flow.len() < self.pair_count {
                     Due::Flow
                 } else {
                     Due::End
                 }
             }
-            Record::End => return Ok(contents),
-        };
+            Record::End => return Ok(None),
+        }))
     }
 }
 
@@ -240,10 +262,12 @@ pub struct Job {
 ///
 /// Without flow records the flow buffer is untouched.
 pub fn read(tape: &[u8], samples: &mut [u8], flow: &mut [i32]) -> Result<Job, Refusal> {
-    let mut reader = Reader { tape, offset: 0 };
-    let contents = read_contents(&mut reader, samples.len(), flow.len())?;
-    Fault::ByteAfterEnd.at_any(reader.rest())?;
-    contents.terms.judge_flow(&contents.flow)?;
+    let capacity = Capacity {
+        samples: samples.len(),
+        flow: flow.len(),
+    };
+    let mut contents = Contents::new();
+    contents.read(tape, AfterEnd::Nothing, capacity)?;
 
     fill_front(samples, &contents.samples);
     fill_front(flow, &contents.flow);

@@ -1,4 +1,4 @@
-//! Tests of the reference: the documents' values, guarantees, tape and refusals.
+//! Tests of the reference: the documents' values, guarantees, tape, refusals and seasons.
 
 mod support;
 
@@ -6,5 +6,6 @@ mod guarantees;
 mod plain;
 mod program;
 mod refusals;
+mod season;
 mod tape;
 mod values;

@@ -1,11 +1,11 @@
 //! The loop nests over 32-bit buffers against the definitions.
 
 use relief_inputs::{chessboard, chessboard_flow, two_by_one, Case, Random};
-use relief_reference::check;
-use relief_reference::plain::{check_plain, quick_round_plain, steady_round_plain};
+use relief_reference::plain::{check_plain, quick_round_plain, run_plain, steady_round_plain};
 use relief_reference::problem::widened;
 use relief_reference::rounds::{quick_rounds, steady_step, T_UNIT};
 use relief_reference::terms::WEIGHT_LIMIT;
+use relief_reference::{check, run, Outcome};
 
 use crate::support::{marked, Calls};
 
@@ -50,6 +50,63 @@ fn check_equals_the_definition_at_the_largest_totals() {
     case.samples = chessboard(width, height);
     for value in [-weight, 0, weight] {
         assert_check(&case, &chessboard_flow(width, height, value));
+    }
+}
+
+/// Both runs, and what they leave in the buffers, which may be too short or too long by one.
+fn assert_run(case: &Case, [more_flow, more_work]: [isize; 2]) -> Option<Outcome> {
+    let Case {
+        terms,
+        rounds,
+        samples,
+    } = case;
+    let pairs = case.grid().pair_count();
+    let mut flow = marked(pairs.saturating_add_signed(more_flow));
+    let mut image = marked(samples.len());
+    let mut work = marked((2 * pairs).saturating_add_signed(more_work));
+    let [mut expected_flow, mut expected_image, mut expected_work] =
+        [&flow, &image, &work].map(Clone::clone);
+    let figures = run_plain(terms, rounds, samples, &mut flow, &mut image, &mut work);
+    let expected = run(
+        terms,
+        rounds,
+        samples,
+        &mut expected_flow,
+        &mut expected_image,
+        &mut expected_work,
+    );
+    assert_eq!(figures, expected);
+    assert_eq!(flow, expected_flow);
+    assert_eq!(image, expected_image);
+    assert_eq!(work, expected_work);
+    figures.ok().map(|figures| figures.outcome)
+}
+
+#[test]
+fn run_equals_the_definition() {
+    let (mut settled, mut spent) = (0, 0);
+    for (_, mut case) in cases(0x4D4) {
+        case.rounds.allowance = case.rounds.allowance.min(300);
+        match assert_run(&case, [0, 0]) {
+            Some(Outcome::Settled) => settled += 1,
+            Some(Outcome::Spent) => spent += 1,
+            other => panic!("a run is never {other:?}"),
+        }
+        assert_eq!(assert_run(&case, [1, 0]), None);
+        assert_eq!(assert_run(&case, [0, 1]), None);
+    }
+    assert!(settled > 20 && spent > 20);
+}
+
+/// With the last allowances before the 2 by 1 job settles, and with all of them used.
+#[test]
+fn run_equals_the_definition_at_every_allowance() {
+    for quick in [0, 1, 7] {
+        for allowance in 0..30 {
+            let mut case = two_by_one();
+            (case.rounds.quick, case.rounds.allowance) = (quick, allowance);
+            assert_run(&case, [0, 0]);
+        }
     }
 }
 

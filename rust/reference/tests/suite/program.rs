@@ -1,10 +1,9 @@
 //! The cleaning program's text, from the library and from the binary.
 
-use std::io::Write;
-use std::process::{Command, Stdio};
-
 use relief_inputs::{two_by_one, Case, Random, TWO_BY_ONE_TEXT};
 use relief_reference::program::{clean, FLOW_TABLE, INPUT_LIMIT, SAMPLE_TABLE};
+
+use crate::support::printed;
 
 #[test]
 fn run_of_the_two_by_one_job() {
@@ -71,24 +70,9 @@ fn the_tables_hold_every_size_up_to_4096_pixels() {
     }
 }
 
-/// What the binary prints for `input`.
-fn printed(input: &[u8]) -> String {
-    let mut program = Command::new(env!("CARGO_BIN_EXE_relief-reference"))
-        .stdin(Stdio::piped())
-        .stdout(Stdio::piped())
-        .spawn()
-        .unwrap();
-    // Dropped after the write, so that the program sees the end of its input.
-    let mut stdin = program.stdin.take().unwrap();
-    stdin.write_all(input).unwrap();
-    drop(stdin);
-    let output = program.wait_with_output().unwrap();
-    assert!(output.status.success());
-    String::from_utf8(output.stdout).unwrap()
-}
-
 #[test]
 fn the_binary_prints_the_text() {
+    let printed = |input: &[u8]| printed(env!("CARGO_BIN_EXE_relief-reference"), input);
     assert_eq!(printed(&two_by_one().tape(&[])), TWO_BY_ONE_TEXT);
     assert_eq!(printed(&[]), "refused 13 at 0\n");
     assert_eq!(printed(&vec![0; INPUT_LIMIT + 1]), "refused 17 at 0\n");

@@ -1,4 +1,7 @@
-//! Calls in lent buffers that the tests share.
+//! What the tests share: calls in lent buffers, and programs started on an input.
+
+use std::io::Write;
+use std::process::{Command, Stdio};
 
 use relief_inputs::Case;
 use relief_reference::{check, price, read, run, Figures, Job, Outcome, Problem, Refusal};
@@ -127,4 +130,20 @@ pub fn figures(outcome: Outcome, moved: u32, price: u64, floor: i64, slack: u64)
 /// A flow or image on the whole division `k`.
 pub fn multiplied(k: i64, values: &[i64]) -> Vec<i64> {
     values.iter().map(|value| k * value).collect()
+}
+
+/// What the program of this path prints for `input`.
+pub fn printed(path: &str, input: &[u8]) -> String {
+    let mut program = Command::new(path)
+        .stdin(Stdio::piped())
+        .stdout(Stdio::piped())
+        .spawn()
+        .unwrap();
+    // Dropped after the write, so that the program sees the end of its input.
+    let mut stdin = program.stdin.take().unwrap();
+    stdin.write_all(input).unwrap();
+    drop(stdin);
+    let output = program.wait_with_output().unwrap();
+    assert!(output.status.success());
+    String::from_utf8(output.stdout).unwrap()
 }

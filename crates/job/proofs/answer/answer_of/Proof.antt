@@ -11,6 +11,7 @@ use Rattle.model.proofs.Bounds.{perPixel}
 use Rattle.tape_read.specs.Answers.{readAnswerOf}
 use Rattle.job.proofs.Texts.{Taken, taken, turned-back, allowed, tables, read-answer}
 use Rattle.job.proofs.Slacks.{slack-most}
+use Rattle.job.proofs.Accepts.{whole-accepted}
 use borrow.Author.Needs.{needs}
 use Rattle.job.proofs.answer.answer_of.Statement.{statement}
 use Rattle.job.proofs.answer.answer_of.Tie as tie
@@ -89,6 +90,7 @@ returns-2 c =
       k .is,
       record {
         answer = given;
+        accepted = whole-accepted (a .tape .now) (a .samples .now) (a .flow .now) (bytes d) (k .p) (k .is);
         pixels = c .pixels .ensures ∙ ap (λ (u : Terms). pixelsOf u) (k .terms);
         held = k .fits .samplesHold;
         slack =

@@ -1,0 +1,83 @@
+//! Seasons of random jobs: whole, cut, changed, and with a damaged job among them.
+
+use relief_inputs::{
+    changes_of, flat, prefixes_of, season_job, small_tapes, two_by_one, Difference, Random,
+};
+
+use super::family;
+use crate::child::Program;
+use crate::tapes::{full_tape, largest, slackest_tape};
+
+/// Compares seasons of all these kinds.
+pub fn compare(program: &Program, step: usize) -> Result<(), Difference> {
+    let every = ["settled and spent and checked"];
+    family(program, "1 to 20 jobs", seasons(step))?.met(&every, &[])?;
+    family(program, "jobs of the most pixels", of_the_most_pixels())?.met(&every, &[])?;
+    let numbers = [1, 2, 3, 8, 10, 12, 13, 14, 16];
+    family(program, "a damaged job among others", damages(step))?.met(&[], &numbers)?;
+    family(program, "every prefix", prefixes(step))?.met(&["no jobs"], &[13])?;
+    family(program, "changed bytes", changes(step))?.met(&[], &[8, 10, 12, 14])
+}
+
+fn seasons(step: usize) -> impl Iterator<Item = Vec<u8>> {
+    let mut random = Random::new(0x5EA50);
+    (0..400).step_by(step).map(move |_| {
+        let jobs = random.below(20) + 1;
+        let pixels = random.pick(&[6, 100, 4_096]);
+        random_jobs(&mut random, jobs, pixels)
+    })
+}
+
+/// So many jobs of at most so many pixels.
+pub fn random_jobs(random: &mut Random, jobs: usize, pixels: u32) -> Vec<u8> {
+    (0..jobs)
+        .flat_map(|_| season_job(random, pixels).bytes)
+        .collect()
+}
+
+fn of_the_most_pixels() -> Vec<Vec<u8>> {
+    let all: Vec<u8> = largest().flatten().collect();
+    vec![
+        full_tape(),
+        full_tape().repeat(3),
+        slackest_tape().repeat(40),
+        all.repeat(2),
+        all,
+    ]
+}
+
+fn damages(step: usize) -> impl Iterator<Item = Vec<u8>> {
+    let mut random = Random::new(0xDA3A6ED);
+    (0..1_500).step_by(step).map(move |_| {
+        let (before, behind) = (random.below(9), random.below(3));
+        let mut season = random_jobs(&mut random, before, 12);
+        season.extend(season_job(&mut random, 40).damaged(&mut random));
+        season.extend(random_jobs(&mut random, behind, 12));
+        season
+    })
+}
+
+/// Two runs and two checks, one job of them with a single pixel.
+pub fn small_season() -> Vec<u8> {
+    [
+        two_by_one().tape(&[]),
+        two_by_one().tape(&[256]),
+        flat(1, 1).tape(&[]),
+        flat(2, 2).tape(&[1, -2, 256, -256]),
+    ]
+    .concat()
+}
+
+/// Every prefix of a season of four jobs, and of others of three.
+fn prefixes(step: usize) -> impl Iterator<Item = Vec<u8>> {
+    let others = small_tapes(12).flat_map(|(mut random, tape)| {
+        let season = [tape.bytes, random_jobs(&mut random, 2, 6)].concat();
+        prefixes_of(season)
+    });
+    prefixes_of(small_season()).chain(others.step_by(step))
+}
+
+/// A season of four jobs with bytes changed, each of them at least once.
+fn changes(step: usize) -> impl Iterator<Item = Vec<u8>> {
+    changes_of(small_season()).step_by(13 * step)
+}

@@ -1,0 +1,107 @@
+//! The documents' values, each with its text.
+
+use relief_inputs::{compare_family, flat, two_by_one, Difference, Tape, TWO_BY_ONE_SEASON};
+use relief_reference::season::report as season_report;
+
+use super::compare as compare_season;
+use crate::child::Program;
+use crate::compare::report;
+
+/// Compares the program's text with the reference's, and that with the documents'.
+pub fn compare(program: &Program) -> Result<(), Difference> {
+    compare_family("the documents' values", values(), |(season, text)| {
+        let input = season.clone().into();
+        let printed = season_report(season);
+        if printed != *text {
+            let differs = format!("the reference prints {printed:?}, not {text:?}");
+            return Err(report(&differs, &input));
+        }
+        compare_season(program, &input)
+    })?
+    .met(&["no jobs", "settled"], &[1, 2, 8, 12, 13, 14, 16])
+}
+
+/// Each season with what the program is to print.
+fn values() -> Vec<(Vec<u8>, String)> {
+    let job = two_by_one();
+    let run = job.tape(&[]);
+    let spent = {
+        let mut job = job.clone();
+        job.rounds.allowance = 16;
+        job.tape(&[])
+    };
+    let [best, worst] = [-256, 256].map(|flow| job.tape(&[flow]));
+    let one = flat(1, 1).tape(&[]);
+    let changed = |change: fn(&mut Tape)| {
+        let mut tape = Tape::new(&job, &[0]);
+        change(&mut tape);
+        tape.bytes
+    };
+    let beyond = changed(|tape| tape.set_flow(0, 257));
+    let (single, none) = (TWO_BY_ONE_SEASON, text([0; 6], [0, 0], [0, 0]));
+    let refused = |season: &str, line: &str| format!("{season}{line}\n");
+    let mixed: Vec<u8> = [&run, &best, &spent, &one, &worst, &worst]
+        .map(Vec::as_slice)
+        .concat();
+    let mixed_text = text([6, 11, 2, 1, 3, 1_572_916], [786_432, 5], [142_992, 4]);
+    let after_one = |last: &[u8]| [&run, last].concat();
+    vec![
+        (run.clone(), single.to_string()),
+        (Vec::new(), none.clone()),
+        (after_one(&beyond), refused(single, "job 2 refused 8 at 0")),
+        (beyond, refused(&none, "job 1 refused 8 at 0")),
+        (
+            changed(|tape| tape.set_weight(65_281)),
+            refused(&none, "job 1 refused 2 at 5"),
+        ),
+        (
+            after_one(&changed(|tape| tape.set_size((4_096, 257)))),
+            refused(single, "job 2 refused 1 at 0"),
+        ),
+        // The size is taken, but the program's tables are shorter.
+        (
+            after_one(&flat(64, 65).tape(&[])),
+            refused(single, "job 2 refused 16 at 0"),
+        ),
+        (after_one(&[1]), refused(single, "job 2 refused 13 at 1")),
+        (
+            after_one(&run[..19]),
+            refused(single, "job 2 refused 13 at 19"),
+        ),
+        (after_one(&[6]), refused(single, "job 2 refused 12 at 0")),
+        // An end record is no job.
+        (after_one(&[0]), refused(single, "job 2 refused 14 at 0")),
+        (vec![0], refused(&none, "job 1 refused 14 at 0")),
+        (run.repeat(3), text([3, 6, 3, 0, 0, 48], [16, 1], [8, 0])),
+        // The third season of the proved table.
+        (
+            [&spent[..], &spent, &[1, 2]].concat(),
+            refused(
+                &text([2, 4, 0, 2, 0, 72], [36, 1], [18, 0]),
+                "job 3 refused 13 at 2",
+            ),
+        ),
+        (
+            [&one[..], &run].concat(),
+            text([2, 3, 2, 0, 0, 16], [16, 2], [5, 1]),
+        ),
+        // A slack of 0 is the largest where all are 0.
+        (best.repeat(2), text([2, 4, 0, 0, 2, 0], [0, 1], [0, 0])),
+        (one, text([1, 1, 1, 0, 0, 0], [0, 1], [0, 0])),
+        (
+            [&mixed[..], &[9]].concat(),
+            refused(&mixed_text, "job 7 refused 12 at 0"),
+        ),
+        (mixed, mixed_text),
+    ]
+}
+
+/// The lines of a season in which no job is refused.
+fn text(totals: [u64; 6], largest: [u64; 2], mean: [u64; 2]) -> String {
+    let [jobs, pixels, settled, spent, checked, total] = totals;
+    let ([largest, first], [mean, remainder]) = (largest, mean);
+    format!(
+        "jobs {jobs}\npixels {pixels}\nsettled {settled}\nspent {spent}\nchecked {checked}\n\
+         total {total}\nlargest {largest} {first}\nmean {mean} {remainder}\n"
+    )
+}

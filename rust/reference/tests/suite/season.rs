@@ -1,0 +1,560 @@
+//! The season report: the documents' values, refused jobs, limits, and the sum over what the
+//! cleaning program says of each job. Every text is made twice, by the definitions from the
+//! whole input, and by the loop nests from a stream.
+
+use std::io::{self, Read};
+
+use relief_inputs::{filler, flat, season_job, two_by_one, Case, Random, TWO_BY_ONE_SEASON};
+use relief_reference::program::{clean, TABLES};
+use relief_reference::season::{report, report_plain_within, report_within, Limits, LIMITS};
+use relief_reference::tape::Capacity;
+
+use crate::support::printed;
+
+/// A stream that gives at most so many bytes at a time.
+struct Pieces<'a> {
+    bytes: &'a [u8],
+    piece: usize,
+}
+
+impl Read for Pieces<'_> {
+    fn read(&mut self, buffer: &mut [u8]) -> io::Result<usize> {
+        let length = self.piece.min(buffer.len());
+        self.bytes.read(&mut buffer[..length])
+    }
+}
+
+/// The text of a season within `limits`, which is the same from a stream.
+fn reported_within(limits: &Limits, input: &[u8]) -> String {
+    let text = report_within(limits, input);
+    for piece in [1, 7, usize::MAX] {
+        let stream = Pieces {
+            bytes: input,
+            piece,
+        };
+        assert_eq!(report_plain_within(limits, stream).unwrap(), text);
+    }
+    text
+}
+
+fn reported(input: &[u8]) -> String {
+    assert_eq!(report(input), report_within(&LIMITS, input));
+    reported_within(&LIMITS, input)
+}
+
+/// The lines of a report.
+#[derive(Clone, Copy, Debug, Default)]
+struct Lines {
+    jobs: u64,
+    pixels: u64,
+    settled: u64,
+    spent: u64,
+    checked: u64,
+    total: u64,
+    largest: (u64, u64),
+    mean: (u64, u64),
+    /// Number and place of the refusal of the job after these.
+    refused: Option<(u32, usize)>,
+}
+
+impl Lines {
+    fn text(&self) -> String {
+        let names = ["jobs", "pixels", "settled", "spent", "checked", "total"];
+        let numbers = [
+            self.jobs,
+            self.pixels,
+            self.settled,
+            self.spent,
+            self.checked,
+            self.total,
+        ];
+        let mut lines: Vec<String> = names
+            .iter()
+            .zip(numbers)
+            .map(|(name, number)| format!("{name} {number}"))
+            .collect();
+        lines.push(format!("largest {} {}", self.largest.0, self.largest.1));
+        lines.push(format!("mean {} {}", self.mean.0, self.mean.1));
+        if let Some((number, place)) = self.refused {
+            lines.push(format!("job {} refused {number} at {place}", self.jobs + 1));
+        }
+        lines.iter().map(|line| format!("{line}\n")).collect()
+    }
+}
+
+/// So many of the 2 by 1 job, whose slack is 16, and then a refusal.
+fn two_by_ones(jobs: u64, refused: Option<(u32, usize)>) -> String {
+    let lines = Lines {
+        jobs,
+        pixels: 2 * jobs,
+        settled: jobs,
+        total: 16 * jobs,
+        largest: if jobs > 0 { (16, 1) } else { (0, 0) },
+        mean: if jobs > 0 { (8, 0) } else { (0, 0) },
+        refused,
+        ..Lines::default()
+    };
+    lines.text()
+}
+
+#[test]
+fn the_two_by_one_job_alone() {
+    assert_eq!(two_by_ones(1, None), TWO_BY_ONE_SEASON);
+    assert_eq!(reported(&two_by_one().tape(&[])), TWO_BY_ONE_SEASON);
+}
+
+#[test]
+fn no_jobs_are_zeros() {
+    let text = "\
+jobs 0
+pixels 0
+settled 0
+spent 0
+checked 0
+total 0
+largest 0 0
+mean 0 0
+";
+    assert_eq!(reported(&[]), text);
+}
+
+#[test]
+fn a_refused_job_after_the_two_by_one_job() {
+    let job = two_by_one();
+    let mut beyond = job.tape(&[256]);
+    beyond[20..24].copy_from_slice(&257_i32.to_le_bytes());
+    let text = format!("{TWO_BY_ONE_SEASON}job 2 refused 8 at 0\n");
+    assert_eq!(reported(&[job.tape(&[]), beyond].concat()), text);
+}
+
+/// The 2 by 1 job: spent with slack 36.
+fn spent() -> Vec<u8> {
+    let mut job = two_by_one();
+    job.rounds.allowance = 16;
+    job.tape(&[])
+}
+
+#[test]
+fn outcomes_are_counted_and_slacks_added() {
+    let job = two_by_one();
+    let season = [
+        job.tape(&[]),
+        job.tape(&[-256]),
+        spent(),
+        flat(1, 1).tape(&[]),
+        job.tape(&[256]),
+        job.tape(&[0]),
+    ];
+    let total = 16 + 36 + 786_432 + 262_144;
+    let lines = Lines {
+        jobs: 6,
+        pixels: 11,
+        settled: 2,
+        spent: 1,
+        checked: 3,
+        total,
+        largest: (786_432, 5),
+        mean: (95_329, 9),
+        refused: None,
+    };
+    assert_eq!(11 * lines.mean.0 + lines.mean.1, total);
+    assert_eq!(reported(&season.concat()), lines.text());
+}
+
+#[test]
+fn the_first_of_equal_slacks_is_named() {
+    let job = two_by_one();
+    let [none, small, large] = [-256, 0, 256].map(|flow| job.tape(&[flow]));
+    for (season, largest) in [
+        (vec![&none], "largest 0 1"),
+        (vec![&none, &none], "largest 0 1"),
+        (vec![&none, &small, &none, &small], "largest 262144 2"),
+        (
+            vec![&small, &small, &large, &small, &large],
+            "largest 786432 3",
+        ),
+    ] {
+        let season: Vec<u8> = season.into_iter().flatten().copied().collect();
+        let text = reported(&season);
+        assert_eq!(text.lines().nth(6), Some(largest));
+    }
+}
+
+/// One pixel has no pairs: it is run, with nothing to move.
+#[test]
+fn jobs_of_one_pixel() {
+    let one = flat(1, 1).tape(&[]);
+    let lines = Lines {
+        jobs: 3,
+        pixels: 3,
+        settled: 3,
+        largest: (0, 1),
+        ..Lines::default()
+    };
+    assert_eq!(reported(&one.repeat(3)), lines.text());
+
+    let lines = Lines {
+        jobs: 2,
+        pixels: 3,
+        settled: 2,
+        total: 16,
+        largest: (16, 2),
+        mean: (5, 1),
+        ..Lines::default()
+    };
+    let season = [one, two_by_one().tape(&[])].concat();
+    assert_eq!(reported(&season), lines.text());
+}
+
+/// A job of 2 by 2 pixels with a flow. Its records stand at 0, 5, 10, 15 to 21, 23 to 38
+/// and 43.
+fn square() -> Vec<u8> {
+    let mut job = two_by_one();
+    (job.terms.height, job.terms.weight) = (2, 257);
+    (job.terms.low, job.terms.high) = (8, 12);
+    job.samples = vec![0, 9, 255, 4];
+    job.tape(&[1, -2, 256, -257])
+}
+
+/// Every kind of refusal that a season can have but 13 and 17: number and place, and the byte
+/// that leads to it.
+const FLAWS: [(u32, usize, usize, u8); 21] = [
+    (12, 0, 0, 6),
+    (12, 5, 5, 255),
+    (12, 17, 17, 6),
+    (12, 33, 33, 7),
+    (12, 43, 43, 6),
+    (14, 0, 0, 0),
+    (14, 0, 0, 2),
+    (14, 5, 5, 1),
+    (14, 15, 15, 5),
+    (14, 21, 21, 0),
+    (14, 23, 23, 4),
+    (14, 28, 28, 0),
+    (14, 43, 43, 5),
+    (1, 0, 1, 0),
+    (1, 0, 2, 0x10),
+    (16, 0, 2, 0x0F),
+    (2, 5, 7, 0xFF),
+    (3, 5, 8, 13),
+    (10, 10, 12, 0x11),
+    (8, 1, 31, 0x7F),
+    (8, 3, 41, 0x80),
+];
+
+#[test]
+fn every_refusal_at_the_first_and_at_later_jobs() {
+    let good = two_by_one().tape(&[]);
+    let square = square();
+    assert_eq!(reported(&square).lines().count(), 8);
+    for (number, place, offset, byte) in FLAWS {
+        let mut faulty = square.clone();
+        assert_ne!(faulty[offset], byte);
+        faulty[offset] = byte;
+        for before in 0..3 {
+            let expected = two_by_ones(before, Some((number, place)));
+            let season = [good.repeat(before as usize), faulty.clone()].concat();
+            assert_eq!(reported(&season), expected);
+            // What follows does not count, be it a job or not.
+            for behind in [&good[..], &square, &[0], &[6; 99]] {
+                assert_eq!(reported(&[&season, behind].concat()), expected);
+            }
+        }
+    }
+}
+
+/// The faulty record counts, not the first bytes of another job.
+#[test]
+fn the_first_faulty_record_decides() {
+    let mut faulty = square();
+    faulty[41] = 0x80;
+    let refused = Some((8, 3));
+    assert_eq!(reported(&faulty), two_by_ones(0, refused));
+    faulty[43] = 6;
+    let refused = Some((12, 43));
+    assert_eq!(reported(&faulty), two_by_ones(0, refused));
+    faulty[12] = 0x11;
+    let refused = Some((10, 10));
+    assert_eq!(reported(&faulty), two_by_ones(0, refused));
+}
+
+/// Where one tape must end, another may begin: 15 does not occur.
+#[test]
+fn a_byte_behind_the_end_begins_another_job() {
+    let job = two_by_one().tape(&[]);
+    for byte in 0..=255 {
+        let refused = match byte {
+            1 => (13, 1),
+            0..=5 => (14, 0),
+            _ => (12, 0),
+        };
+        let season = [&job[..], &[byte]].concat();
+        assert_eq!(reported(&season), two_by_ones(1, Some(refused)));
+    }
+}
+
+#[test]
+fn a_season_cut_at_every_byte() {
+    let jobs = [two_by_one().tape(&[]), square()];
+    let season = jobs.concat();
+    let first = jobs[0].len();
+    let whole = reported(&season);
+    assert!(whole.starts_with("jobs 2\n"));
+    assert_eq!(whole.lines().count(), 8);
+    for length in 0..season.len() {
+        let expected = match length {
+            0 => two_by_ones(0, None),
+            _ if length < first => two_by_ones(0, Some((13, length))),
+            _ if length == first => two_by_ones(1, None),
+            _ => two_by_ones(1, Some((13, length - first))),
+        };
+        assert_eq!(reported(&season[..length]), expected);
+    }
+}
+
+#[test]
+fn a_season_ends_after_65_535_jobs() {
+    let one = flat(1, 1).tape(&[]);
+    let most = |jobs, refused| {
+        let lines = Lines {
+            jobs,
+            pixels: jobs,
+            settled: jobs,
+            largest: (0, 1),
+            refused,
+            ..Lines::default()
+        };
+        lines.text()
+    };
+    let expected = most(65_535, None);
+    assert_eq!(reported(&one.repeat(65_535)), expected);
+    assert_eq!(reported(&one.repeat(65_536)), expected);
+    assert_eq!(
+        reported(&[&one.repeat(65_535)[..], &[6; 9]].concat()),
+        expected
+    );
+    assert_eq!(reported(&one.repeat(65_534)), most(65_534, None));
+    assert_eq!(
+        reported(&[&one.repeat(65_534)[..], &[6; 9]].concat()),
+        most(65_534, Some((12, 0)))
+    );
+}
+
+#[test]
+fn a_smaller_number_of_jobs() {
+    let job = two_by_one().tape(&[]);
+    let limits = Limits { jobs: 3, ..LIMITS };
+    for (jobs, counted) in [(2, 2), (3, 3), (4, 3), (9, 3)] {
+        let season = job.repeat(jobs);
+        let expected = two_by_ones(counted, None);
+        assert_eq!(reported_within(&limits, &season), expected);
+    }
+    let none = Limits { jobs: 0, ..LIMITS };
+    assert_eq!(reported_within(&none, &job), two_by_ones(0, None));
+}
+
+/// The report of the 2 by 1 job and `input`, where a job may have so many bytes.
+fn reported_up_to(job_bytes: usize, input: &[u8]) -> String {
+    let limits = Limits {
+        job_bytes,
+        ..LIMITS
+    };
+    let season = [&two_by_one().tape(&[]), input].concat();
+    reported_within(&limits, &season)
+}
+
+#[test]
+fn a_job_may_end_at_its_last_byte_but_not_behind() {
+    let square = square();
+    let (length, both) = (square.len(), square.repeat(2));
+    let refused = |number, place| two_by_ones(1, Some((number, place)));
+    for input in [&square, &both] {
+        assert_eq!(reported_up_to(length, input), reported_up_to(65_536, input));
+        assert_eq!(reported_up_to(length - 1, input), refused(17, 0));
+        assert_eq!(reported_up_to(20, input), refused(17, 0));
+    }
+    // The input ends where these bytes do, or before.
+    for cut in 20..length {
+        assert_eq!(reported_up_to(cut, &square[..cut]), refused(13, cut));
+        assert_eq!(reported_up_to(length, &square[..cut]), refused(13, cut));
+        assert_eq!(reported_up_to(cut, &square[..cut + 1]), refused(17, 0));
+    }
+}
+
+#[test]
+fn a_fault_in_the_first_bytes_of_a_job_is_told() {
+    let refused = |number, place| two_by_ones(1, Some((number, place)));
+    for (number, place, offset, byte) in FLAWS {
+        let mut season = square().repeat(2);
+        season[offset] = byte;
+        // A kind is a fault by itself and terms with their record; flow numbers are judged when
+        // the whole tape has passed.
+        let seen = match number {
+            12 | 14 => place + 1,
+            8 => square().len(),
+            _ => place + 5,
+        };
+        for job_bytes in 20..=season.len() {
+            let expected = if seen <= job_bytes {
+                refused(number, place)
+            } else {
+                refused(17, 0)
+            };
+            assert_eq!(reported_up_to(job_bytes, &season), expected);
+        }
+    }
+}
+
+/// Larger tables than the program's, so that a job can have more than 65,536 bytes.
+const LARGE: Limits = Limits {
+    tables: Capacity {
+        samples: 40_000,
+        flow: 80_000,
+    },
+    ..LIMITS
+};
+
+/// A flat job of this size with its tape's length, with a flow of zeros or without.
+fn long_tape(width: u32, height: u32, flow: bool, length: usize) -> Vec<u8> {
+    let job = flat(width, height);
+    let pairs = if flow { job.grid().pair_count() } else { 0 };
+    let tape = job.tape(&vec![0; pairs]);
+    assert_eq!(tape.len(), length);
+    tape
+}
+
+#[test]
+fn jobs_about_as_long_as_65_536_bytes() {
+    let good = two_by_one().tape(&[]);
+    let refused = |number, place| two_by_ones(1, Some((number, place)));
+    for (tape, taken) in [
+        (long_tape(34, 163, true, 65_535), true),
+        (long_tape(182, 180, false, 65_536), true),
+        (long_tape(2, 3_449, true, 65_537), false),
+        (long_tape(181, 181, false, 65_538), false),
+    ] {
+        let followed_by = |behind: &[u8]| {
+            let season = [&good, &tape, behind].concat();
+            reported_within(&LARGE, &season)
+        };
+        if taken {
+            assert!(followed_by(&[]).starts_with("jobs 2\n"));
+            assert!(followed_by(&good).starts_with("jobs 3\n"));
+            assert!(followed_by(&[6]).ends_with("job 3 refused 12 at 0\n"));
+        } else {
+            assert_eq!(followed_by(&[]), refused(17, 0));
+            assert_eq!(followed_by(&good), refused(17, 0));
+        }
+        // Cut at or before the 65,536th byte, it is just a tape that ends too early.
+        for cut in [65_534, 65_535, 65_536] {
+            if cut < tape.len() {
+                let season = [&good, &tape[..cut]].concat();
+                assert_eq!(reported_within(&LARGE, &season), refused(13, cut));
+            }
+        }
+        // The program's tables do not hold it.
+        let season = [&good[..], &tape].concat();
+        assert_eq!(reported(&season), refused(16, 0));
+    }
+}
+
+/// With the program's tables no job without a fault is as long as that.
+#[test]
+fn more_records_than_the_tables_hold_are_not_allowed() {
+    let good = two_by_one().tape(&[]);
+    let refused = |number, place| two_by_ones(1, Some((number, place)));
+    let mut random = Random::new(0x10A6);
+    let case = Case::sized(&mut random, 64, 64);
+    let mut tape = case.tape(&case.flow(&mut random));
+    assert_eq!(tape.len(), 16 + 2 * TABLES.samples + 5 * TABLES.flow);
+    let end = tape.len() - 1;
+    tape.truncate(end);
+    tape.extend([5, 0, 0, 0, 0].repeat(10_000));
+    let season = [&good[..], &tape].concat();
+    assert_eq!(reported(&season), refused(14, end));
+}
+
+impl Lines {
+    /// Adds a job by the text that the cleaning program prints for it.
+    fn add(&mut self, text: &str) {
+        let words: Vec<&str> = text.split_whitespace().collect();
+        if words[0] == "refused" {
+            self.refused = Some((words[1].parse().unwrap(), words[3].parse().unwrap()));
+            return;
+        }
+        *match words[5] {
+            "settled" => &mut self.settled,
+            "spent" => &mut self.spent,
+            "checked" => &mut self.checked,
+            other => panic!("a job is never {other}"),
+        } += 1;
+        let slack = words[9].parse().unwrap();
+        self.jobs += 1;
+        self.pixels += words.len() as u64 - 10;
+        self.total += slack;
+        self.mean = (self.total / self.pixels, self.total % self.pixels);
+        if self.jobs == 1 || slack > self.largest.0 {
+            self.largest = (slack, self.jobs);
+        }
+    }
+}
+
+/// Each total is the sum over what the cleaning program says of the jobs.
+#[test]
+fn totals_are_the_sums_over_the_jobs() {
+    let mut random = Random::new(0x5EA5);
+    let (mut settled, mut spent, mut checked, mut refused) = (0, 0, 0, 0);
+    for _ in 0..400 {
+        let jobs = random.below(12);
+        let mut tapes: Vec<Vec<u8>> = (0..jobs)
+            .map(|_| season_job(&mut random, 30).bytes)
+            .collect();
+        let damaged = season_job(&mut random, 30).damaged(&mut random);
+        // Nothing at all is no job, and a byte behind the end begins another.
+        if !damaged.is_empty() && !clean(&damaged).starts_with("refused 15 ") {
+            tapes.push(damaged);
+        }
+        let mut lines = Lines::default();
+        for tape in &tapes {
+            lines.add(&clean(tape));
+        }
+        assert_eq!(reported(&tapes.concat()), lines.text());
+        settled += lines.settled;
+        spent += lines.spent;
+        checked += lines.checked;
+        refused += u64::from(lines.refused.is_some());
+    }
+    for count in [settled, spent, checked, refused] {
+        assert!(count > 200);
+    }
+}
+
+/// The comparison's filler has the length that is asked for and holds only accepted jobs.
+#[test]
+fn filler_of_every_length() {
+    let lengths = (18..600).step_by(2).chain((43..600).step_by(2));
+    for length in lengths
+        .chain(8_190..8_250)
+        .chain(16_380..16_460)
+        .chain([0, 100_001])
+    {
+        let season = filler(length);
+        assert_eq!(season.len(), length);
+        assert_eq!(report(&season).lines().count(), 8);
+    }
+}
+
+#[test]
+fn the_binaries_print_the_text() {
+    let job = two_by_one().tape(&[]);
+    let season = [&job[..], &[6]].concat();
+    let text = format!("{TWO_BY_ONE_SEASON}job 2 refused 12 at 0\n");
+    for binary in [
+        env!("CARGO_BIN_EXE_season-reference"),
+        env!("CARGO_BIN_EXE_season-plain"),
+    ] {
+        assert_eq!(printed(binary, &job), TWO_BY_ONE_SEASON);
+        assert_eq!(printed(binary, &[]), two_by_ones(0, None));
+        assert_eq!(printed(binary, &season), text);
+    }
+}
