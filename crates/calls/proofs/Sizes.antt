@@ -1,5 +1,5 @@
 -- The slack that check and run give, by the pixels of the job. Assumes nothing.
-use mathlib.Core.Path.{_≡_, refl, sym, ap, subst}
+use mathlib.Core.Path.{_≡_, refl, sym, subst}
 use mathlib.Core.List.{List}
 use Prim.Native.Nat.{ℕ, _*_, _≤_, _<_, zero-le}
 use lib.IntN.{ℤ, natAbs}

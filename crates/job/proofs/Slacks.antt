@@ -7,11 +7,11 @@ use native.Mathlib.Omega.{arith}
 use lib.Dec.{ltb}
 use lib.IntN.{ℤ, natAbs}
 use borrow.Author.Tests.{ltb-true, ltb-false}
-use lib.ListN.{length, getD, take, length-take, List·getD-eq-default}
+use lib.ListN.{getD, take, length-take, List·getD-eq-default}
 use lib.Seq.{getD-take}
 use Rattle.model.specs.declared.Terms.{Terms}
 use Rattle.model.specs.declared.Rounds.{Rounds}
-use Rattle.model.specs.Calls.{Answer, pixelsOf}
+use Rattle.model.specs.Calls.{pixelsOf}
 use Rattle.model.proofs.Bounds.{perPixel}
 use Rattle.calls.proofs.Sizes.{check-small, run-small}
 use Rattle.job.specs.Tables.{answerIn}

@@ -1,16 +1,14 @@
 -- How far a season has been read, and what its report still depends on.
 use mathlib.Core.Path.{_≡_}
-use mathlib.Core.Bool.{Bool, false, cond}
+use mathlib.Core.Bool.{false, cond}
 use mathlib.Core.List.{List, [], _++_}
 use Prim.Native.Nat.{ℕ, _+_, _-_, _*_, _≤_, _<_}
-use lib.ListN.{length}
 use Rattle.model.specs.declared.Lent.{Lent}
-use Rattle.model.specs.declared.Verdict.{Verdict}
 use Rattle.model.specs.Season.{totalsOf}
 use Rattle.tape_read.specs.Scan.{Reached}
 use Rattle.job.specs.Tables.{Holds}
 use Rattle.report.specs.Counted.{Bounded}
-use Rattle.stream.specs.Report.{Report, reportFrom}
+use Rattle.stream.specs.Report.{reportFrom}
 use Rattle.stream.specs.Window.{Reports}
 use Rattle.season.specs.declared.window.Window.{Window}
 use Rattle.season.specs.declared.jobs.State.{State}

@@ -2,22 +2,21 @@
 use mathlib.Core.Path.{_≡_, refl, sym, ap, ap₂, _∙_, subst}
 use mathlib.Core.Bool.{Bool, true, false, true≢false}
 use mathlib.Core.List.{List, [], _∷_, _++_, append-nil}
-use Prim.Native.Nat.{ℕ, zero, suc, _+_, _≤_, _<_}
+use Prim.Native.Nat.{ℕ, _+_, _≤_, _<_}
 use native.Mathlib.Omega.{arith}
 use lib.ListN.{length, take, drop, length-append, length-take}
 use lib.Seq.{take-all, drop-append-le}
 use Rattle.model.specs.declared.Lent.{Lent}
 use Rattle.model.specs.declared.Totals.{Totals}
 use Rattle.model.specs.declared.Verdict.{Verdict}
-use Rattle.model.specs.Tape.{Parse, turned, parse, tooShort}
-use Rattle.model.specs.Season.{bytesOf, treated}
+use Rattle.model.specs.Tape.{turned, parse, tooShort}
+use Rattle.model.specs.Season.{bytesOf}
 use Rattle.records.specs.declared.tally.Tally.{Tally}
 use Rattle.tape_read.specs.Scan.{Reached}
 use Rattle.roundtrip.proofs.Offsets.{tape-length}
-use Rattle.report.specs.Counted.{withJob}
 use Rattle.stream.specs.Report.{Report, reportFrom}
 use Rattle.stream.specs.Taken.{Short, Refused, Counted}
-use Rattle.stream.specs.Window.{Follows, Reports, GoesOn, Wants}
+use Rattle.stream.specs.Window.{Reports, GoesOn, Wants}
 use Rattle.stream.proofs.First.{no-bytes, first-whole, first-faulty, first-past, first-ended}
 use Rattle.stream.proofs.Reports.{over-report, refused-report, counted-report}
 

@@ -1,19 +1,19 @@
 -- A job taken from the bytes at hand, from what the scan says where it stops. Assumes nothing.
-use mathlib.Core.Path.{_≡_, refl, sym, ap, _∙_, subst}
+use mathlib.Core.Path.{_≡_, refl, sym, ap, _∙_}
 use mathlib.Core.Bool.{Bool, true, false, true≢false}
-use mathlib.Core.List.{List, [], _∷_, _++_, append-nil}
+use mathlib.Core.List.{List, [], _∷_, _++_}
 use Prim.Native.Nat.{ℕ, _+_, _≤_, _<_}
 use native.Mathlib.Omega.{arith}
 use lib.Dec.{ltb}
 use lib.IntN.{ℤ}
 use lib.ListN.{length, getD, take, length-append}
-use lib.Seq.{length-take-le, take-take, take-append-le, getD-take, take-length}
+use lib.Seq.{length-take-le, take-take, take-append-le}
 use Rattle.model.specs.declared.Lent.{Lent}
 use Rattle.model.specs.declared.Totals.{Totals}
 use Rattle.model.specs.declared.Verdict.{Verdict}
 use Rattle.model.specs.Verdict.{orElse, firstRefusal}
 use Rattle.model.specs.Calls.{firstBeyond, flowRow}
-use Rattle.model.specs.Tape.{Progress, Parse, turned, whole, judged, unless, parse, tooShort, lentBy}
+use Rattle.model.specs.Tape.{Progress, turned, whole, judged, unless, parse, tooShort, lentBy}
 use Rattle.model.specs.Season.{bytesOf}
 use Rattle.records.specs.declared.tally.Tally.{Tally}
 use Rattle.steps.specs.declared.Step.{Step}
@@ -23,7 +23,7 @@ use Rattle.tape_read.proofs.Reached as scan
 use Rattle.roundtrip.proofs.Accepted.{accepted-job}
 use Rattle.roundtrip.proofs.Judged.{passed-parse}
 use Rattle.job.proofs.Slacks.{front-bytes}
-use Rattle.stream.specs.Taken.{lentIn, Short, Refused, Added, CountedAs, Counted, TakenFrom}
+use Rattle.stream.specs.Taken.{lentIn, Short, Refused, CountedAs, Counted, TakenFrom}
 use Rattle.stream.specs.declared.take.Taken.{Taken}
 
 module _ (bytes : List ℕ) (lent : Lent) {t : Tally} {o : ℕ} (r : Reached bytes lent t o) where

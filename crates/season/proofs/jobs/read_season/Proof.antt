@@ -1,6 +1,5 @@
 -- `season::jobs::read_season` meets its contract. Assumes nothing.
-use mathlib.Core.Path.{_≡_, refl, sym, ap, _∙_, subst, subst₂, subst⁻¹}
-use mathlib.Core.List.{List, []}
+use mathlib.Core.Path.{_≡_, refl, sym, ap, _∙_, subst, subst₂}
 use mathlib.Core.Bool.{false}
 use Prim.Native.Nat.{ℕ}
 use native.Mathlib.Omega.{arith}
@@ -9,7 +8,6 @@ use lib.ListN.{length}
 use Rattle.model.specs.declared.Totals.{Totals}
 use Rattle.records.specs.declared.tally.Tally.{Tally}
 use Rattle.stream.specs.Taken.{lentIn}
-use Rattle.season.specs.declared.jobs.State.{State}
 use Rattle.season.specs.declared.jobs.Step.{Step}
 use Rattle.season.specs.declared.jobs.Ended.{Ended}
 use Rattle.season.specs.Stream.{Stands, left, StepOf}

@@ -1,13 +1,11 @@
 -- `season::window::move_to_front` meets its contract. The loop's invariant: the first `i` bytes have been moved, and those
 -- behind them are as they were. Assumes nothing.
-use mathlib.Core.Path.{_≡_, refl, sym, ap, _∙_}
+use mathlib.Core.Path.{_≡_, ap, _∙_}
 use mathlib.Core.List.{List}
 use Prim.Native.Nat.{ℕ, _+_, _-_, _≤_, zero-le}
 use native.Mathlib.Omega.{arith}
-use lib.ListN.{length, getD, drop, set}
-use lib.Seq.{getD-append-add, getD-drop}
+use lib.ListN.{length, getD, set}
 use Rattle.model.specs.Lists.{table, overwritten}
-use Rattle.model.proofs.Lists.{length-table}
 use Rattle.roundtrip.proofs.Sequences.{filled-none, filled-length, filled-more}
 use Rattle.season.proofs.Buffers.{behind}
 use Rattle.season.proofs.window.move_to_front.Statement.{statement}

@@ -1,17 +1,15 @@
 -- `stream::take::count_job` meets its contract. Assumes nothing.
-use mathlib.Core.Path.{_≡_, refl, sym, ap, ap₂, _∙_, subst, subst⁻¹}
-use Prim.Native.Nat.{ℕ, _*_, _≤_}
+use mathlib.Core.Path.{_≡_, refl, ap, ap₂, _∙_, subst, subst⁻¹}
+use Prim.Native.Nat.{ℕ}
 use native.Mathlib.Omega.{arith}
 use lib.IntN.{natAbs}
 use lib.ListN.{length}
-use Rattle.model.specs.Calls.{Answer, pixelsOf}
-use Rattle.model.specs.Tape.{Progress, lentBy, parse}
-use Rattle.model.specs.Program.{jobAnswer}
-use Rattle.model.specs.Season.{Treated, treated, slackOf}
-use Rattle.calls.specs.Answers.{answerOf}
+use Rattle.model.specs.Calls.{Answer}
+use Rattle.model.specs.Tape.{lentBy, parse}
+use Rattle.model.specs.Season.{treated}
 use Rattle.job.specs.declared.answer.Answered.{Answered}
 use Rattle.job.specs.Answered.{AnswerTo}
-use Rattle.report.specs.Counted.{withJob, mostSlack, Bounded}
+use Rattle.report.specs.Counted.{withJob, Bounded}
 use Rattle.report.proofs.Season.{countable-more}
 use borrow.Author.Needs.{needs}
 use Rattle.stream.proofs.take.count_job.Statement.{statement}

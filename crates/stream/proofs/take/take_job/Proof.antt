@@ -1,12 +1,12 @@
 -- `stream::take::take_job` meets its contract. Assumes nothing.
-use mathlib.Core.Path.{_≡_, refl, sym, ap, _∙_, subst}
-use Prim.Native.Nat.{ℕ, _≤_, _<_}
+use mathlib.Core.Path.{_≡_, refl, sym, _∙_, subst}
+use Prim.Native.Nat.{_<_}
 use native.Mathlib.Omega.{arith}
-use lib.ListN.{length, getD}
+use lib.ListN.{length}
 use lib.Seq.{length-take-le}
 use Rattle.tape_read.specs.declared.scan.Scanned.{Scanned}
 use Rattle.tape_read.specs.Scan.{StopsAt}
-use Rattle.stream.specs.Taken.{lentIn, TakenFrom}
+use Rattle.stream.specs.Taken.{lentIn}
 use Rattle.stream.proofs.Jobs.{stopped-short, stopped-refused, inside, records, ended}
 use borrow.Author.Needs.{needs}
 use Rattle.stream.proofs.take.take_job.Statement.{statement}

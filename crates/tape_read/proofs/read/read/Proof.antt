@@ -1,13 +1,10 @@
 -- `tape_read::read::read` meets its contract. Assumes nothing.
-use mathlib.Core.Path.{_≡_, refl, sym, ap, _∙_, subst, subst⁻¹}
+use mathlib.Core.Path.{_≡_, refl, sym, subst, subst⁻¹}
 use native.Mathlib.Omega.{arith}
-use lib.Seq.{take-length, take-all}
-use lib.ListN.{length, take}
-use mathlib.Core.List.{List}
-use Rattle.model.specs.Tape.{lentBy, turned}
+use Rattle.model.specs.Tape.{lentBy}
 use Rattle.records.specs.declared.tally.Tally.{Tally}
 use Rattle.tape_read.specs.declared.scan.Scanned.{Scanned}
-use Rattle.tape_read.specs.Scan.{recordsOf, Reached, StopsAt, WholeRecords}
+use Rattle.tape_read.specs.Scan.{Reached, StopsAt}
 use Rattle.tape_read.proofs.Promised.{promised}
 use Rattle.tape_read.proofs.Reached.{start, whole-tape, refused}
 use Rattle.roundtrip.proofs.Judged.{refused-parse, answer-by, samples-by, flow-by}
