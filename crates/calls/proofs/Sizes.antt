@@ -2,6 +2,7 @@
 use mathlib.Core.Path.{_≡_, refl, sym, subst}
 use mathlib.Core.List.{List}
 use Prim.Native.Nat.{ℕ, _*_, _≤_, _<_, zero-le}
+use native.Mathlib.Omega.{arith}
 use lib.IntN.{ℤ, natAbs}
 use lib.ListN.{getD}
 use Rattle.model.specs.declared.Terms.{Terms}
@@ -11,13 +12,14 @@ use Rattle.model.specs.Calls.{Answer, pixelsOf, figuresOf, ending, checkVerdict
 use Rattle.model.specs.Lists.{at}
 use Rattle.model.proofs.Accepted.{check-accepted, check-feasible, run-accepted}
 use Rattle.model.proofs.Answers.{check-answer, run-answer}
-use Rattle.model.proofs.Bounds.{perPixel, slack-by-pixels}
+use Rattle.model.proofs.Bounds.{slack-by-pixels}
 use Rattle.certificate.proofs.Grid.{ending-flow}
+use Rattle.calls.specs.Slack.{mostSlack}
 use Rattle.calls.proofs.Jobs.{with-bytes}
 
 module _ (t : Terms) (samples : List ℕ) (high : t .high < 256) (bytes : (i : ℕ) → getD samples i 0 < 256) where
   abbrev Small : Answer → Type 0
-  Small a = natAbs (a .slack) ≤ pixelsOf t * (2 * perPixel)
+  Small a = natAbs (a .slack) ≤ mostSlack * pixelsOf t
 
   pub check-small : (flow values : List ℤ) → Small (checkAnswer t samples flow values)
   unfolding figuresOf
@@ -27,7 +29,7 @@ module _ (t : Terms) (samples : List ℕ) (high : t .high < 256) (bytes : (i : �
       go Verdict.Accept e =
           let a = check-accepted t samples flow values .0 e in
           subst Small (sym (check-answer t samples flow values e))
-          (slack-by-pixels t samples (with-bytes t samples (a .terms) high bytes) (at flow) (check-feasible t samples flow values a))
+          (omega (arith, slack-by-pixels t samples (with-bytes t samples (a .terms) high bytes) (at flow) (check-feasible t samples flow values a)))
       go (Verdict.Refuse n q) e = subst Small (sym (check-answer t samples flow values e)) zero-le
 
   pub run-small : (r : Rounds) (flow values work : List ℤ) → Small (runAnswer t r samples flow values work)
@@ -38,5 +40,5 @@ module _ (t : Terms) (samples : List ℕ) (high : t .high < 256) (bytes : (i : �
       go Verdict.Accept e =
           let a = run-accepted t r samples flow values work .0 e in
           subst Small (sym (run-answer t r samples flow values work e))
-          (slack-by-pixels t samples (with-bytes t samples (a .terms) high bytes) (at (ending t r samples .flow)) (ending-flow t r samples (a .terms .box) .1))
+          (omega (arith, slack-by-pixels t samples (with-bytes t samples (a .terms) high bytes) (at (ending t r samples .flow)) (ending-flow t r samples (a .terms .box) .1)))
       go (Verdict.Refuse n q) e = subst Small (sym (run-answer t r samples flow values work e)) zero-le

@@ -12,7 +12,7 @@ use lib.Seq.{getD-take}
 use Rattle.model.specs.declared.Terms.{Terms}
 use Rattle.model.specs.declared.Rounds.{Rounds}
 use Rattle.model.specs.Calls.{pixelsOf}
-use Rattle.model.proofs.Bounds.{perPixel}
+use Rattle.calls.specs.Slack.{mostSlack}
 use Rattle.calls.proofs.Sizes.{check-small, run-small}
 use Rattle.job.specs.Tables.{answerIn}
 
@@ -26,7 +26,7 @@ front-bytes n l bytes i = go (ltb i n) refl
         subst (λ (x : ℕ). x < 256) (sym (List·getD-eq-default (take n l) 0 (omega (arith, length-take n l, ltb-false i n h)))) (omega arith)
 
 pub slack-most : (t : Terms) (r : Rounds) (flowed : Bool) (samples : List ℕ) (flow image work : List ℤ) → t .high < 256 → ((i : ℕ) → getD samples i 0 < 256) →
-    natAbs (answerIn t r flowed samples flow image work .slack) ≤ pixelsOf t * (2 * perPixel)
+    natAbs (answerIn t r flowed samples flow image work .slack) ≤ mostSlack * pixelsOf t
 slack-most t r true samples flow image work high bytes =
     check-small t (take (pixelsOf t) samples) high (front-bytes (pixelsOf t) samples bytes) _ _
 slack-most t r false samples flow image work high bytes =

@@ -7,6 +7,7 @@ use Rattle.model.specs.Tape.{Progress, Parse, turned, whole}
 use Rattle.model.specs.Program.{jobAnswer}
 use Rattle.calls.specs.declared.answer.Answer.{Answer}
 use Rattle.calls.specs.Answers.{answerOf}
+use Rattle.calls.specs.Slack.{mostSlack}
 use Rattle.job.specs.declared.answer.Answered.{Answered}
 
 -- a job's answer, which is no refusal and whose slack is at most so much for each pixel, and its count of pixels, for which
@@ -16,7 +17,7 @@ pub record Answers (p : Progress) (samples : ℕ) (a : Answer) (n : ℕ) : Type 
   pub accepted : jobAnswer p .number ≡ 0
   pub pixels : n ≡ pixelsOf (p .terms)
   pub held : pixelsOf (p .terms) ≤ samples
-  pub slack : natAbs (jobAnswer p .slack) ≤ pixelsOf (p .terms) * (10 * (65280 * 65280))
+  pub slack : natAbs (jobAnswer p .slack) ≤ mostSlack * pixelsOf (p .terms)
 
 -- what is given for what was read: the refusal, or the job's answer
 abbrev pub AnswerTo : Parse → ℕ → Answered → Type 0

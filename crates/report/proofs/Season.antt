@@ -14,7 +14,8 @@ use Rattle.model.specs.Lists.{firstWhere}
 use Rattle.model.specs.Calls.{Outcome, refused, checked, settled, spent, refusal}
 use Rattle.model.specs.Season.{Treated, sumOver, settledOne, spentOne, checkedOne, slackOf, greater, largestSlack, hasSlack, firstLargest, totalsOf}
 use Rattle.model.proofs.Lists.{First, firstWhere-first, firstWhere-is}
-use Rattle.report.specs.Counted.{leads, withJob, mostSlack, Bounded}
+use Rattle.calls.specs.Slack.{mostSlack}
+use Rattle.report.specs.Counted.{leads, withJob, Bounded}
 
 -- ---- The sums
 

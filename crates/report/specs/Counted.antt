@@ -4,6 +4,7 @@ use Prim.Native.Nat.{ℕ, _+_, _*_, _≤_, _<_}
 use lib.Dec.{eqb, ltb}
 use lib.IntN.{natAbs}
 use Rattle.model.specs.Calls.{Answer}
+use Rattle.calls.specs.Slack.{mostSlack}
 use Rattle.model.specs.declared.Totals.{Totals}
 use Rattle.model.specs.Season.{Treated, settledOne, spentOne, checkedOne, slackOf}
 use Rattle.report.specs.declared.totals.Share.{Share}
@@ -44,11 +45,7 @@ withJob t job =
       first = cond (leads (t .jobs) (t .largest) (slackOf job)) (t .jobs + 1) (t .first);
     }
 
--- The most slack of a pixel. So 65,535 jobs of 4,096 pixels have a total below 2 ^ 64.
-abbrev pub mostSlack : ℕ
-mostSlack = 10 * (65280 * 65280)
-
--- the bounds that hold from job to job
+-- the bounds that hold from job to job; so 65,535 jobs of 4,096 pixels have a total below 2 ^ 64
 pub record Bounded (t : Totals) : Type 0 where
   pub settledWithin : t .settled ≤ t .jobs
   pub spentWithin : t .spent ≤ t .jobs

@@ -15,7 +15,7 @@ use Rattle.records.specs.Tally.{tallyOf}
 use Rattle.tape_read.proofs.Reached as scan
 use Rattle.report.proofs.Season.{bounded-none}
 use Rattle.stream.specs.Report.{reportFrom}
-use Rattle.stream.specs.Window.{Reports}
+use Rattle.stream.specs.AtHand.{Reports}
 use Rattle.stream.proofs.Reports.{full-report}
 use Rattle.season.specs.declared.jobs.State.{State}
 use Rattle.season.specs.declared.jobs.Ended.{Ended}

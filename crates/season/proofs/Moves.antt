@@ -13,7 +13,7 @@ use Rattle.records.specs.declared.tally.Tally.{Tally}
 use Rattle.records.specs.Tally.{tallyOf}
 use Rattle.tape_read.proofs.Reached as scan
 use Rattle.stream.specs.Report.{reportFrom}
-use Rattle.stream.specs.Window.{GoesOn, Wants}
+use Rattle.stream.specs.AtHand.{GoesOn, Wants}
 use Rattle.season.specs.declared.window.Window.{Window}
 use Rattle.season.specs.declared.window.Input.{Input}
 use Rattle.season.specs.declared.jobs.State.{State}

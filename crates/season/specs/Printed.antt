@@ -6,7 +6,7 @@ use Prim.Native.Nat.{ℕ}
 use lib.ListN.{length}
 use Rattle.model.specs.Lists.{overwritten}
 use Rattle.model.specs.Season.{seasonText}
-use Rattle.stream.specs.Window.{Follows}
+use Rattle.stream.specs.AtHand.{Follows}
 use Rattle.season.specs.declared.text.Printed.{Printed}
 
 -- the text of the bytes that were read, and whether the input had ended behind them: whatever else follows them, it is the

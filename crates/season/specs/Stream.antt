@@ -9,7 +9,7 @@ use Rattle.tape_read.specs.Scan.{Reached}
 use Rattle.job.specs.Tables.{Holds}
 use Rattle.report.specs.Counted.{Bounded}
 use Rattle.stream.specs.Report.{reportFrom}
-use Rattle.stream.specs.Window.{Reports}
+use Rattle.stream.specs.AtHand.{Reports}
 use Rattle.season.specs.declared.window.Window.{Window}
 use Rattle.season.specs.declared.jobs.State.{State}
 use Rattle.season.specs.declared.jobs.Step.{Step}

@@ -16,7 +16,7 @@ use Rattle.tape_read.specs.Scan.{Reached}
 use Rattle.roundtrip.proofs.Offsets.{tape-length}
 use Rattle.stream.specs.Report.{Report, reportFrom}
 use Rattle.stream.specs.Taken.{Short, Refused, Counted}
-use Rattle.stream.specs.Window.{Reports, GoesOn, Wants}
+use Rattle.stream.specs.AtHand.{Reports, GoesOn, Wants}
 use Rattle.stream.proofs.First.{no-bytes, first-whole, first-faulty, first-past, first-ended}
 use Rattle.stream.proofs.Reports.{over-report, refused-report, counted-report}
 

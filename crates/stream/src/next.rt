@@ -8,7 +8,7 @@ ghost use Prim.Native.Nat.{_≤_};
 ghost use lib.ListN.{length};
 ghost use Rattle.tape_read.specs.Scan.{Reached};
 ghost use Rattle.stream.specs.Taken.{Ready, lentIn};
-ghost use Rattle.stream.specs.Window.{NextOf};
+ghost use Rattle.stream.specs.AtHand.{NextOf};
 
 pub enum Next {
     // more bytes are wanted: what has been read of the job, and where its next record begins

@@ -7,7 +7,7 @@ use lib.IntN.{natAbs}
 use Rattle.model.specs.declared.Terms.{Terms}
 use Rattle.model.specs.Calls.{Answer, pixelsOf}
 use Rattle.model.specs.Program.{jobAnswer}
-use Rattle.model.proofs.Bounds.{perPixel}
+use Rattle.calls.specs.Slack.{mostSlack}
 use Rattle.tape_read.specs.Answers.{readAnswerOf}
 use Rattle.job.proofs.Texts.{Taken, taken, turned-back, allowed, tables, read-answer}
 use Rattle.job.proofs.Slacks.{slack-most}
@@ -94,8 +94,8 @@ returns-2 c =
         pixels = c .pixels .ensures ∙ ap (λ (u : Terms). pixelsOf u) (k .terms);
         held = k .fits .samplesHold;
         slack =
-            subst (λ (n : ℕ). natAbs (jobAnswer (k .p) .slack) ≤ n * (2 * perPixel)) (ap (λ (u : Terms). pixelsOf u) (k .terms))
-            (subst (λ (x : Answer). natAbs (x .slack) ≤ pixelsOf (v .0) * (2 * perPixel)) (sym (s .treat .ensures .0) ∙ given) small);
+            subst (λ (n : ℕ). natAbs (jobAnswer (k .p) .slack) ≤ mostSlack * n) (ap (λ (u : Terms). pixelsOf u) (k .terms))
+            (subst (λ (x : Answer). natAbs (x .slack) ≤ mostSlack * pixelsOf (v .0)) (sym (s .treat .ensures .0) ∙ given) small);
       },
     )
 

@@ -6,7 +6,7 @@ use lib.ListN.{length}
 use Rattle.records.specs.declared.tally.Tally.{Tally}
 use Rattle.stream.specs.declared.next.Next.{Next}
 use Rattle.stream.specs.Taken.{lentIn}
-use Rattle.stream.specs.Window.{NextOf}
+use Rattle.stream.specs.AtHand.{NextOf}
 use Rattle.season.specs.Window.{atHand}
 use Rattle.season.specs.Stream.{Goes}
 use Rattle.season.proofs.Moves.{size-of, counted-goes, more-goes}
