@@ -1,7 +1,7 @@
 -- The season report: the text that it prints for tapes that follow one another (docs/SPECIFICATION.md, section 10).
 use mathlib.Core.Bool.{Bool, true, false, cond}
 use mathlib.Core.List.{List, [], _∷_, _++_}
-use Prim.Native.Nat.{ℕ, zero, suc, _+_, _/_, _%_}
+use Prim.Native.Nat.{ℕ, zero, suc, _+_, _/_, _%_, max}
 use Prim.Native.String.{String}
 use lib.Dec.{eqb, ltb}
 use lib.IntN.{natAbs}
@@ -94,12 +94,9 @@ checkedOne spent = 0
 abbrev pub slackOf : Treated → ℕ
 slackOf job = natAbs (job .answer .slack)
 
-abbrev pub greater : ℕ → ℕ → ℕ
-greater m n = cond (ltb m n) n m
-
 unfoldable pub largestSlack : List Treated → ℕ
 largestSlack [] = 0
-largestSlack (job ∷ jobs) = greater (slackOf job) (largestSlack jobs)
+largestSlack (job ∷ jobs) = max (slackOf job) (largestSlack jobs)
 
 -- whether job i, counted from 0, has this slack
 abbrev pub hasSlack : List Treated → ℕ → ℕ → Bool

@@ -12,7 +12,7 @@ use borrow.Author.Tests.{lt-ltb, le-ltb, eq-eqb, ne-eqb}
 use Rattle.model.specs.declared.Totals.{Totals}
 use Rattle.model.specs.Lists.{firstWhere}
 use Rattle.model.specs.Calls.{Outcome, refused, checked, settled, spent, refusal}
-use Rattle.model.specs.Season.{Treated, sumOver, settledOne, spentOne, checkedOne, slackOf, greater, largestSlack, hasSlack, firstLargest, totalsOf}
+use Rattle.model.specs.Season.{Treated, sumOver, settledOne, spentOne, checkedOne, slackOf, largestSlack, hasSlack, firstLargest, totalsOf}
 use Rattle.model.proofs.Lists.{First, firstWhere-first, firstWhere-is}
 use Rattle.calls.specs.Slack.{mostSlack}
 use Rattle.report.specs.Counted.{leads, withJob, Bounded}
@@ -26,21 +26,22 @@ sum-more f (first ∷ done) job = omega (arith, sum-more f done job)
 
 -- ---- The largest slack
 
-greater-max : (m n : ℕ) → greater m n ≡ max m n
-greater-max m n = by (decLt m n)
+-- the greater of two, by a test
+greater : (m n : ℕ) → cond (ltb m n) n m ≡ max m n
+greater m n = by (decLt m n)
   where
-    by : Dec (m < n) → greater m n ≡ max m n
+    by : Dec (m < n) → cond (ltb m n) n m ≡ max m n
     by (yes l) = ap (λ (b : Bool). cond b n m) (lt-ltb m n l) ∙ omega arith
     by (no g) = ap (λ (b : Bool). cond b n m) (le-ltb m n (omega (arith, g))) ∙ omega (arith, g)
 
-largest-more : (done : List Treated) (job : Treated) → greater (largestSlack done) (slackOf job) ≡ largestSlack (done ++ (job ∷ []))
+largest-more : (done : List Treated) (job : Treated) → max (largestSlack done) (slackOf job) ≡ largestSlack (done ++ (job ∷ []))
 unfolding largestSlack
-largest-more [] job = greater-max 0 (slackOf job) ∙ omega arith ∙ sym (greater-max (slackOf job) 0)
+largest-more [] job = omega arith
 largest-more (first ∷ done) job =
     let m : ℕ = largestSlack done in
     let n : ℕ = largestSlack (done ++ (job ∷ [])) in
-    let e : greater m (slackOf job) ≡ n = largest-more done job in
-    omega (arith, greater-max (greater (slackOf first) m) (slackOf job), greater-max (slackOf first) m, greater-max (slackOf first) n, greater-max m (slackOf job))
+    let e : max m (slackOf job) ≡ n = largest-more done job in
+    omega arith
 
 -- job i, counted from 0
 abbrev nth : List Treated → ℕ → Treated
@@ -49,9 +50,9 @@ nth jobs i = getD jobs i (record { pixels = 0; answer = refusal 0 0 })
 at-most-largest : (jobs : List Treated) (i : ℕ) → slackOf (nth jobs i) ≤ largestSlack jobs
 unfolding largestSlack
 at-most-largest [] i = omega arith
-at-most-largest (first ∷ jobs) zero = omega (arith, greater-max (slackOf first) (largestSlack jobs))
+at-most-largest (first ∷ jobs) zero = omega (arith)
 at-most-largest (first ∷ jobs) (suc i) =
-    omega (arith, greater-max (slackOf first) (largestSlack jobs), at-most-largest jobs i)
+    omega (arith, at-most-largest jobs i)
 
 -- a job that has it
 pub record Attained (jobs : List Treated) : Type 0 where
@@ -62,7 +63,7 @@ pub record Attained (jobs : List Treated) : Type 0 where
 attained : (first : Treated) (jobs : List Treated) → Attained (first ∷ jobs)
 unfolding largestSlack
 attained first [] =
-    record { index = 0; within = omega arith; equal = omega (arith, greater-max (slackOf first) 0) }
+    record { index = 0; within = omega arith; equal = omega (arith) }
 attained first (second ∷ jobs) = by (decLt (slackOf first) m) (attained second jobs)
   where
     m : ℕ
@@ -73,10 +74,10 @@ attained first (second ∷ jobs) = by (decLt (slackOf first) m) (attained second
         record {
           index = suc (a .index);
           within = omega (arith, a .within);
-          equal = omega (arith, a .equal, greater-max (slackOf first) m);
+          equal = omega (arith, a .equal);
         }
     by (no g) a =
-        record { index = 0; within = omega arith; equal = omega (arith, g, greater-max (slackOf first) m) }
+        record { index = 0; within = omega arith; equal = omega (arith, g) }
 
 -- ---- The first job that has it
 
@@ -128,7 +129,7 @@ stays first rest job =
 module _ (job : Treated) where
   alone : slackOf job ≡ largestSlack (job ∷ [])
   unfolding largestSlack
-  alone = omega (arith, greater-max (slackOf job) 0)
+  alone = omega (arith)
 
   first-alone : 1 ≡ firstLargest (job ∷ [])
   unfolding firstLargest
@@ -157,7 +158,7 @@ module _ (first : Treated) (rest : List Treated) (job : Treated) where
   chosen new old = ap (λ (b : Bool). cond (b || ltb m s) new old) (ne-eqb (length done) 0 (λ e. omega arith))
 
   largest-behind : cond (leads (length done) m s) s m ≡ largestSlack all
-  largest-behind = chosen s m ∙ largest-more done job
+  largest-behind = chosen s m ∙ greater m s ∙ largest-more done job
 
   first-behind : cond (leads (length done) m s) (length done + 1) (firstLargest done) ≡ firstLargest all
   unfolding firstLargest
@@ -165,11 +166,11 @@ module _ (first : Treated) (rest : List Treated) (job : Treated) where
     where
       by : Dec (m < s) → cond (ltb m s) (length done + 1) (firstLargest done) ≡ firstLargest all
       by (yes l) =
-          let top : largestSlack all ≡ s = omega (arith, largest-more done job, greater-max m s) in
+          let top : largestSlack all ≡ s = omega (arith, largest-more done job) in
           ap (λ (b : Bool). cond b (length done + 1) (firstLargest done)) (lt-ltb m s l)
           ∙ omega (arith, ap (firstWith all) top, firstWhere-is _ _ _ (takes-over done job l))
       by (no g) =
-          let top : largestSlack all ≡ m = omega (arith, g, largest-more done job, greater-max m s) in
+          let top : largestSlack all ≡ m = omega (arith, g, largest-more done job) in
           ap (λ (b : Bool). cond b (length done + 1) (firstLargest done)) (le-ltb m s (omega (arith, g)))
           ∙ omega (arith, ap (firstWith all) top, firstWhere-is _ _ _ (stays first rest job))
 
