@@ -35,7 +35,7 @@
 //! let figures = relief::run(&terms, &rounds, &samples, &mut flow, &mut image, &mut work)?;
 //! assert_eq!(figures.outcome, Outcome::Settled);
 //! assert_eq!((figures.price, figures.slack), (131_080, 16));
-//! assert_eq!(image, [254, 258]);
+//! assert_eq!(image, [382, 386]);
 //! # }
 //! # Ok::<(), relief::Refusal>(())
 //! ```
@@ -66,9 +66,10 @@ pub struct Terms {
     pub height: u32,
     /// The weight in sub-units of 1/256 level, at most [`MAX_WEIGHT`].
     pub weight: u32,
-    /// The low end of the box in levels.
+    /// The lowest level of the box: image values are at least 256 × `low` sub-units.
     pub low: u8,
-    /// The high end of the box in levels, not below the low one.
+    /// The highest level of the box, not below the lowest: image values are at most
+    /// 256 × `high` + 255 sub-units.
     pub high: u8,
 }
 
