@@ -19,12 +19,12 @@ sizeAllowed w h = leb 1 w && leb w 4096 && (leb 1 h && leb h 4096) && leb (w * h
 unfoldable pub weightAllowed : ℕ → Bool
 weightAllowed weight = leb weight 65280
 
--- The box is low to high, low at most high (each end is a byte, 0 to 255 levels, by its type) (SPECIFICATION 1.6)
+-- The box is low to high, low at most high (each is a level, 0 to 255: a byte by its type) (SPECIFICATION 1.6)
 unfoldable pub boxAllowed : ℕ → ℕ → Bool
 boxAllowed low high = leb low high
 
--- A sub-unit is 1/256 level. Code s covers a whole level, from 256 × s to 256 × s + 255, and is read at its centre,
--- B = 256 × s + 128 (SPECIFICATION 1.4)
+-- A sub-unit is 1/256 level. Code s covers a whole level (its quantization interval), from 256 × s to 256 × s + 255, and
+-- is read at its centre, B = 256 × s + 128 (the midpoint) (SPECIFICATION 1.4)
 unfoldable pub readingOf : ℕ → ℤ
 readingOf s = pos (256 * s + 128)
 
