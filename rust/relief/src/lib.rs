@@ -4,6 +4,9 @@
 //! with a [`Refusal`], after which every buffer is as it was. `include/relief.h` says
 //! what each number means and what the rounds are.
 //!
+//! A sample is a code. It covers a level of 256 sub-units and is read at its centre, 256 ×
+//! sample + 128; image values are in sub-units too.
+//!
 //! A call is there with its feature: `judge` (price, check), `run`, `tape` (read, write).
 //!
 //! Lengths of buffers are counted in values and must be exact, unless a call says
