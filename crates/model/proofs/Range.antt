@@ -1,5 +1,5 @@
--- The range of readings and image values, from 0 to the upper end of the widest box. No other law knows how a reading or an
--- end of the box is made. Assumes nothing.
+-- The range of readings and image values: from 0 to the upper end of the widest box. How a reading or an end of the box is
+-- made is known here, in the tables of values and where it is computed; every other law follows from these. Assumes nothing.
 use Prim.Native.Nat.{ℕ, _^_, _≤_, _<_}
 use native.Mathlib.Omega.{arith}
 use lib.IntN.{pos, natAbs}
