@@ -11,8 +11,8 @@
  * - sample: one byte, a code from 0 to 255. A code covers a whole level, 256 sub-units, and is read
  *   at its centre: the reading of a sample s is 256 * s + 128 sub-units.
  * - weight: 0 to 65,280 sub-units.
- * - low, high: the box, in codes, low at most high. Image values run from 256 * low to
- *   256 * high + 255: the levels of all codes from low to high. Samples may lie outside the box.
+ * - low, high: the lowest and the highest level of the box, 0 to 255, low at most high. Image values
+ *   run over these levels, from 256 * low to 256 * high + 255. Samples may lie outside the box.
  * - image value: in sub-units. It becomes a code again as value / 256 in whole numbers, the code
  *   whose level it lies in; value / 256.0 is a depth in levels, in which code s is read at s + 0.5.
  * - pairs: neighbours. First every (pixel, pixel below) in row order of the upper pixel, then every
