@@ -3,8 +3,8 @@
 
     python3 examples/make_facade.py > examples/facade.pgm
 
-Heights of the surface, in codes: courses of stones with joints between them, a window with its reveal,
-lintel and sill, stones that are worn, and the noise of a scanner.
+Levels are heights of the surface: courses of stones with joints between them, a window with its
+reveal, lintel and sill, stones that are worn, and the noise of a scanner.
 """
 
 import random
