@@ -4,10 +4,11 @@
     target/bin/relief < examples/facade.tape > answer.txt
     python3 examples/answer2pgm.py answer.txt clean.pgm
 
-Reads standard input and writes standard output where no file is named. Image values come in sub-units
-of 1/256 level and are rounded to levels, 0 to 255, or to the scale that --maxval names: 63 for a scan
-of maxval 63, 65280 for the sub-units themselves. The picture is as bright on each. The figures go to
-standard error. An answer whose last rows are missing cannot be told from a smaller picture's.
+Reads standard input and writes standard output where no file is named. Image values come in sub-units,
+256 to a level. Each becomes the sample whose level it lies in: of 256 levels its code, the value's whole
+256ths, or of as many as --maxval names: 63 for a scan of maxval 63, 65535 for the sub-units themselves.
+The picture is as bright on each. The figures go to standard error. An answer whose last rows are missing
+cannot be told from a smaller picture's.
 """
 
 import re
@@ -19,7 +20,7 @@ import script
 NAME = "answer2pgm"
 HEADING = "outcome moved price floor slack"
 FIGURES = re.compile(r"(settled|spent|checked) \d+ \d+ -?\d+ \d+")
-TOP = 255 * 256  # the largest image value, in sub-units
+TOP = 65535  # the largest image value, in sub-units
 
 
 def arguments():
@@ -54,11 +55,16 @@ def image_value(word):
     return int(word)
 
 
+def sample(value, maxval):
+    """The one of a picture's maxval + 1 levels that an image value lies in."""
+    return value * (maxval + 1) // (TOP + 1)
+
+
 def main():
     options = arguments()
     with script.naming(NAME, script.source_name(options.source)):
         figures, rows = read(script.read(options.source))
-    samples = [[pgm.rescaled(value, TOP, options.maxval) for value in row] for row in rows]
+    samples = [[sample(value, options.maxval) for value in row] for row in rows]
     with script.naming(NAME, script.target_name(options.target)):
         script.write(options.target, pgm.text(samples, options.maxval).encode())
     print(HEADING, figures, sep="\n", file=sys.stderr)

@@ -46,17 +46,18 @@ static void scan(uint8_t *samples)
         }
 }
 
-/* Prints the values about the crossing of two joints, before and after, in levels. */
+/* Prints the codes about the crossing of two joints, before and after: an image value becomes the code
+   whose level it lies in. */
 static void print_excerpt(const uint8_t *samples, const int32_t *image)
 {
     int left = STONE - 6, top = 2 * COURSE - 4;
-    printf("samples and image in levels, from column %d and row %d:\n", left, top);
+    printf("samples and image as codes, from column %d and row %d:\n", left, top);
     for (int y = top; y < top + 12; y++) {
         for (int x = left; x < left + 14; x++)
             printf("%4d", samples[y * WIDTH + x]);
         printf("   |");
         for (int x = left; x < left + 14; x++)
-            printf("%4d", (int)(image[y * WIDTH + x] + 128) / 256);
+            printf("%4d", (int)(image[y * WIDTH + x] / 256));
         printf("\n");
     }
 }

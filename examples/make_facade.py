@@ -3,8 +3,8 @@
 
     python3 examples/make_facade.py > examples/facade.pgm
 
-Levels are heights of the surface: courses of stones with joints between them, a window with its
-reveal, lintel and sill, stones that are worn, and the noise of a scanner.
+Heights of the surface, in codes: courses of stones with joints between them, a window with its reveal,
+lintel and sill, stones that are worn, and the noise of a scanner.
 """
 
 import random

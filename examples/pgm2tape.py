@@ -4,8 +4,8 @@
     python3 examples/pgm2tape.py --low 30 --high 200 examples/facade.pgm examples/facade.tape
 
 Reads standard input and writes standard output where no file is named. Samples of a maxval below 255
-are scaled to 0..255 (the nearest), so that the picture comes back as bright as it was; a line on
-standard error says so. Weight and box are then in the scaled levels.
+are scaled to the codes 0 to 255 (the nearest), so that the picture comes back as bright as it was; a
+line on standard error says so. Weight and box are then in the levels of these codes.
 """
 
 import struct
@@ -19,8 +19,8 @@ PIXELS = 4096  # that the cleaning program takes at most
 
 TERMS = {  # name: default, largest, meaning
     "weight": (1024, 65280, "in sub-units of 1/256 level"),
-    "low": (0, 255, "low end of the box in levels"),
-    "high": (255, 255, "high end of the box in levels"),
+    "low": (0, 255, "lowest level of the box"),
+    "high": (255, 255, "highest level of the box"),
     "quick": (100, 4096, "quick rounds"),
     "allowance": (1000, 65535, "steady rounds at most"),
 }
@@ -39,7 +39,7 @@ def arguments():
 
 
 def read(data):
-    """The rows of levels and the maxval of a picture. A ValueError says why there is no job."""
+    """The rows of codes and the maxval of a picture. A ValueError says why there is no job."""
     rows, maxval = pgm.read(data)
     pixels = len(rows) * len(rows[0])
     if pixels > PIXELS:
@@ -54,7 +54,7 @@ def tape(rows, terms):
         struct.pack("<BHBB", 2, terms.weight, terms.low, terms.high),
         struct.pack("<BHH", 3, terms.quick, terms.allowance),
     ]
-    records += [bytes([4, level]) for row in rows for level in row]
+    records += [bytes([4, code]) for row in rows for code in row]
     return b"".join(records) + b"\0"
 
 

@@ -8,16 +8,19 @@
  *
  * - width, height: size of the raster in pixels, each 1 to 4,096, their product at most 1,048,576.
  *   Pixels run row by row.
- * - sample: one byte, 0 to 255 levels. A sub-unit is 1/256 level; a sample s is read as 256 * s.
+ * - sample: one byte, a code from 0 to 255. A code covers a whole level, 256 sub-units, and is read
+ *   at its centre: the reading of a sample s is 256 * s + 128 sub-units.
  * - weight: 0 to 65,280 sub-units.
- * - low, high: the box, in levels, low at most high. Image values run from 256 * low to 256 * high.
- *   Samples may lie outside the box.
+ * - low, high: the lowest and the highest level of the box, 0 to 255, low at most high. Image values
+ *   run over these levels, from 256 * low to 256 * high + 255. Samples may lie outside the box.
+ * - image value: in sub-units. It becomes a code again as value / 256 in whole numbers, the code
+ *   whose level it lies in; value / 256.0 is a depth in levels, in which code s is read at s + 0.5.
  * - pairs: neighbours. First every (pixel, pixel below) in row order of the upper pixel, then every
  *   (pixel, pixel to its right) in row order of the left one.
  * - fall of a pair: its first pixel's image value minus its second's.
  * - flow: one number for each pair, from -weight to weight. Its pull on a pixel is the sum of the
- *   numbers where the pixel is first minus those where it is second; its image is 256 * sample
- *   minus pull at each pixel, clamped to the box.
+ *   numbers where the pixel is first minus those where it is second; its image is the sample's
+ *   reading minus pull at each pixel, clamped to the box.
  * - quick: the number of quick rounds, 0 to 4,096. allowance: the most steady rounds, 0 to 65,535.
  *
  * low, high and allowance are as narrow as their types: C cuts a larger number without a word, and
@@ -82,9 +85,9 @@ extern "C" {
 
 /* The version. Before 1.0.0 a change that callers must follow raises MINOR. */
 #define RELIEF_VERSION_MAJOR 0
-#define RELIEF_VERSION_MINOR 1
+#define RELIEF_VERSION_MINOR 2
 #define RELIEF_VERSION_PATCH 0
-#define RELIEF_VERSION_STRING "0.1.0"
+#define RELIEF_VERSION_STRING "0.2.0"
 
 /* The limits: the largest number of each kind that is allowed. */
 #define RELIEF_MAX_SIDE 4096           /* width and height; the smallest is 1 */
@@ -217,8 +220,8 @@ enum relief_outcome {
  * samples  one for each pixel
  * image    one value for each pixel, in sub-units, each within the box
  * *outcome, *moved   RELIEF_CHECKED and 0
- * *price   the sum of (value - 256 * sample)^2 over pixels, plus 2 * weight * the sum of |fall|
- *          over pairs
+ * *price   the sum of (value - reading)^2 over pixels, plus 2 * weight * the sum of |fall| over
+ *          pairs
  * *floor, *slack   0: no flow is given
  *
  * Refusals: 1, 2, 3; 4, 6; 9.
@@ -238,7 +241,7 @@ uint32_t relief_price(
  * image    one value for each pixel; filled with the flow's image, in sub-units
  * *outcome, *moved   RELIEF_CHECKED and 0
  * *price   the price of that image, as relief_price gives it
- * *floor   the sum of (value - 256 * sample)^2 over pixels of that image, plus 2 * the sum of
+ * *floor   the sum of (value - reading)^2 over pixels of that image, plus 2 * the sum of
  *          flow * fall over pairs. No image of the box has a lower price. It may be negative
  * *slack   price minus floor. For every image of the box, *price plus the squared distance of the
  *          two images is at most the other image's price plus *slack

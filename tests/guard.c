@@ -431,8 +431,8 @@ static void two_by_one(void)
     expect(
         &CHECK, &j, "flow -256",
         (struct answer){.outcome = RELIEF_CHECKED, .price = 131072, .floor = 131072});
-    expect_values("check", "image", j.image, (int32_t[]){256, 256}, 2);
-    expect(&PRICE, &j, "256 256", (struct answer){.outcome = RELIEF_CHECKED, .price = 131072});
+    expect_values("check", "image", j.image, (int32_t[]){384, 384}, 2);
+    expect(&PRICE, &j, "384 384", (struct answer){.outcome = RELIEF_CHECKED, .price = 131072});
     expect(&WRITE, &j, "flow -256", (struct answer){.count = sizeof TAPE});
     if (memcmp(j.tape, TAPE, sizeof TAPE) != 0)
         fail("write", "flow -256", "another tape");
@@ -443,7 +443,7 @@ static void two_by_one(void)
         (struct answer){
             .outcome = RELIEF_SETTLED, .moved = 17, .price = 131080, .floor = 131064, .slack = 16});
     expect_values("run", "flow", j.flow, (int32_t[]){-254}, 1);
-    expect_values("run", "image", j.image, (int32_t[]){254, 258}, 2);
+    expect_values("run", "image", j.image, (int32_t[]){382, 386}, 2);
     expect_values("run", "work", j.work, (int32_t[]){0, 0}, 2);
     end_group("accepted, 2 by 1");
 }
@@ -470,8 +470,8 @@ static void one_by_one(void)
     lend(&j, ALL);
     j.samples[0] = 7;
     expect(&CHECK, &j, "no pairs", (struct answer){.outcome = RELIEF_CHECKED});
-    expect_values("check", "image", j.image, (int32_t[]){1792}, 1);
-    expect(&PRICE, &j, "1792", (struct answer){.outcome = RELIEF_CHECKED});
+    expect_values("check", "image", j.image, (int32_t[]){1920}, 1);
+    expect(&PRICE, &j, "1920", (struct answer){.outcome = RELIEF_CHECKED});
     expect(&WRITE, &j, "no pairs", (struct answer){.count = RELIEF_TAPE_BYTES(1, 0)});
     expect_job(&j, "no pairs", false);
     expect(&RUN, &j, "no pairs", (struct answer){.outcome = RELIEF_SETTLED});

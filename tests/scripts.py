@@ -20,13 +20,14 @@ sys.dont_write_bytecode = True
 TOP = Path(__file__).resolve().parent.parent
 sys.path.insert(0, str(TOP / "examples"))
 
+import answer2pgm  # noqa: E402
 import pgm  # noqa: E402
 
 PROGRAM = os.environ.get("RELIEF_BIN")
 if PROGRAM:
     PROGRAM = os.path.realpath(PROGRAM)
 
-ANSWER = b"outcome moved price floor slack\nsettled 17 131080 131064 16\n254 258\n"
+ANSWER = b"outcome moved price floor slack\nsettled 17 131080 131064 16\n382 386\n"
 REFUSED = "the cleaning program refused the job: refused 8 at 0 (README.md lists the refusals)"
 
 
@@ -58,7 +59,7 @@ class Scripts(unittest.TestCase):
         self.assertEqual((done.returncode, done.stderr.decode()), (0, said))
         return done.stdout
 
-    def levels(self, picture, **more):
+    def codes(self, picture, **more):
         """The samples of the picture's tape."""
         return list(self.tape(picture, **more)[16:-1:2])
 
@@ -80,11 +81,11 @@ class Tapes(Scripts):
         self.assertEqual(self.names(), ["out.tape"])
 
     def test_maxval(self):
-        self.assertEqual(self.levels(b"P2 4 1 255\n0 1 128 255\n"), [0, 1, 128, 255])
-        self.assertEqual(self.levels(b"P5 4 1 255\n\0\1\x80\xff"), [0, 1, 128, 255])
-        self.assertEqual(self.levels(b"P2 4 1 63\n0 1 32 63\n", said=scaled("standard input", 63)), [0, 4, 130, 255])
-        self.assertEqual(self.levels(b"P5 4 1 63\n\0\1\x20\x3f", said=scaled("standard input", 63)), [0, 4, 130, 255])
-        self.assertEqual(self.levels(b"P2 2 1 1\n1 0\n", said=scaled("standard input", 1)), [255, 0])
+        self.assertEqual(self.codes(b"P2 4 1 255\n0 1 128 255\n"), [0, 1, 128, 255])
+        self.assertEqual(self.codes(b"P5 4 1 255\n\0\1\x80\xff"), [0, 1, 128, 255])
+        self.assertEqual(self.codes(b"P2 4 1 63\n0 1 32 63\n", said=scaled("standard input", 63)), [0, 4, 130, 255])
+        self.assertEqual(self.codes(b"P5 4 1 63\n\0\1\x20\x3f", said=scaled("standard input", 63)), [0, 4, 130, 255])
+        self.assertEqual(self.codes(b"P2 2 1 1\n1 0\n", said=scaled("standard input", 1)), [255, 0])
         for maxval in 256, 65535:
             for kind in "P2", "P5":
                 self.fails(f"standard input: maxval {maxval}: samples of 16 bits are not taken, 255 is the most",
@@ -92,15 +93,15 @@ class Tapes(Scripts):
 
     def test_scaling_back(self):
         for maxval in range(1, 256):
-            for code in range(maxval + 1):
-                level = pgm.rescaled(code, maxval, 255)
-                self.assertLessEqual(abs(level * maxval - code * 255), maxval / 2)
-                self.assertEqual(pgm.rescaled(256 * level, 256 * 255, maxval), code)
+            for sample in range(maxval + 1):
+                code = pgm.rescaled(sample, maxval, 255)
+                self.assertLessEqual(abs(code * maxval - sample * 255), maxval / 2)
+                self.assertEqual(answer2pgm.sample(256 * code + 128, maxval), sample)
 
     def test_comments(self):
         plain = b"P2 # a\n#b\n2 # c\r\n1#d\n\n255 # e\n7 # f\n9\n# g"
-        self.assertEqual(self.levels(plain), [7, 9])
-        self.assertEqual(self.levels(b"P5\n# made by hand\n2 1\n# once more\n255\n##"), [35, 35])
+        self.assertEqual(self.codes(plain), [7, 9])
+        self.assertEqual(self.codes(b"P5\n# made by hand\n2 1\n# once more\n255\n##"), [35, 35])
 
     def test_faulty_pictures(self):
         for data, message in [
@@ -147,20 +148,22 @@ class Pictures(Scripts):
 
     def test_maxval(self):
         self.assertEqual(self.picture(), b"P2\n2 1\n255\n1 1\n")
-        self.assertEqual(self.picture("--maxval", "65280"), b"P2\n2 1\n65280\n254 258\n")
-        answer = b"outcome moved price floor slack\nspent 0 1 -1 2\n0 127 128\n65151 65152 65280\n"
+        self.assertEqual(self.picture("--maxval", "65535"), b"P2\n2 1\n65535\n382 386\n")
+        answer = b"outcome moved price floor slack\nspent 0 1 -1 2\n0 255 256\n65279 65280 65535\n"
         self.assertEqual(self.picture(answer=answer), b"P2\n3 2\n255\n0 0 1\n254 255 255\n")
         self.assertEqual(self.picture("--maxval", "1", answer=answer), b"P2\n3 2\n1\n0 0 0\n1 1 1\n")
         for maxval in "0", "65536", "-1", "x":
             self.fails(f"argument --maxval: {maxval} is not a whole number from 1 to 65535",
                        "answer2pgm.py", "--maxval", maxval, data=ANSWER)
 
-    def test_levels_as_before(self):
-        for value in range(256 * 255 + 1):
-            self.assertEqual(pgm.rescaled(value, 256 * 255, 255), (value + 128) // 256)
+    def test_a_code_covers_its_level(self):
+        for code in range(256):
+            for value in range(256 * code, 256 * code + 256):
+                self.assertEqual(answer2pgm.sample(value, 255), code)
+                self.assertEqual(answer2pgm.sample(value, 65535), value)
 
     def test_faulty_answers(self):
-        heading = ANSWER[:ANSWER.index(b"254")]
+        heading = ANSWER[:ANSWER.index(b"382")]
         for data, message in [
             (b"", "empty, not an answer of the cleaning program"),
             (b"refused 8 at 0\n", REFUSED),
@@ -171,8 +174,8 @@ class Pictures(Scripts):
             (ANSWER[:-1], "the answer is cut off"),
             (heading + b"1 2\n3\n", "the rows of image values differ in length"),
             (heading + b"\n", "the rows of image values differ in length"),
-            (heading + b"65281\n", "an image value is not a number from 0 to 65280"),
-            (heading + b"x\n", "an image value is not a number from 0 to 65280"),
+            (heading + b"65536\n", "an image value is not a number from 0 to 65535"),
+            (heading + b"x\n", "an image value is not a number from 0 to 65535"),
         ]:
             with self.subTest(data[-20:]):
                 self.fails("standard input: " + message, "answer2pgm.py", data=data)

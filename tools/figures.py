@@ -19,11 +19,16 @@ import make_facade  # noqa: E402: the surface without noise is known there
 
 PROGRAM = os.environ.get("RELIEF_BIN", TOP / "target/bin/relief")
 WIDTH, HEIGHT = make_facade.WIDTH, make_facade.HEIGHT
-SURFACE = [make_facade.facade(x, y) for y in range(HEIGHT) for x in range(WIDTH)]
+CODES = [make_facade.facade(x, y) for y in range(HEIGHT) for x in range(WIDTH)]
+
+
+def centred(codes):
+    """Codes as depths in levels: each is read at the centre of its level."""
+    return [code + 0.5 for code in codes]
 
 
 def clean(samples, weight, low=0, high=255):
-    """The slack and the image, in levels, that the program gives for samples."""
+    """The slack and the image, as depths in levels, that the program gives for samples."""
     picture = f"P2\n{WIDTH} {HEIGHT}\n255\n{' '.join(map(str, samples))}\n".encode()
     terms = ["--weight", str(weight), "--low", str(low), "--high", str(high)]
     tape = subprocess.run([sys.executable, TOP / "examples/pgm2tape.py", *terms],
@@ -37,18 +42,18 @@ def rms(one, other):
     return math.sqrt(sum((a - b) ** 2 for a, b in zip(one, other)) / len(one))
 
 
-def solve(samples, weight, low, high, rounds=500):
-    """The best raster in levels, by FGP in floating point, and a bound on its own distance (root mean square)."""
+def solve(readings, weight, low, high, rounds=500):
+    """The best raster of depths in levels, by FGP in floating point, and a bound on its own distance (root mean square)."""
     pairs = [(i, i + WIDTH) for i in range(WIDTH * (HEIGHT - 1))]
     pairs += [(i, i + 1) for i in range(WIDTH * HEIGHT) if (i + 1) % WIDTH]
     most = weight / 256
 
     def image(flow):
-        values = list(samples)
+        values = list(readings)
         for (i, j), number in zip(pairs, flow):
             values[i] -= number
             values[j] += number
-        return [min(max(value, low), high) for value in values]
+        return [min(max(value, low), high + 255 / 256) for value in values]
 
     flow, ahead, momentum = [0.0] * len(pairs), [0.0] * len(pairs), 1.0
     for _ in range(rounds):
@@ -71,20 +76,20 @@ def main():
     print(f"  mean over 100 pixels {math.sqrt(slack / 100) / 256:.2f}")
     print(f"  one pixel {math.sqrt(slack) / 256:.1f}")
     print(f"  root mean square of any settled run of this weight {math.sqrt(32 * weight) / 256:.2f}")
-    best, own = solve(scan, weight, low, high)
+    best, own = solve(centred(scan), weight, low, high)
     print(f"distance to a solution in floating point (itself within {own:.4f} of the best):")
     print(f"  root mean square {rms(cleaned, best):.3f}, one pixel {max(abs(a - b) for a, b in zip(cleaned, best)):.2f}")
-    joints = [i for i, height in enumerate(SURFACE) if height == make_facade.JOINT]
-    print("mean over the joints:", *(f"{name} {sum(raster[i] for i in joints) / len(joints):.1f}"
-                                     for name, raster in (("scan", scan), ("cleaned", cleaned))))
+    joints = [i for i, code in enumerate(CODES) if code == make_facade.JOINT]
+    print("mean depth of the joints:", *(f"{name} {sum(raster[i] for i in joints) / len(joints):.1f}"
+                                         for name, raster in (("scan", centred(scan)), ("cleaned", cleaned))))
     print("noise, and distance (root mean square) of scan and cleaned rasters to the surface without noise:")
-    shares = (0.25, 0.5, 0.75, 1)
+    surface, shares = centred(CODES), (0.25, 0.5, 0.75, 1)
     print("  noise  scan ", *(f"{share:5}" for share in shares), "(weight / 256 as a share of the noise)")
     for noise in (2, 5, 10, 20):
         source = random.Random(1)
-        noisy = [min(max(round(height + source.gauss(0, noise)), 0), 255) for height in SURFACE]
-        after = [rms(clean(noisy, round(256 * noise * share))[1], SURFACE) for share in shares]
-        print(f"  {noise:5}  {rms(noisy, SURFACE):5.2f}", *(f"{distance:5.2f}" for distance in after))
+        noisy = [min(max(round(code + source.gauss(0, noise)), 0), 255) for code in CODES]
+        after = [rms(clean(noisy, round(256 * noise * share))[1], surface) for share in shares]
+        print(f"  {noise:5}  {rms(centred(noisy), surface):5.2f}", *(f"{distance:5.2f}" for distance in after))
 
 
 if __name__ == "__main__":

@@ -2,7 +2,6 @@
 use mathlib.Core.Path.{_≡_, sym, ap, _∙_, subst}
 use mathlib.Core.List.{List}
 use Prim.Native.Nat.{ℕ, _^_, _≤_, _<_}
-use native.Mathlib.Nat.{le-trans}
 use native.Mathlib.Omega.{arith}
 use lib.IntN.{ℤ, pos, natAbs}
 use lib.ListN.{length, getD}
@@ -16,6 +15,7 @@ use Rattle.model.specs.Grid.{grid}
 use Rattle.model.specs.Calls.{pixelsOf, pairsOf, imageOf}
 use Rattle.model.specs.Accepted.{TermsAllowed}
 use Rattle.model.proofs.Lists.{length-table}
+use Rattle.model.proofs.Range.{widest, widest-fits}
 use Rattle.model.proofs.Bounds as Bounds
 use Rattle.model.proofs.Bounds.{value-least, value-most, image-inside}
 use Rattle.runs.specs.Limits.{Within, MisfitLimits}
@@ -38,8 +38,10 @@ module _ (t : Terms) (samples : List ℕ) where
       image-most = within-below values (λ i l. each (at values i)
           (value-least t samples ok (at values) inside i (rw n at l)) (value-most t samples ok (at values) inside i (rw n at l)))
         where
-          each : (x : ℤ) → pos 0 ≤ℤ x → x ≤ℤ pos 65280 → natAbs x ≤ 2 ^ 20
-          each x h k = le-trans (bounds→natAbs x (by-≤ (search parts depth 12) (omega (whole, of-≤ h (search parts depth 12)))) k) (omega arith)
+          each : (x : ℤ) → pos 0 ≤ℤ x → x ≤ℤ pos widest → natAbs x ≤ 2 ^ 20
+          each x h k =
+              let size : natAbs x ≤ widest = bounds→natAbs x (by-≤ (search parts depth 12) (omega (whole, of-≤ h (search parts depth 12)))) k in
+              omega (arith, widest-fits)
 
       pub raster-limits : RasterLimits (t .width) (t .height) values
       raster-limits =

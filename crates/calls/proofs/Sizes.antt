@@ -1,7 +1,8 @@
 -- The slack that check and run give, by the pixels of the job. Assumes nothing.
 use mathlib.Core.Path.{_≡_, refl, sym, subst}
 use mathlib.Core.List.{List}
-use Prim.Native.Nat.{ℕ, _*_, _≤_, _<_, zero-le}
+use Prim.Native.Nat.{ℕ, _*_, _^_, _≤_, _<_, zero-le}
+use native.Mathlib.Nat.{mul-le-mul}
 use native.Mathlib.Omega.{arith}
 use lib.IntN.{ℤ, natAbs}
 use lib.ListN.{getD}
@@ -12,10 +13,15 @@ use Rattle.model.specs.Calls.{Answer, pixelsOf, figuresOf, ending, checkVerdict
 use Rattle.model.specs.Lists.{at}
 use Rattle.model.proofs.Accepted.{check-accepted, check-feasible, run-accepted}
 use Rattle.model.proofs.Answers.{check-answer, run-answer}
+use Rattle.model.proofs.Range.{widest-fits}
 use Rattle.model.proofs.Bounds.{slack-by-pixels}
 use Rattle.certificate.proofs.Grid.{ending-flow}
 use Rattle.calls.specs.Slack.{mostSlack}
 use Rattle.calls.proofs.Jobs.{with-bytes}
+
+-- so the slacks of 65,535 jobs of 4,096 pixels add up to less than 2 ^ 64
+pub most-slack-fits : mostSlack ≤ 10 * 2 ^ 32
+most-slack-fits = omega (arith, mul-le-mul widest-fits widest-fits)
 
 module _ (t : Terms) (samples : List ℕ) (high : t .high < 256) (bytes : (i : ℕ) → getD samples i 0 < 256) where
   abbrev Small : Answer → Type 0

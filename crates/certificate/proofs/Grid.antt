@@ -8,16 +8,16 @@ use lib.IntN.{ℤ, pos, natAbs, _+ℤ_, _*ℤ_}
 use lib.ListN.{length, getD-replicate}
 use lib.Signed.{_≤ℤ_, _<ℤ_}
 use Rattle.integers.specs.Sum.{total}
-use Rattle.integers.proofs.Order.{≤→pos}
 use Rattle.model.specs.Lists.{at}
 use Rattle.model.specs.Problem.{Problem, pairCount, Feasible, slack}
 use Rattle.model.specs.declared.Terms.{Terms}
 use Rattle.model.specs.declared.Rounds.{Rounds}
-use Rattle.model.specs.Grid.{lowEnd, highEnd, grid}
+use Rattle.model.specs.Grid.{grid}
 use Rattle.model.specs.Rounds.{eighth, nearestEighth, quickStart, quickRound, quickRounds}
 use Rattle.model.specs.Calls.{Outcome, checked, settled, spent, Answer, pairsOf, imageOf, figuresOf, checkAnswer, checkImage, quickFlow, ending, runAnswer, runFlow, runImage}
 use Rattle.model.specs.Accepted.{CheckAllowed, RunAllowed}
 use Rattle.model.proofs.Sizes.{iterate-size}
+use Rattle.model.proofs.Range.{ends-ordered}
 use Rattle.model.proofs.Pairs.{neighbours, first-inside, second-inside}
 use Rattle.model.proofs.Degree.{degree, degree-at-most-4}
 use Rattle.model.proofs.Answers.{check-answer, check-image, runFigures, run-answer, run-flow, run-image, held-image}
@@ -31,10 +31,9 @@ use Rattle.certificate.proofs.Steady.{step-feasible, steady-ends, moved
 
 -- the grid is a sound pair system
 pub grid-sound : (t : Terms) (samples : List ℕ) → t .low ≤ t .high → Sound (grid t samples)
-unfolding lowEnd highEnd
 grid-sound t samples box =
     record {
-      box = ≤→pos (omega arith);
+      box = ends-ordered box;
       first-in = λ j l. first-inside (t .width) (t .height) _ (neighbours (t .width) (t .height) j _ l);
       second-in = λ j l. second-inside (t .width) (t .height) _ (neighbours (t .width) (t .height) j _ l);
     }

@@ -15,7 +15,7 @@ use lib.Signed.{leZ, ltZ, shrZ}
 use Rattle.integers.specs.Whole.{quotient, sign, sameZ}
 use Rattle.model.specs.Lists.{at}
 use Rattle.model.specs.Problem.{Problem, price, image, floor, slack, distance, divided, times}
-use Rattle.model.specs.Grid.{gridPairs, grid}
+use Rattle.model.specs.Grid.{lowEnd, highEnd, gridPairs, grid}
 use Rattle.model.specs.Rounds.{eighth, nearestEighth, quickRounds, Steady, steadyRounds}
 use Rattle.model.specs.Values.{one, pair}
 
@@ -100,9 +100,9 @@ abbrev pub scanTwoByTwo : ℕ → ℕ → ℕ → List ℕ → Problem
 scanTwoByTwo weight low high samples =
     grid (record { width = 2; height = 2; weight = weight; low = low; high = high }) samples
 
--- 3 by 1, samples 0, 0 and 2, weight 1
-abbrev pub scanThreeByOne : Problem
-scanThreeByOne = grid (record { width = 3; height = 1; weight = 1; low = 0; high = 255 }) (0 ∷ 0 ∷ 2 ∷ [])
+-- one row, weight 1, with samples
+abbrev pub scanRow : ℕ → List ℕ → Problem
+scanRow width samples = grid (record { width = width; height = 1; weight = 1; low = 0; high = 255 }) samples
 
 -- 3 by 3, samples 0 2 0, 2 1 2 and 0 1 0, weight 1
 abbrev pub scanThreeByThree : Problem
@@ -116,8 +116,8 @@ readingsFourByOne =
     record {
       pixels = 4;
       reading = λ i. pos (getD (0 ∷ 5 ∷ 9 ∷ 13 ∷ []) i 0);
-      low = pos 0;
-      high = pos 65280;
+      low = lowEnd 0;
+      high = highEnd 255;
       pairs = gridPairs 4 1;
       weight = λ _. 1;
     }
@@ -134,23 +134,23 @@ other a b = at (pair a b)
 unfoldable pub distanceRows : List Alteration
 distanceRows =
     let p : Problem = scanTwoByOne 256 0 255 in
-    let narrow : Problem = scanTwoByOne 7 1 1 in
+    let narrow : Problem = scanTwoByOne 7 3 3 in
     let light : Problem = scanTwoByOne 70 0 255 in
     let f : ℕ → ℤ = flow (pos 0) in
     let g : ℕ → ℤ = flow (negℤ (pos 252)) in
     -- half the slack
-    beside (certified p f (other 256 256)) (close (quotient (slack p f) (pos 2)) p (image p f) (other 256 256))
-    -- the image before the clamp: 0 512, as in the wider box, for 256 256
-    ∷ beside (certified narrow f (other 256 256)) (close (slack narrow f) narrow (image p f) (other 256 256))
+    beside (certified p f (other 384 384)) (close (quotient (slack p f) (pos 2)) p (image p f) (other 384 384))
+    -- the image before the clamp: 128 640, as in the wider box, for 768 768
+    ∷ beside (certified narrow f (other 768 768)) (close (slack narrow f) narrow (image p f) (other 768 768))
     -- an image outside the box
-    ∷ beside (certified narrow f (other 256 256)) (certified narrow f (other 0 512))
+    ∷ beside (certified narrow f (other 768 768)) (certified narrow f (other 128 640))
     -- R certified: P is −70 with slack 0, R is −71 with slack −740
-    ∷ beside (certified light (start light 2) (other 70 442)) (certified light (ahead light 2) (other 70 442))
+    ∷ beside (certified light (start light 2) (other 198 570)) (certified light (ahead light 2) (other 198 570))
     -- the weight left out of price and slack: 64 at weight 256, −4016 at weight 1
-    ∷ beside (certified p g (other 252 260)) (certified (scanTwoByOne 1 0 255) g (other 252 260))
+    ∷ beside (certified p g (other 380 388)) (certified (scanTwoByOne 1 0 255) g (other 380 388))
     -- equal prices said to mean equal images at any slack: at slack 262144, where the statement claims nothing, the image
-    -- 0 512 has the price of 0 0
-    ∷ beside (alikeAtZero p f (other 0 0)) (alike p f (other 0 0))
+    -- 128 640 has the price of 128 128
+    ∷ beside (alikeAtZero p f (other 128 128)) (alike p f (other 128 128))
     ∷ []
 
 -- On division 3, the flow −252 with price 131104, floor 131040 and slack 64
@@ -165,23 +165,23 @@ divisionRows =
     (timesAsLarge 3 (price q (image q g)) (price p (image p f)))
     ∷ beside (timesAsLarge 9 (floor q g) (floor p f)) (timesAsLarge 3 (floor q g) (floor p f))
     ∷ beside (timesAsLarge 9 (slack q g) (slack p f)) (timesAsLarge 3 (slack q g) (slack p f))
-    -- the slack of the grid itself, against the image 768 768
-    ∷ beside (certified q g (other 768 768)) (close (slack p f) q (image q g) (other 768 768))
+    -- the slack of the grid itself, against the image 1152 1152
+    ∷ beside (certified q g (other 1152 1152)) (close (slack p f) q (image q g) (other 1152 1152))
     ∷ []
 
 -- A settled slack is at most 16 × weight × pairs
 unfoldable pub settledRows : List Alteration
 settledRows =
     let p : Problem = scanTwoByOne 256 0 255 in
-    let q : Problem = scanTwoByOne 260 0 1 in
-    let two : Problem = scanTwoByTwo 260 0 1 (0 ∷ 2 ∷ 0 ∷ 2 ∷ []) in
-    let narrow : Problem = scanTwoByOne 256 1 1 in
-    -- 15 for 16: twelve quick rounds leave the flow −260 and the image 256 252, whose fall of 4 does not move it back
-    beside (settledWithin (16 * (260 * 1)) q (run q 12 0)) (settledWithin (15 * (260 * 1)) q (run q 12 0))
+    let q : Problem = scanTwoByOne 258 0 255 in
+    let two : Problem = scanTwoByTwo 258 0 255 (0 ∷ 2 ∷ 0 ∷ 2 ∷ []) in
+    let narrow : Problem = scanTwoByOne 256 3 3 in
+    -- 15 for 16: seven quick rounds leave the flow −258 and the image 386 382, whose fall of 4 does not move it back
+    beside (settledWithin (16 * (258 * 1)) q (run q 7 0)) (settledWithin (15 * (258 * 1)) q (run q 7 0))
     -- the weight left out
-    ∷ beside (settledWithin (16 * (260 * 1)) q (run q 12 0)) (settledWithin (16 * 1) q (run q 12 0))
+    ∷ beside (settledWithin (16 * (258 * 1)) q (run q 7 0)) (settledWithin (16 * 1) q (run q 7 0))
     -- the pairs left out: two of the four have the fall of 4
-    ∷ beside (settledWithin (16 * (260 * 4)) two (run two 12 0)) (settledWithin (16 * 260) two (run two 12 0))
+    ∷ beside (settledWithin (16 * (258 * 4)) two (run two 7 0)) (settledWithin (16 * 258) two (run two 7 0))
     -- the slack before the clamp: settled at flow 0 with slack 0, but 262144 in the wider box
     ∷ beside (settledWithin (16 * (256 * 1)) narrow (run narrow 0 0)) (settledWithin (16 * (256 * 1)) p (run narrow 0 0))
     ∷ []
@@ -204,15 +204,15 @@ movedRows =
 -- A run settles whenever 2 × (allowance + 1) exceeds that slack
 unfoldable pub settlesRows : List Alteration
 settlesRows =
-    let p : Problem = scanThreeByOne in
-    let box : Problem = scanTwoByTwo 1 1 255 (0 ∷ 2 ∷ 1 ∷ 1 ∷ []) in
+    let p : Problem = scanRow 3 (0 ∷ 0 ∷ 2 ∷ []) in
+    let four : Problem = scanRow 4 (0 ∷ 0 ∷ 0 ∷ 2 ∷ []) in
     let q : Problem = scanThreeByThree in
     let r : Problem = readingsFourByOne in
     -- d / 8 rounded away from zero in steady rounds: one quick round leaves the flow 0 −1, with slack 2 and a fall of −1,
     -- which then moves, to a fall of 1, and back
     beside (settlesWhen 2 nearestEighth p 1 1) (settlesWhen 2 eighthAway p 1 1)
-    -- d / 8 rounded down: one quick round leaves slack 2, and two rounds move
-    ∷ beside (settlesWhen 2 nearestEighth box 1 1) (settlesWhen 2 eighthDown box 1 1)
+    -- d / 8 rounded down: one quick round leaves the flow 0 0 −1, with slack 2, and two rounds move
+    ∷ beside (settlesWhen 2 nearestEighth four 1 1) (settlesWhen 2 eighthDown four 1 1)
     -- 11 and 9 for 2: the runs above, with one round fewer; at these slacks, 10 and 26, the statement claims nothing
     ∷ beside (settlesWhen 2 nearestEighth q 1 0) (settlesWhen 11 nearestEighth q 1 0)
     ∷ beside (settlesWhen 2 nearestEighth r 0 2) (settlesWhen 9 nearestEighth r 0 2)
@@ -225,15 +225,15 @@ rows = distanceRows ++ divisionRows ++ settledRows ++ movedRows ++ settlesRows
 unfoldable pub metExactly : List Bool
 metExactly =
     let p : Problem = scanTwoByOne 256 0 255 in
-    let q : Problem = scanTwoByOne 260 0 1 in
+    let q : Problem = scanTwoByOne 258 0 255 in
     let f : ℕ → ℤ = flow (pos 0) in
     let g : ℕ → ℤ = flow (negℤ (pos 256)) in
     -- price + squared distance = other price + slack, 393216
-    sameZ (price p (image p f) +ℤ distance p (image p f) (other 256 256)) (price p (other 256 256) +ℤ slack p f)
+    sameZ (price p (image p f) +ℤ distance p (image p f) (other 384 384)) (price p (other 384 384) +ℤ slack p f)
     -- slack 0, equal prices and equal images
     ∷ sameZ (slack p g) (pos 0)
-    ∷ sameZ (price p (image p g)) (price p (other 256 256))
-    ∷ sameZ (distance p (image p g) (other 256 256)) (pos 0)
-    -- the slack of a settled run = 16 × weight × pairs, 4160
-    ∷ sameZ (slack q (at (run q 12 0 .flow))) (pos (16 * (260 * 1)))
+    ∷ sameZ (price p (image p g)) (price p (other 384 384))
+    ∷ sameZ (distance p (image p g) (other 384 384)) (pos 0)
+    -- the slack of a settled run = 16 × weight × pairs, 4128
+    ∷ sameZ (slack q (at (run q 7 0 .flow))) (pos (16 * (258 * 1)))
     ∷ []

@@ -3,12 +3,13 @@
 use mathlib.Core.Path.{_≡_}
 use mathlib.Core.Logic.{inl, inr}
 use Prim.Native.Nat.{ℕ, zero, suc, _≤_}
+use native.Mathlib.Nat.{le-refl}
 use lib.IntN.{ℤ, pos, natAbs, negℤ, _+ℤ_, _-ℤ_, _*ℤ_, zero-*ℤ}
 use lib.Signed.{_≤ℤ_, _<ℤ_}
 use Rattle.integers.specs.Whole.{clamp}
 use Rattle.integers.proofs.Parts.{parts, whole, by-≤, of-≤}
-use Rattle.integers.proofs.Order.{≤ℤ-total, <ℤ→≤ℤ, true-ltZ, false-ltZ, *ℤ-gaps, *ℤ-mono, *ℤ-strict, 0≤pos, 0<pos}
-use Rattle.integers.proofs.Absolute.{bounds→natAbs}
+use Rattle.integers.proofs.Order.{≤ℤ-trans, ≤ℤ-total, <ℤ→≤ℤ, true-ltZ, false-ltZ, *ℤ-gaps, *ℤ-mono, *ℤ-strict, 0≤pos, 0<pos}
+use Rattle.integers.proofs.Absolute.{natAbs-neg, bounds→natAbs, natAbs→lower, natAbs→upper}
 use Rattle.integers.proofs.Between.{between-natAbs}
 
 -- ---- the three cases
@@ -79,12 +80,17 @@ module _ (lo hi z : ℤ) where
   pub clamp-scale : (k : ℕ) → clamp (pos k *ℤ lo) (pos k *ℤ hi) (pos k *ℤ z) ≡ pos k *ℤ clamp lo hi z
   clamp-scale k = place-scale k (clamp-place lo hi z)
 
+  -- between ends that are at most k in size
+  pub clamp-size : {k : ℕ} → natAbs lo ≤ k → natAbs hi ≤ k → natAbs (clamp lo hi z) ≤ k
+  clamp-size {k} l u = by (clamp-place lo hi z)
+    where
+      by : {x : ℤ} → Place lo hi z x → natAbs x ≤ k
+      by (below h e) = rw e l
+      by (above h i e) = rw e u
+      by (inside h i e) = rw e (bounds→natAbs z (≤ℤ-trans (natAbs→lower lo l) h) (≤ℤ-trans i (natAbs→upper hi u)))
+
 pub natAbs-clamp : (w : ℕ) (z : ℤ) → natAbs (clamp (negℤ (pos w)) (pos w) z) ≤ w
-natAbs-clamp w z =
-    bounds→natAbs (clamp (negℤ (pos w)) (pos w) z) (clamp-≥ (negℤ (pos w)) (pos w) z range) (clamp-≤ (negℤ (pos w)) (pos w) z range)
-  where
-    range : negℤ (pos w) ≤ℤ pos w
-    range = by-≤ (search parts depth 12) (omega whole)
+natAbs-clamp w z = clamp-size (negℤ (pos w)) (pos w) z (rw natAbs-neg (le-refl w)) (le-refl w)
 
 -- ---- a step d from f within the interval, clamped: the change lies between 0 and d
 

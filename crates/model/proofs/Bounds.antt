@@ -1,26 +1,27 @@
 -- Sizes within limits never overflow 64 bits: on an allowed job every price of an image of the box, and every floor of a
--- flow within the weight, is at most `perPixel` for each pixel in size, so at most `largest`, and twice that is below 2⁶³.
--- Assumes nothing.
+-- flow within the weight, is at most `perPixel` for each pixel in size, so at most `largest`, and three times that is
+-- below 2⁶³. Assumes nothing.
 use mathlib.Core.Path.{_≡_, refl, sym, subst}
 use mathlib.Core.Bool.{Bool, true, false, _&&_, true≢false}
 use mathlib.Core.List.{List}
 use Prim.Native.Nat.{ℕ, _*_, _^_, _≤_, _<_}
-use native.Mathlib.Nat.{mul-le-mul, le-trans}
+use native.Mathlib.Nat.{mul-le-mul, mul-le-mul-right, le-trans}
 use native.Mathlib.Omega.{arith}
 use borrow.Author.Tests.{leb-true}
-use lib.Dec.{leb, lit<}
+use lib.Dec.{leb}
 use lib.IntN.{ℤ, pos, natAbs, _+ℤ_, _-ℤ_, _*ℤ_}
 use lib.ListN.{length, getD}
 use lib.Signed.{_≤ℤ_}
 use Rattle.integers.specs.Whole.{abs, square}
 use Rattle.integers.specs.Sum.{total}
-use Rattle.integers.proofs.Order.{≤ℤ-trans, ≤→pos, 0≤pos}
-use Rattle.integers.proofs.Absolute.{natAbs-product, natAbs-sum, natAbs-difference, natAbs-square, natAbs-within}
+use Rattle.integers.proofs.Order.{≤ℤ-trans}
+use Rattle.integers.proofs.Absolute.{natAbs-product, natAbs-sum, natAbs-difference, natAbs-square, natAbs-within, natAbs→upper}
 use Rattle.integers.proofs.Clamp.{clamp-≥, clamp-≤}
 use Rattle.integers.proofs.Total.{natAbs-total}
 use Rattle.model.specs.Problem.{pairCount, firstOf, secondOf, fall, misfit, price, Feasible, pull, image, floor, slack, InBox}
 use Rattle.model.specs.Grid.{Terms, sizeAllowed, readingOf, lowEnd, highEnd, gridPairs, grid}
 use Rattle.model.specs.Accepted.{TermsAllowed}
+use Rattle.model.proofs.Range.{widest, widest-fits, weight-reach, reading-least, reading-size, low-least, high-size, ends-ordered}
 use Rattle.model.proofs.Pairs.{pair-count, neighbours, first-inside, second-inside}
 
 -- ---- what the tests of the terms say
@@ -54,28 +55,24 @@ size-limits w h e =
 
 -- ---- the bound
 
--- 256 × 255 sub-units: the largest image value, reading and weight
-abbrev pub most : ℕ
-most = 65280
-
 -- for each pixel: the data term, and four times that for two pairs, each of them doubled
 abbrev pub perPixel : ℕ
-perPixel = 5 * (most * most)
+perPixel = 5 * (widest * widest)
 
 -- .. so for 2²⁰ pixels
 abbrev pub largest : ℕ
 largest = 1048576 * perPixel
 
-pub largest-fits : 2 * largest < 2 ^ 63
-largest-fits = lit< tt
+pub largest-fits : 3 * largest < 2 ^ 63
+largest-fits = omega (arith, mul-le-mul widest-fits widest-fits)
 
 pub pairs-most : (w h : ℕ) → length (gridPairs w h) ≤ 2 * (w * h)
 pairs-most w h = omega (arith, pair-count w h)
 
 -- the data term plus twice a sum over pairs, as price and floor are made
-two-sums : (n m : ℕ) (s c : ℤ) → natAbs s ≤ n * (most * most) → natAbs c ≤ m * (most * most) → m ≤ 2 * n →
+two-sums : (n m : ℕ) (s c : ℤ) → natAbs s ≤ n * (widest * widest) → natAbs c ≤ m * (widest * widest) → m ≤ 2 * n →
     natAbs (s +ℤ pos 2 *ℤ c) ≤ n * perPixel
-two-sums n m s c u v k = omega (arith, natAbs-sum s (pos 2 *ℤ c), natAbs-product (pos 2) c)
+two-sums n m s c u v k = omega (arith, natAbs-sum s (pos 2 *ℤ c), natAbs-product (pos 2) c, mul-le-mul-right (widest * widest) k)
 
 -- An allowed job: allowed terms, and the box and the samples are bytes
 pub record Allowed (t : Terms) (samples : List ℕ) : Type 0 where
@@ -84,32 +81,34 @@ pub record Allowed (t : Terms) (samples : List ℕ) : Type 0 where
   pub bytes : (i : ℕ) → getD samples i 0 ≤ 255
 
 module _ (t : Terms) (samples : List ℕ) (ok : Allowed t samples) where
-  -- image values and readings are 0 to 65,280
+  -- image values and readings are in the range
   pub value-least : (x : ℕ → ℤ) → InBox (grid t samples) x → (i : ℕ) → i < t .width * t .height → pos 0 ≤ℤ x i
-  unfolding lowEnd
-  value-least x inside i l = ≤ℤ-trans (0≤pos (256 * t .low)) (inside i l .0)
+  value-least x inside i l = ≤ℤ-trans (low-least (t .low)) (inside i l .0)
 
-  pub value-most : (x : ℕ → ℤ) → InBox (grid t samples) x → (i : ℕ) → i < t .width * t .height → x i ≤ℤ pos most
-  unfolding highEnd
-  value-most x inside i l = ≤ℤ-trans (inside i l .1) (≤→pos (omega (arith, ok .high-byte)))
+  pub value-most : (x : ℕ → ℤ) → InBox (grid t samples) x → (i : ℕ) → i < t .width * t .height → x i ≤ℤ pos widest
+  value-most x inside i l = ≤ℤ-trans (inside i l .1) (natAbs→upper (highEnd (t .high)) (high-size (t .high) (omega (arith, ok .high-byte))))
 
-  reading-bounds : (i : ℕ) → (pos 0 ≤ℤ readingOf (getD samples i 0)) × (readingOf (getD samples i 0) ≤ℤ pos most)
-  unfolding readingOf
-  reading-bounds i = (0≤pos (256 * getD samples i 0), ≤→pos (omega (arith, ok .bytes i)))
+  reading-bounds : (i : ℕ) → (pos 0 ≤ℤ readingOf (getD samples i 0)) × (readingOf (getD samples i 0) ≤ℤ pos widest)
+  reading-bounds i =
+      let s : ℕ = getD samples i 0 in
+      (reading-least s, natAbs→upper (readingOf s) (reading-size s (omega (arith, ok .bytes i))))
+
+  weight-size : t .weight ≤ widest
+  weight-size = le-trans (ok .terms .weight-most) weight-reach
 
   module _ (x : ℕ → ℤ) (inside : InBox (grid t samples) x) where
-    misfit-bound : natAbs (misfit (grid t samples) x) ≤ t .width * t .height * (most * most)
+    misfit-bound : natAbs (misfit (grid t samples) x) ≤ t .width * t .height * (widest * widest)
     unfolding misfit
     misfit-bound = natAbs-total (t .width * t .height) _ (λ i l. each i l)
       where
-        each : (i : ℕ) → i < t .width * t .height → natAbs (square (x i -ℤ readingOf (getD samples i 0))) ≤ most * most
+        each : (i : ℕ) → i < t .width * t .height → natAbs (square (x i -ℤ readingOf (getD samples i 0))) ≤ widest * widest
         each i l =
-            let d : natAbs (x i -ℤ readingOf (getD samples i 0)) ≤ most =
+            let d : natAbs (x i -ℤ readingOf (getD samples i 0)) ≤ widest =
             natAbs-within (value-least x inside i l) (value-most x inside i l) (reading-bounds i .0) (reading-bounds i .1)
             in
-            subst (λ (n : ℕ). n ≤ most * most) (sym (natAbs-square (x i -ℤ readingOf (getD samples i 0)))) (mul-le-mul d d)
+            subst (λ (n : ℕ). n ≤ widest * widest) (sym (natAbs-square (x i -ℤ readingOf (getD samples i 0)))) (mul-le-mul d d)
 
-    pub fall-bound : (j : ℕ) → j < pairCount (grid t samples) → natAbs (fall (grid t samples) x j) ≤ most
+    pub fall-bound : (j : ℕ) → j < pairCount (grid t samples) → natAbs (fall (grid t samples) x j) ≤ widest
     unfolding fall
     fall-bound j l =
         let n = neighbours (t .width) (t .height) j (record { first = 0; second = 0 }) l in
@@ -118,7 +117,7 @@ module _ (t : Terms) (samples : List ℕ) (ok : Allowed t samples) where
         natAbs-within (value-least x inside _ a) (value-most x inside _ a) (value-least x inside _ b) (value-most x inside _ b)
 
     -- the data term plus twice a sum over pairs of terms that a weight times a fall bounds
-    objective-bound : (c : ℕ → ℤ) → ((j : ℕ) → j < pairCount (grid t samples) → natAbs (c j) ≤ most * most) →
+    objective-bound : (c : ℕ → ℤ) → ((j : ℕ) → j < pairCount (grid t samples) → natAbs (c j) ≤ widest * widest) →
         natAbs (misfit (grid t samples) x +ℤ pos 2 *ℤ total (pairCount (grid t samples)) c) ≤ t .width * t .height * perPixel
     objective-bound c every =
         two-sums (t .width * t .height) (pairCount (grid t samples)) (misfit (grid t samples) x)
@@ -128,29 +127,29 @@ module _ (t : Terms) (samples : List ℕ) (ok : Allowed t samples) where
     price-by-pixels : natAbs (price (grid t samples) x) ≤ t .width * t .height * perPixel
     unfolding price
     price-by-pixels = objective-bound _ (λ j l.
-        subst (λ (n : ℕ). n ≤ most * most) (sym (natAbs-product (pos (t .weight)) (abs (fall (grid t samples) x j))))
-        (mul-le-mul (ok .terms .weight-most) (fall-bound j l)))
+        subst (λ (n : ℕ). n ≤ widest * widest) (sym (natAbs-product (pos (t .weight)) (abs (fall (grid t samples) x j))))
+        (mul-le-mul weight-size (fall-bound j l)))
 
     pub price-bound : natAbs (price (grid t samples) x) ≤ largest
-    price-bound = omega (arith, price-by-pixels, ok .terms .pixels-most)
+    price-bound = le-trans price-by-pixels (mul-le-mul-right perPixel (ok .terms .pixels-most))
 
   pub image-inside : (f : ℕ → ℤ) → InBox (grid t samples) (image (grid t samples) f)
-  unfolding image lowEnd highEnd
+  unfolding image
   image-inside f i l =
       let z : ℤ = readingOf (getD samples i 0) -ℤ pull (grid t samples) f i in
-      let o : pos (256 * t .low) ≤ℤ pos (256 * t .high) = ≤→pos (omega (arith, ok .terms .box)) in
-      (clamp-≥ (pos (256 * t .low)) (pos (256 * t .high)) z o, clamp-≤ (pos (256 * t .low)) (pos (256 * t .high)) z o)
+      let o : lowEnd (t .low) ≤ℤ highEnd (t .high) = ends-ordered (ok .terms .box) in
+      (clamp-≥ (lowEnd (t .low)) (highEnd (t .high)) z o, clamp-≤ (lowEnd (t .low)) (highEnd (t .high)) z o)
 
   module _ (f : ℕ → ℤ) (within : Feasible (grid t samples) f) where
     floor-by-pixels : natAbs (floor (grid t samples) f) ≤ t .width * t .height * perPixel
     unfolding floor
     floor-by-pixels = objective-bound (image (grid t samples) f) (image-inside f) _ (λ j l.
-        subst (λ (n : ℕ). n ≤ most * most) (sym (natAbs-product (f j) (fall (grid t samples) (image (grid t samples) f) j)))
-        (mul-le-mul (le-trans (within j l) (ok .terms .weight-most))
+        subst (λ (n : ℕ). n ≤ widest * widest) (sym (natAbs-product (f j) (fall (grid t samples) (image (grid t samples) f) j)))
+        (mul-le-mul (le-trans (within j l) weight-size)
         (fall-bound (image (grid t samples) f) (image-inside f) j l)))
 
     pub floor-bound : natAbs (floor (grid t samples) f) ≤ largest
-    floor-bound = omega (arith, floor-by-pixels, ok .terms .pixels-most)
+    floor-bound = le-trans floor-by-pixels (mul-le-mul-right perPixel (ok .terms .pixels-most))
 
     pub slack-by-pixels : natAbs (slack (grid t samples) f) ≤ t .width * t .height * (2 * perPixel)
     unfolding slack

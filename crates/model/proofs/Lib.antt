@@ -6,6 +6,7 @@
 --     Root        the root is the largest whole number whose square is at most n
 --     Pairs       how many pairs there are, and which two pixels each has
 --     Degree      a pixel lies in at most 4 pairs
+--     Range       how large readings and the ends of the box are
 --     Bounds      price, floor and slack of an allowed job fit 64 bits
 --     Answers     what check, price and run give and leave, by their verdict
 --     Accepted    check, price, run and write are accepted exactly when terms, lengths and contents are allowed
@@ -16,6 +17,7 @@ pub mod Lists
 pub mod Root
 pub mod Pairs
 pub mod Degree
+pub mod Range
 pub mod Bounds
 pub mod Answers
 pub mod Accepted

@@ -19,20 +19,22 @@ sizeAllowed w h = leb 1 w && leb w 4096 && (leb 1 h && leb h 4096) && leb (w * h
 unfoldable pub weightAllowed : ℕ → Bool
 weightAllowed weight = leb weight 65280
 
--- The box is low to high, low at most high (each end is a byte, 0 to 255 levels, by its type) (SPECIFICATION 1.6)
+-- The box is low to high, low at most high (each is a level, 0 to 255: a byte by its type) (SPECIFICATION 1.6)
 unfoldable pub boxAllowed : ℕ → ℕ → Bool
 boxAllowed low high = leb low high
 
--- A sub-unit is 1/256 level. Sample s stands for B = 256 × s (SPECIFICATION 1.4)
+-- A sub-unit is 1/256 level. Code s covers a whole level (its quantization interval), from 256 × s to 256 × s + 255, and
+-- is read at its centre, B = 256 × s + 128 (the midpoint) (SPECIFICATION 1.4)
 unfoldable pub readingOf : ℕ → ℤ
-readingOf s = pos (256 * s)
+readingOf s = pos (256 * s + 128)
 
--- Image values run from 256 × low to 256 × high (SPECIFICATION 1.6)
+-- Image values run over the levels of the box: from the first sub-unit of the lowest to the last of the highest
+-- (SPECIFICATION 1.6)
 unfoldable pub lowEnd : ℕ → ℤ
 lowEnd low = pos (256 * low)
 
 unfoldable pub highEnd : ℕ → ℤ
-highEnd high = pos (256 * high)
+highEnd high = pos (256 * high + 255)
 
 -- Pixels run row by row: pixel (row, column) has number row × width + column (SPECIFICATION 1.2)
 abbrev pub pixel : ℕ → ℕ → ℕ → ℕ

@@ -1,8 +1,8 @@
--- The values that document 01 marks to be proved (●), in its order and with the steady rounds of request F-1: what is
--- asked, and what is to be given; after them the text that it prints for the 2 by 1 job, the report's text for three
--- seasons of that job (request F-2), a 2 by 2 job of our own, worked by hand, in which the order of the pairs tells, and
--- falls whose eighth is a half or just beyond. One theorem, `values` of proofs/Values.antt, says that the definitions give
--- it in every case (docs/SPECIFICATION.md, section 9).
+-- The values that document 01 marks to be proved (●), in its order, with the steady rounds of request F-1 and the centres
+-- of request F-3: what is asked, and what is to be given; after them the text that it prints for the 2 by 1 job, the
+-- report's text for three seasons of that job (request F-2), a 2 by 2 job of our own, worked by hand, in which the order of
+-- the pairs tells, and falls whose eighth is a half or just beyond. One theorem, `values` of proofs/Values.antt, says that
+-- the definitions give it in every case (docs/SPECIFICATION.md, section 9).
 use mathlib.Core.List.{List, [], _∷_, _++_}
 use Prim.Native.Nat.{ℕ, _*_}
 use lib.IntN.{ℤ, pos, negℤ}
@@ -109,26 +109,26 @@ one f = f ∷ []
 unfoldable pub cases : List Case
 cases =
     twoByOne (checking (one (pos 0)))
-    (call (figures checked 0 (pos 262144) (pos 0) (pos 262144)) (one (pos 0)) (pair 0 512))
+    (call (figures checked 0 (pos 262144) (pos 0) (pos 262144)) (one (pos 0)) (pair 128 640))
     ∷ twoByOne (checking (one (negℤ (pos 256))))
-    (call (figures checked 0 (pos 131072) (pos 131072) (pos 0)) (one (negℤ (pos 256))) (pair 256 256))
+    (call (figures checked 0 (pos 131072) (pos 131072) (pos 0)) (one (negℤ (pos 256))) (pair 384 384))
     ∷ twoByOne (checking (one (pos 256)))
-    (call (figures checked 0 (pos 458752) (negℤ (pos 327680)) (pos 786432)) (one (pos 256)) (pair 0 768))
+    (call (figures checked 0 (pos 540672) (negℤ (pos 376832)) (pos 917504)) (one (pos 256)) (pair 0 896))
     ∷ twoByOne (checking (one (pos 257))) (call (refusal 8 0) (one (pos 257)) (pair 0 0))
     ∷ twoByOne (running 0 16)
-    (call (figures spent 16 (pos 131090) (pos 131054) (pos 36)) (one (negℤ (pos 253))) (pair 253 259))
+    (call (figures spent 16 (pos 131090) (pos 131054) (pos 36)) (one (negℤ (pos 253))) (pair 381 387))
     ∷ twoByOne (running 0 17)
-    (call (figures settled 17 (pos 131080) (pos 131064) (pos 16)) (one (negℤ (pos 254))) (pair 254 258))
+    (call (figures settled 17 (pos 131080) (pos 131064) (pos 16)) (one (negℤ (pos 254))) (pair 382 386))
     ∷ twoByOne (momentum 1) (number 106039)
     ∷ twoByOne (momentum 2) (number 143754)
     ∷ twoByOne (running 3 0)
-    (call (figures spent 0 (pos 150674) (pos 111470) (pos 39204)) (one (negℤ (pos 157))) (pair 157 355))
+    (call (figures spent 0 (pos 150674) (pos 111470) (pos 39204)) (one (negℤ (pos 157))) (pair 285 483))
     ∷ narrowBox (checking (one (pos 0)))
-    (call (figures checked 0 (pos 11010048) (pos 8388608) (pos 2621440)) (one (pos 0)) (pair 2048 3072))
+    (call (figures checked 0 (pos 10650881) (pos 7376641) (pos 3274240)) (one (pos 0)) (pair 2048 3327))
     ∷ narrowBox (checking (one (negℤ (pos 1280))))
-    (call (figures checked 0 (pos 11010048) (pos 11010048) (pos 0)) (one (negℤ (pos 1280))) (pair 2048 3072))
-    ∷ onePixel (running 0 100) (call (figures settled 0 (pos 0) (pos 0) (pos 0)) [] (pos 1792 ∷ []))
-    ∷ twoByOne (printing 0 100) (text (ascii "outcome moved price floor slack\nsettled 17 131080 131064 16\n254 258\n"))
+    (call (figures checked 0 (pos 10650881) (pos 10650881) (pos 0)) (one (negℤ (pos 1280))) (pair 2048 3327))
+    ∷ onePixel (running 0 100) (call (figures settled 0 (pos 0) (pos 0) (pos 0)) [] (pos 1920 ∷ []))
+    ∷ twoByOne (printing 0 100) (text (ascii "outcome moved price floor slack\nsettled 17 131080 131064 16\n382 386\n"))
     ∷ twoByOne (reporting 0 100 1 [])
     (text (ascii "jobs 1\npixels 2\nsettled 1\nspent 0\nchecked 0\ntotal 16\nlargest 16 1\nmean 8 0\n"))
     ∷ twoByOne (reporting 0 100 0 [])
@@ -136,8 +136,8 @@ cases =
     ∷ twoByOne (reporting 0 16 2 (1 ∷ 2 ∷ []))
     (text (ascii "jobs 2\npixels 4\nsettled 0\nspent 2\nchecked 0\ntotal 72\nlargest 36 1\nmean 18 0\njob 3 refused 13 at 2\n"))
     ∷ twoByTwo (checking (pos 1 ∷ pos 2 ∷ pos 4 ∷ pos 8 ∷ []))
-    (call (figures checked 0 (pos 10496153) (negℤ (pos 143513)) (pos 10639666)) (pos 1 ∷ pos 2 ∷ pos 4 ∷ pos 8 ∷ [])
-    (pos 0 ∷ pos 2562 ∷ pos 5113 ∷ pos 10250 ∷ []))
+    (call (figures checked 0 (pos 10501298) (negℤ (pos 143538)) (pos 10644836)) (pos 1 ∷ pos 2 ∷ pos 4 ∷ pos 8 ∷ [])
+    (pos 123 ∷ pos 2690 ∷ pos 5241 ∷ pos 10378 ∷ []))
     ∷ twoByOne (sharing (pos 4)) (shares (pos 0) (pos 0))
     ∷ twoByOne (sharing (pos 5)) (shares (pos 0) (pos 1))
     ∷ twoByOne (sharing (pos 12)) (shares (pos 1) (pos 1))

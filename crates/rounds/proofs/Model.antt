@@ -1,14 +1,13 @@
 -- A quick round in buffers is the model's, on document 01's grid. Assumes nothing.
-use mathlib.Core.Path.{_≡_, sym, ap, _∙_, subst}
+use mathlib.Core.Path.{_≡_, sym, ap, _∙_}
 use mathlib.Core.List.{List}
 use Prim.Native.Nat.{ℕ, _-_, _*_, _^_, _≤_, _<_}
-use native.Mathlib.Nat.{mul-le-mul, le-of-mul-le-mul-right}
+use native.Mathlib.Nat.{mul-le-mul, le-of-mul-le-mul-right, le-trans}
 use native.Mathlib.Omega.{arith}
+use lib.Dec.{lit≤}
 use lib.IntN.{ℤ, pos, natAbs, _-ℤ_}
-use Rattle.integers.specs.Whole.{clamp}
-use Rattle.integers.proofs.Parts.{parts, whole, by-≤, of-≤}
-use Rattle.integers.proofs.Absolute.{bounds→natAbs, natAbs-difference}
-use Rattle.integers.proofs.Clamp.{Place, below, above, inside, clamp-place, natAbs-clamp}
+use Rattle.integers.proofs.Absolute.{natAbs-difference}
+use Rattle.integers.proofs.Clamp.{clamp-size, natAbs-clamp}
 use Rattle.model.specs.declared.Terms.{Terms}
 use Rattle.model.specs.Lists.{at, table}
 use Rattle.model.specs.Problem.{pairCount, image}
@@ -16,6 +15,7 @@ use Rattle.model.specs.Grid.{lowEnd, highEnd, grid}
 use Rattle.model.specs.Rounds.{stepped, step, nextMomentum, quickRound}
 use Rattle.model.specs.Calls.{imageOf}
 use Rattle.model.proofs.Lists.{getD-table}
+use Rattle.model.proofs.Range.{widest-fits, low-size, high-size}
 use Rattle.model.proofs.Root.{momentum-grows, momentum-least}
 use Rattle.runs.specs.Limits.{Within}
 use Rattle.raster.specs.Whole.{gridStep}
@@ -27,19 +27,6 @@ use Rattle.momentum.specs.Reciprocal.{aheadOf}
 use Rattle.advance.specs.Ahead.{gridAhead}
 use Rattle.rounds.specs.Ready.{held}
 use Rattle.momentum.proofs.Bounds.{extrapolate-is}
-
--- between two ends of 0 .. k
-clamp-most : {a b k : ℕ} (z : ℤ) → a ≤ k → b ≤ k → natAbs (clamp (pos a) (pos b) z) ≤ k
-clamp-most {a} {b} {k} z l u = by (clamp-place (pos a) (pos b) z)
-  where
-    by : {v : ℤ} → Place (pos a) (pos b) z v → natAbs v ≤ k
-    by (below h e) = subst (λ (v : ℤ). natAbs v ≤ k) (sym e) l
-    by (above h i e) = subst (λ (v : ℤ). natAbs v ≤ k) (sym e) u
-    by (inside h i e) =
-        subst (λ (v : ℤ). natAbs v ≤ k) (sym e)
-        (bounds→natAbs z
-        (by-≤ (search parts depth 12) (omega (whole, of-≤ h (search parts depth 12))))
-        (by-≤ (search parts depth 12) (omega (whole, of-≤ i (search parts depth 12)))))
 
 -- the next T of an allowed one
 pub next-range : (momentum : ℕ) → 65536 ≤ momentum → momentum < 2 ^ 29 - 65536 →
@@ -60,9 +47,10 @@ factor-most momentum m h l r =
 module _ (t : Terms) (samples : List ℕ) where
   -- a flow's image is within the limits of a pass, and a step within the weight
   pub image-most : t .low < 256 → t .high < 256 → (flow : List ℤ) → Within (2 ^ 20) (imageOf t samples flow)
-  unfolding imageOf image lowEnd highEnd
+  unfolding imageOf image
   image-most l u flow =
-      within-table (t .width * t .height) (image (grid t samples) (at flow)) (λ i _. clamp-most _ (omega arith) (omega arith))
+      within-table (t .width * t .height) (image (grid t samples) (at flow))
+      (λ i _. le-trans (clamp-size (lowEnd (t .low)) (highEnd (t .high)) _ (low-size (t .low) l) (high-size (t .high) u)) (le-trans widest-fits (lit≤ tt)))
 
   pub step-within : (share : ℤ → ℤ) (flow : List ℤ) → Within (t .weight) (step share (grid t samples) flow)
   unfolding step stepped

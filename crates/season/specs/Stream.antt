@@ -10,7 +10,6 @@ use Rattle.job.specs.Tables.{Holds}
 use Rattle.report.specs.Counted.{Bounded}
 use Rattle.stream.specs.Report.{reportFrom}
 use Rattle.stream.specs.AtHand.{Reports}
-use Rattle.season.specs.declared.window.Window.{Window}
 use Rattle.season.specs.declared.jobs.State.{State}
 use Rattle.season.specs.declared.jobs.Step.{Step}
 use Rattle.season.specs.declared.jobs.Ended.{Ended}

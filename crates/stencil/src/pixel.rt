@@ -10,11 +10,11 @@ ghost use Rattle.integers.specs.Whole.{square, clamp};
 ghost use Rattle.model.specs.Grid.{readingOf, lowEnd, highEnd};
 ghost use Rattle.stencil.specs.Limits.{PixelLimits};
 
-// The value of a sample, in sub-units.
+// The value at which a sample is read, in sub-units: the centre of its level.
 pub fn reading(s: u8) -> i32
     ensures { λ r. ⌜ r ≡ readingOf s ⌝ }
 {
-    signed::natural(256 * (s as u32))
+    signed::natural(256 * (s as u32) + 128)
 }
 
 // The squared difference of a value and its sample's reading.
@@ -51,16 +51,16 @@ pub fn pixel_value(
     signed::clamped(signed::sub(b, pull), low, high)
 }
 
-// The lower end of the box, in sub-units.
+// The lower end of the box, in sub-units: the first of its lowest level.
 pub fn low_end(low: u8) -> i32
     ensures { λ r. ⌜ r ≡ lowEnd low ⌝ }
 {
     signed::natural(256 * (low as u32))
 }
 
-// The upper end of the box.
+// The upper end of the box: the last of its highest level.
 pub fn high_end(high: u8) -> i32
     ensures { λ r. ⌜ r ≡ highEnd high ⌝ }
 {
-    signed::natural(256 * (high as u32))
+    signed::natural(256 * (high as u32) + 255)
 }

@@ -49,7 +49,7 @@ impl JobInput {
 
     /// A job without rounds, with buffers of the lengths that these terms ask for, also beyond
     /// their limits: a flow of 0 and an image at the low end of a box from 0.
-    fn blank(terms: Terms) -> JobInput {
+    pub fn blank(terms: Terms) -> JobInput {
         let (width, height) = (terms.width as usize, terms.height as usize);
         let pixels = width * height;
         let pairs = 2 * pixels - width - height;

@@ -1,8 +1,8 @@
 //! Price and check.
 
-use relief_inputs::{chessboard, chessboard_flow, Difference, Random};
-use relief_reference::terms::WEIGHT_LIMIT;
-use relief_reference::Figures;
+use relief_inputs::{chessboard, chessboard_flow, two_by_one, Answer, Difference, Random};
+use relief_reference::terms::{reading, WEIGHT_LIMIT};
+use relief_reference::{Figures, Refusal, Terms};
 
 use crate::convert::{figures, refusal, terms};
 use crate::family::Call;
@@ -46,7 +46,7 @@ const CHECK: Call<JobInput, Figures> = Call {
 
 /// Compares both calls on the same inputs.
 pub fn compare(step: usize) -> Result<(), Difference> {
-    PRICE.compare_values(limits())?;
+    PRICE.compare_values(limits().chain(ends_of_boxes()))?;
     CHECK.compare_values(limits())?;
     let title = "1 to 300 pixels";
     PRICE.compare_family(title, &[1, 2, 3, 4, 6, 9], small(step))?;
@@ -54,6 +54,42 @@ pub fn compare(step: usize) -> Result<(), Difference> {
     let title = "1,048,576 pixels";
     PRICE.compare_family(title, &[], large(step))?;
     CHECK.compare_family(title, &[], large(step))
+}
+
+/// Images of two values, one of them at the lower end of a box, the other at its ends, in its last
+/// level and just beyond, with document 01's answer.
+fn ends_of_boxes() -> impl Iterator<Item = (JobInput, Answer<()>)> {
+    let boxes = [
+        ((0, 255), 0, 65_535),
+        ((8, 12), 2_048, 3_327),
+        ((7, 7), 1_792, 2_047),
+        ((0, 0), 0, 255),
+        ((255, 255), 65_280, 65_535),
+    ];
+    boxes.into_iter().flat_map(|((low, high), lower, upper)| {
+        let terms = Terms {
+            low,
+            high,
+            ..two_by_one().terms
+        };
+        let outside = Err(Refusal {
+            number: 9,
+            place: 1,
+        });
+        [
+            (lower - 1, outside),
+            (lower, Ok(())),
+            (upper - 255, Ok(())),
+            (upper - 254, Ok(())),
+            (upper, Ok(())),
+            (upper + 1, outside),
+        ]
+        .map(|(value, answer)| {
+            let mut input = JobInput::blank(terms);
+            input.image = vec![lower, value];
+            (input, answer)
+        })
+    })
 }
 
 fn small(step: usize) -> impl Iterator<Item = JobInput> {
@@ -72,29 +108,44 @@ fn large(step: usize) -> impl Iterator<Item = JobInput> {
         match turn / LARGEST.len() % 4 {
             0 => extreme(input, 1),
             1 => extreme(input, -1),
-            2 => farthest(input),
+            2 => farthest(input, [255, 0][turn % 2]),
             _ => input.spoiled(&mut random),
         }
     })
 }
 
 /// The job on a chessboard, with the largest weight and a flow at its ends. With sign 1 the
-/// slack is as large as can be.
+/// slack of the flow and the price of the image are as large as can be. With sign -1 the image
+/// is the readings.
 fn extreme(mut input: JobInput, sign: i32) -> JobInput {
     let (width, height) = (input.terms.width as usize, input.terms.height as usize);
     input.terms.weight = WEIGHT_LIMIT;
     (input.terms.low, input.terms.high) = (0, 255);
     input.samples = chessboard(width, height);
     input.flow = chessboard_flow(width, height, sign * WEIGHT_LIMIT as i32);
-    let readings = input.samples.iter().map(|&sample| 256 * i32::from(sample));
-    input.image = readings.collect();
+    let value = |&sample: &u8| match sign {
+        1 => far_end(&input.terms, sample),
+        _ => reading(sample),
+    };
+    input.image = input.samples.iter().map(value).collect();
     input
 }
 
-/// The job with a box as far from all samples as can be.
-fn farthest(mut input: JobInput) -> JobInput {
-    (input.terms.low, input.terms.high) = (255, 255);
-    input.samples.fill(0);
-    input.image.fill(256 * 255);
+/// The job with this sample everywhere, 0 or 255, and box and image as far from it as can be.
+fn farthest(mut input: JobInput, sample: u8) -> JobInput {
+    let level = 255 - sample;
+    (input.terms.low, input.terms.high) = (level, level);
+    input.samples.fill(sample);
+    input.image.fill(far_end(&input.terms, sample));
     input
+}
+
+/// The end of the box that is farther from a sample of 0 or 255.
+fn far_end(terms: &Terms, sample: u8) -> i32 {
+    let (lower, upper) = terms.bounds().into_inner();
+    if sample == 0 {
+        upper
+    } else {
+        lower
+    }
 }

@@ -38,7 +38,7 @@ pub fn two_by_one() -> Case {
 pub const TWO_BY_ONE_TEXT: &str = "\
 outcome moved price floor slack
 settled 17 131080 131064 16
-254 258
+382 386
 ";
 
 /// Document 01's job with a box that all samples lie outside of.
@@ -47,6 +47,23 @@ pub fn narrow_box() -> Case {
     case.terms.weight = 1_280;
     (case.terms.low, case.terms.high) = (8, 12);
     case.samples = vec![0, 20];
+    case
+}
+
+/// A job without weight whose samples lie below its box, in its first, a middle and its last
+/// level, and above it.
+pub fn about_the_box() -> Case {
+    let mut case = narrow_box();
+    (case.terms.width, case.terms.weight) = (7, 0);
+    case.samples = vec![0, 7, 8, 10, 12, 13, 255];
+    case
+}
+
+/// The terms of the 2 by 1 job on 2 by 2 pixels.
+pub fn two_by_two() -> Case {
+    let mut case = two_by_one();
+    case.terms.height = 2;
+    case.samples = vec![0, 10, 20, 40];
     case
 }
 

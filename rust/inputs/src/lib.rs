@@ -8,7 +8,7 @@ mod random;
 mod season;
 mod tape;
 
-pub use case::{flat, narrow_box, two_by_one, Case, TWO_BY_ONE_TEXT};
+pub use case::{about_the_box, flat, narrow_box, two_by_one, two_by_two, Case, TWO_BY_ONE_TEXT};
 pub use chessboard::{chessboard, chessboard_flow};
 pub use family::{compare_family, status, Answer, Difference, Tally};
 pub use random::Random;

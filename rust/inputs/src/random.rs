@@ -1,6 +1,6 @@
 //! Random parts of jobs, the same for the same seed everywhere.
 
-use relief_reference::terms::QUICK_LIMIT;
+use relief_reference::terms::{LEVEL, QUICK_LIMIT};
 use relief_reference::Rounds;
 
 /// Marsaglia's xorshift generator of random numbers.
@@ -65,14 +65,14 @@ impl Random {
         self.pick(&[(shorter, longer), (longer, shorter)])
     }
 
-    /// A box in levels: all levels, one level, or any.
+    /// A box, by its lowest and highest level: all levels, one level, or any.
     pub fn levels(&mut self) -> (u8, u8) {
         let (a, b) = (self.byte(), self.byte());
         let any = (a.min(b), a.max(b));
         self.pick(&[(0, 255), (0, 255), any, any, (a, a)])
     }
 
-    /// A box whose low end is above its high end.
+    /// A box whose lowest level is above its highest.
     pub fn crossed_levels(&mut self) -> (u8, u8) {
         let low = self.between(1, 255) as u8;
         (low, self.below(low.into()) as u8)
@@ -119,9 +119,18 @@ impl Random {
             .collect()
     }
 
-    /// An image with values from `lower` to `upper`: everywhere or at the ends.
+    /// An image with values from `lower` to `upper`, the ends of a box: everywhere, in the first
+    /// level or in the last one, or at the ends of these.
     pub fn image(&mut self, count: usize, lower: i32, upper: i32) -> Vec<i32> {
-        self.spread(count, i64::from(lower), i64::from(upper))
+        let (lower, upper) = (i64::from(lower), i64::from(upper));
+        let rest = i64::from(LEVEL) - 1;
+        let (low, high) = self.pick(&[
+            (lower, upper),
+            (lower, upper),
+            (lower, lower + rest),
+            (upper - rest, upper),
+        ]);
+        self.spread(count, low, high)
             .map(|value| value as i32)
             .collect()
     }

@@ -49,9 +49,13 @@ pub fn largest() -> impl Iterator<Item = Vec<u8>> {
         let mut any = Case::sized(&mut random, width, height);
         let flow = any.flow(&mut random);
         any.rounds = few_rounds(&mut random, any.samples.len());
-        let mut far = any.clone();
-        (far.terms.low, far.terms.high) = (255, 255);
-        far.samples.fill(0);
+        // All samples as far outside the box as can be, below it and above it.
+        let [below, above] = [0, 255].map(|sample| {
+            let mut case = any.clone();
+            (case.terms.low, case.terms.high) = (255 - sample, 255 - sample);
+            case.samples.fill(sample);
+            case
+        });
         let mut long = any.clone();
         long.terms.weight = 20;
         long.rounds.allowance = 200;
@@ -60,8 +64,9 @@ pub fn largest() -> impl Iterator<Item = Vec<u8>> {
             extreme.tape(&together),
             any.tape(&flow),
             any.tape(&[]),
-            far.tape(&flow),
-            far.tape(&[]),
+            below.tape(&flow),
+            below.tape(&[]),
+            above.tape(&flow),
             long.tape(&[]),
         ]
     })

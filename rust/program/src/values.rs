@@ -1,7 +1,8 @@
 //! The documents' values, each with its text.
 
 use relief_inputs::{
-    compare_family, flat, narrow_box, two_by_one, Case, Difference, Tape, TWO_BY_ONE_TEXT,
+    about_the_box, compare_family, flat, narrow_box, two_by_one, two_by_two, Case, Difference,
+    Tape, TWO_BY_ONE_TEXT,
 };
 use relief_reference::program::clean;
 
@@ -43,27 +44,41 @@ fn values() -> Vec<(Vec<u8>, String)> {
     let refused = |number, place| format!("refused {number} at {place}\n");
     vec![
         (job.tape(&[]), TWO_BY_ONE_TEXT.to_string()),
-        check(&job, 0, "checked 0 262144 0 262144", "0 512"),
-        check(&job, -256, "checked 0 131072 131072 0", "256 256"),
-        check(&job, 256, "checked 0 458752 -327680 786432", "0 768"),
+        check(&job, 0, "checked 0 262144 0 262144", "128 640"),
+        check(&job, -256, "checked 0 131072 131072 0", "384 384"),
+        check(&job, 256, "checked 0 540672 -376832 917504", "0 896"),
         (changed(|tape| tape.set_flow(0, 257)), refused(8, 0)),
-        (run(0, 16), text("spent 16 131090 131054 36", "253 259")),
+        (run(0, 16), text("spent 16 131090 131054 36", "381 387")),
         (run(0, 17), TWO_BY_ONE_TEXT.to_string()),
-        (run(3, 0), text("spent 0 150674 111470 39204", "157 355")),
+        (run(3, 0), text("spent 0 150674 111470 39204", "285 483")),
         check(
             &narrow_box(),
             0,
-            "checked 0 11010048 8388608 2621440",
-            "2048 3072",
+            "checked 0 10650881 7376641 3274240",
+            "2048 3327",
         ),
         check(
             &narrow_box(),
             -1_280,
-            "checked 0 11010048 11010048 0",
-            "2048 3072",
+            "checked 0 10650881 10650881 0",
+            "2048 3327",
+        ),
+        (
+            about_the_box().tape(&[]),
+            text(
+                "settled 0 3857769986 3857769986 0",
+                "2048 2048 2176 2688 3200 3327 3327",
+            ),
+        ),
+        (
+            two_by_two().tape(&[1, 2, 4, 8]),
+            text(
+                "checked 0 10501298 -143538 10644836",
+                "123 2690\n5241 10378",
+            ),
         ),
         unmoved(1, 1),
-        check(&heaviest, 0, "checked 0 66846720 0 66846720", "0 512"),
+        check(&heaviest, 0, "checked 0 66846720 0 66846720", "128 640"),
         (changed(|tape| tape.set_weight(65_281)), refused(2, 5)),
         // The size is taken, but the program's tables are shorter.
         (changed(|tape| tape.set_size((4_096, 256))), refused(16, 0)),
@@ -83,7 +98,7 @@ fn check(job: &Case, flow: i32, figures: &str, row: &str) -> (Vec<u8>, String) {
 
 /// A flat job: no pair would move.
 fn unmoved(width: u32, height: u32) -> (Vec<u8>, String) {
-    let row = vec!["1792"; width as usize].join(" ");
+    let row = vec!["1920"; width as usize].join(" ");
     let rows = vec![row; height as usize].join("\n");
     let tape = flat(width, height).tape(&[]);
     (tape, text("settled 0 0 0 0", &rows))

@@ -154,7 +154,7 @@ fn certify(
 /// Copies flow or image values into a lent buffer of the same length.
 fn narrow(values: &[i64], buffer: &mut [i32]) {
     for (place, &value) in buffer.iter_mut().zip(values) {
-        *place = i32::try_from(value).expect("flows and images stay within 65,280");
+        *place = i32::try_from(value).expect("flows stay within 65,280 and images within 65,535");
     }
 }
 
@@ -162,5 +162,5 @@ fn narrow(values: &[i64], buffer: &mut [i32]) {
 fn figure<T: TryFrom<i128>>(total: i128) -> T {
     T::try_from(total)
         .ok()
-        .expect("totals stay below 2^56 within the limits")
+        .expect("totals stay below 2^55 within the limits")
 }

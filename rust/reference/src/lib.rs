@@ -1,5 +1,5 @@
-//! The relief cleaner of document 01, with requests F-1 and F-2 of document 02, written a
-//! second time for comparison.
+//! The relief cleaner of document 01, with requests F-1 to F-3 of document 02, written a second
+//! time for comparison.
 //!
 //! The calls work in buffers that the caller lends, test all of their input
 //! themselves, and leave every buffer as it was when they refuse. Inside, plain

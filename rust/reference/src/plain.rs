@@ -4,7 +4,7 @@
 //! the exact lengths.
 //!
 //! 32 bits are enough: T never falls, so an extrapolated flow stays within three
-//! times the weight, and readings less four such numbers stay below 2^20.
+//! times the weight, and readings up to 65,408 less four such numbers stay below 2^20.
 
 use std::ops::Range;
 

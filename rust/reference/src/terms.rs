@@ -12,9 +12,9 @@ pub const WEIGHT_LIMIT: u32 = 65_280;
 /// The largest number of quick rounds.
 pub const QUICK_LIMIT: u32 = 4_096;
 
-/// The value in sub-units that a sample stands for (document 01: B).
+/// The value in sub-units that a sample stands for: the centre of its level (document 01: B).
 pub fn reading(sample: u8) -> i32 {
-    LEVEL * i32::from(sample)
+    LEVEL * i32::from(sample) + LEVEL / 2
 }
 
 /// Size, weight and box of a job, as lent: nothing is judged yet.
@@ -26,9 +26,9 @@ pub struct Terms {
     pub height: u32,
     /// The regularisation weight W in sub-units.
     pub weight: u32,
-    /// The low end of the box in levels.
+    /// The lowest level of the box.
     pub low: u8,
-    /// The high end of the box in levels.
+    /// The highest level of the box.
     pub high: u8,
 }
 
@@ -51,9 +51,9 @@ impl Terms {
         Fault::Box.unless(self.low <= self.high)
     }
 
-    /// The image values, in sub-units, that the box allows.
+    /// The image values, in sub-units, that the box allows: all of its levels.
     pub fn bounds(&self) -> RangeInclusive<i32> {
-        LEVEL * i32::from(self.low)..=LEVEL * i32::from(self.high)
+        LEVEL * i32::from(self.low)..=LEVEL * i32::from(self.high) + LEVEL - 1
     }
 
     /// Number 8, at the first flow number beyond the weight.

@@ -4,6 +4,9 @@
 //! with a [`Refusal`], after which every buffer is as it was. `include/relief.h` says
 //! what each number means and what the rounds are.
 //!
+//! A sample is a code. It covers a level of 256 sub-units and is read at its centre, 256 ×
+//! sample + 128; image values are in sub-units too.
+//!
 //! A call is there with its feature: `judge` (price, check), `run`, `tape` (read, write).
 //!
 //! Lengths of buffers are counted in values and must be exact, unless a call says
@@ -35,7 +38,7 @@
 //! let figures = relief::run(&terms, &rounds, &samples, &mut flow, &mut image, &mut work)?;
 //! assert_eq!(figures.outcome, Outcome::Settled);
 //! assert_eq!((figures.price, figures.slack), (131_080, 16));
-//! assert_eq!(image, [254, 258]);
+//! assert_eq!(image, [382, 386]);
 //! # }
 //! # Ok::<(), relief::Refusal>(())
 //! ```
@@ -66,9 +69,10 @@ pub struct Terms {
     pub height: u32,
     /// The weight in sub-units of 1/256 level, at most [`MAX_WEIGHT`].
     pub weight: u32,
-    /// The low end of the box in levels.
+    /// The lowest level of the box: image values are at least 256 × `low` sub-units.
     pub low: u8,
-    /// The high end of the box in levels, not below the low one.
+    /// The highest level of the box, not below the lowest: image values are at most
+    /// 256 × `high` + 255 sub-units.
     pub high: u8,
 }
 

@@ -43,7 +43,7 @@ fn values() -> Vec<(Vec<u8>, String)> {
     let mixed: Vec<u8> = [&run, &best, &spent, &one, &worst, &worst]
         .map(Vec::as_slice)
         .concat();
-    let mixed_text = text([6, 11, 2, 1, 3, 1_572_916], [786_432, 5], [142_992, 4]);
+    let mixed_text = text([6, 11, 2, 1, 3, 1_835_060], [917_504, 5], [166_823, 7]);
     let after_one = |last: &[u8]| [&run, last].concat();
     vec![
         (run.clone(), single.to_string()),

@@ -150,7 +150,7 @@ fn a_settled_slack_may_be_the_bound() {
     (case.rounds.quick, case.rounds.allowance) = (7, 0);
     let answer = case.run().unwrap();
     assert_eq!(answer.flow, [-258]);
-    assert_eq!(answer.image, [258, 254]);
+    assert_eq!(answer.image, [386, 382]);
     assert_eq!(answer.figures.outcome, Outcome::Settled);
     assert_eq!(answer.figures.slack, 16 * 258);
 }

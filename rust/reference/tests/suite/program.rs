@@ -14,8 +14,8 @@ fn run_of_the_two_by_one_job() {
 fn checks_of_the_two_by_one_job() {
     let text = "\
 outcome moved price floor slack
-checked 0 458752 -327680 786432
-0 768
+checked 0 540672 -376832 917504
+0 896
 ";
     assert_eq!(clean(&two_by_one().tape(&[256])), text);
 
@@ -32,8 +32,8 @@ fn one_line_for_each_row() {
     let text = "\
 outcome moved price floor slack
 settled 0 0 0 0
-256 512 768
-1024 1280 1536
+384 640 896
+1152 1408 1664
 ";
     assert_eq!(clean(&job.tape(&[])), text);
 }

@@ -120,7 +120,7 @@ const WORK_LONG: Flaw = flaw(7, 0, |lent| lent.work.push(0));
 const WORK_SHORT: Flaw = flaw(7, 0, |lent| lent.work.truncate(7));
 const TAPE_SHORT: Flaw = flaw(16, 0, |lent| lent.tape.truncate(offset::END));
 const FLOW_VALUE: Flaw = flaw(8, 1, |lent| lent.flow[1..3].fill(i32::MIN));
-const IMAGE_VALUE: Flaw = flaw(9, 2, |lent| lent.image[2..].fill(3_073));
+const IMAGE_VALUE: Flaw = flaw(9, 2, |lent| lent.image[2..].fill(3_328));
 
 /// Tries each flaw alone and with each later one: the earlier wins, and nothing that
 /// was lent changes.
@@ -150,8 +150,8 @@ fn price_turns_back() {
         &[SIZE, WEIGHT, BOX, SAMPLES_LONG, IMAGE_LONG, IMAGE_VALUE],
     );
     assert_turns_back(Lent::price, &[SAMPLES_SHORT, IMAGE_SHORT]);
-    for outside in [2_047, 3_073, i32::MIN, i32::MAX] {
-        let image = [2_048, 3_072, 2_048, outside];
+    for outside in [2_047, 3_328, i32::MIN, i32::MAX] {
+        let image = [2_048, 3_327, 2_048, outside];
         assert_eq!(square().price(&image), Err(refusal(9, 3)));
     }
 }

@@ -145,7 +145,7 @@ fn outcomes_are_counted_and_slacks_added() {
         job.tape(&[256]),
         job.tape(&[0]),
     ];
-    let total = 16 + 36 + 786_432 + 262_144;
+    let total = 16 + 36 + 917_504 + 262_144;
     let lines = Lines {
         jobs: 6,
         pixels: 11,
@@ -153,8 +153,8 @@ fn outcomes_are_counted_and_slacks_added() {
         spent: 1,
         checked: 3,
         total,
-        largest: (786_432, 5),
-        mean: (95_329, 9),
+        largest: (917_504, 5),
+        mean: (107_245, 5),
         refused: None,
     };
     assert_eq!(11 * lines.mean.0 + lines.mean.1, total);
@@ -171,7 +171,7 @@ fn the_first_of_equal_slacks_is_named() {
         (vec![&none, &small, &none, &small], "largest 262144 2"),
         (
             vec![&small, &small, &large, &small, &large],
-            "largest 786432 3",
+            "largest 917504 3",
         ),
     ] {
         let season: Vec<u8> = season.into_iter().flatten().copied().collect();

@@ -1,13 +1,14 @@
-//! Document 01's "Values to compare", as request F-1 changes them, the shares of a fall, and
-//! the laws of T and its root.
+//! Document 01's "Values to compare", as requests F-1 and F-3 change them, readings and box, the
+//! shares of a fall, and the laws of T and its root.
 
-use relief_inputs::{flat, narrow_box, two_by_one, Case};
+use relief_inputs::{about_the_box, flat, narrow_box, two_by_one, two_by_two, Case};
 use relief_reference::problem::widened;
 use relief_reference::rounds::{
     next_t, quick_rounds, quick_share, steady_rounds, steady_share, T_UNIT,
 };
+use relief_reference::terms::reading;
 use relief_reference::Outcome::{Checked, Settled, Spent};
-use relief_reference::{price, Grid, Outcome, Rounds};
+use relief_reference::{price, Grid, Outcome, Rounds, Terms};
 
 use crate::support::{figures, read_back, refusal, Calls};
 
@@ -23,12 +24,76 @@ fn pairs_go_down_first_then_right() {
 }
 
 #[test]
+fn samples_are_read_at_the_centre_of_their_level() {
+    for (sample, value) in [(0, 128), (1, 384), (254, 65_152), (255, 65_408)] {
+        assert_eq!(reading(sample), value);
+    }
+}
+
+#[test]
+fn the_box_has_all_values_of_its_levels() {
+    for (low, high, bounds) in [
+        (0, 255, 0..=65_535),
+        (8, 12, 2_048..=3_327),
+        (7, 7, 1_792..=2_047),
+        (0, 0, 0..=255),
+        (255, 255, 65_280..=65_535),
+    ] {
+        let terms = Terms {
+            low,
+            high,
+            ..two_by_one().terms
+        };
+        assert_eq!(terms.bounds(), bounds);
+    }
+}
+
+#[test]
+fn without_weight_the_image_is_the_readings_clamped() {
+    let job = about_the_box();
+    // 1920^2 + 128^2 + 129^2 + 62081^2.
+    let price = 3_857_769_986;
+    let image = [2_048, 2_048, 2_176, 2_688, 3_200, 3_327, 3_327];
+    for (answer, outcome) in [
+        (job.check(&[0; 6]).unwrap(), Checked),
+        (job.run().unwrap(), Settled),
+    ] {
+        assert_eq!(answer.flow, [0; 6]);
+        assert_eq!(answer.image, image);
+        assert_eq!(answer.figures, figures(outcome, 0, price, price as i64, 0));
+    }
+}
+
+#[test]
+fn price_takes_both_ends_of_the_box_and_nothing_beyond() {
+    let job = narrow_box();
+    let ends = job.price(&[2_048, 3_327]);
+    assert_eq!(ends, Ok(figures(Checked, 0, 10_650_881, 0, 0)));
+    for within in [2_048, 2_049, 3_071, 3_072, 3_073, 3_326, 3_327] {
+        assert!(job.price(&[within, 3_327]).is_ok(), "{within}");
+        assert!(job.price(&[2_048, within]).is_ok(), "{within}");
+    }
+    for outside in [-1, 2_047, 3_328, 65_536] {
+        assert_eq!(job.price(&[outside, 2_048]), Err(refusal(9, 0)));
+        assert_eq!(job.price(&[3_327, outside]), Err(refusal(9, 1)));
+    }
+    for (low, high, lower, upper) in [(0, 0, 0, 255), (255, 255, 65_280, 65_535)] {
+        let mut job = flat(1, 1);
+        (job.terms.low, job.terms.high) = (low, high);
+        assert!(job.price(&[lower]).is_ok());
+        assert!(job.price(&[upper]).is_ok());
+        assert_eq!(job.price(&[lower - 1]), Err(refusal(9, 0)));
+        assert_eq!(job.price(&[upper + 1]), Err(refusal(9, 0)));
+    }
+}
+
+#[test]
 fn checks_of_the_two_by_one_job() {
     let job = two_by_one();
     for (flow, image, price, floor, slack) in [
-        (0, [0, 512], 262_144, 0, 262_144),
-        (-256, [256, 256], 131_072, 131_072, 0),
-        (256, [0, 768], 458_752, -327_680, 786_432),
+        (0, [128, 640], 262_144, 0, 262_144),
+        (-256, [384, 384], 131_072, 131_072, 0),
+        (256, [0, 896], 540_672, -376_832, 917_504),
     ] {
         let answer = job.check(&[flow]).unwrap();
         assert_eq!(answer.image, image);
@@ -92,7 +157,7 @@ fn shares_of_a_fall() {
 /// from zero.
 #[test]
 fn the_steady_share_is_the_nearest() {
-    for fall in -65_280..=65_280_i64 {
+    for fall in -65_535..=65_535_i64 {
         let distances = |share: i64| ((8 * share - fall).abs(), share.abs());
         let share = steady_share(fall);
         assert!(distances(share) < distances(share - 1), "{fall}");
@@ -194,12 +259,22 @@ fn t_never_falls_and_stays_in_range() {
 #[test]
 fn slack_above_zero_may_belong_to_the_best_image() {
     let job = narrow_box();
-    for (flow, slack) in [(0, 2_621_440), (-1_280, 0)] {
+    let price = 10_650_881;
+    for (flow, floor, slack) in [(0, 7_376_641, 3_274_240), (-1_280, 10_650_881, 0)] {
         let answer = job.check(&[flow]).unwrap();
-        assert_eq!(answer.image, [2_048, 3_072]);
-        assert_eq!(answer.figures.price, 11_010_048);
-        assert_eq!(answer.figures.slack, slack);
+        assert_eq!(answer.image, [2_048, 3_327]);
+        assert_eq!(answer.figures, figures(Checked, 0, price, floor, slack));
     }
+}
+
+#[test]
+fn check_of_two_by_two_pixels() {
+    let answer = two_by_two().check(&[1, 2, 4, 8]).unwrap();
+    assert_eq!(answer.image, [123, 2_690, 5_241, 10_378]);
+    assert_eq!(
+        answer.figures,
+        figures(Checked, 0, 10_501_298, -143_538, 10_644_836)
+    );
 }
 
 #[test]
@@ -207,9 +282,9 @@ fn one_pixel() {
     let job = flat(1, 1);
     assert_eq!(job.grid().pair_count(), 0);
     let answer = job.run().unwrap();
-    assert_eq!(answer.image, [1_792]);
+    assert_eq!(answer.image, [1_920]);
     assert_eq!(answer.figures, figures(Settled, 0, 0, 0, 0));
-    assert_eq!(job.check(&[]).unwrap().image, [1_792]);
+    assert_eq!(job.check(&[]).unwrap().image, [1_920]);
 }
 
 #[test]

@@ -15,9 +15,9 @@ const CHECKED: Figures = Figures {
 #[test]
 fn check_gives_the_figures_and_fills_the_image() {
     let values = [
-        (-256, [256, 256], 131_072, 131_072, 0),
-        (0, [0, 512], 262_144, 0, 262_144),
-        (256, [0, 768], 458_752, -327_680, 786_432),
+        (-256, [384, 384], 131_072, 131_072, 0),
+        (0, [128, 640], 262_144, 0, 262_144),
+        (256, [0, 896], 540_672, -376_832, 917_504),
     ];
     for (flow, image_due, price, floor, slack) in values {
         let mut image = [-1; 2];
@@ -34,7 +34,7 @@ fn check_gives_the_figures_and_fills_the_image() {
 
 #[test]
 fn price_gives_no_floor() {
-    let figures = price(&TERMS, &SAMPLES, &[256, 256]);
+    let figures = price(&TERMS, &SAMPLES, &[384, 384]);
     assert_eq!(
         figures,
         Ok(Figures {
@@ -45,11 +45,35 @@ fn price_gives_no_floor() {
 }
 
 #[test]
+fn both_ends_of_the_box() {
+    let terms = Terms {
+        weight: 0,
+        low: 8,
+        high: 12,
+        ..TERMS
+    };
+    let mut image = [-1; 2];
+    let due = Figures {
+        price: 1_920 * 1_920 + 1_921 * 1_921,
+        ..CHECKED
+    };
+    let floor = due.price as i64;
+    let figures = check(&terms, &[0, 20], &[0], &mut image);
+    assert_eq!(figures, Ok(Figures { floor, ..due }));
+    assert_eq!(image, [2_048, 3_327]);
+    assert_eq!(price(&terms, &[0, 20], &image), Ok(due));
+    for (outside, place) in [([2_047, 3_327], 0), ([2_048, 3_328], 1)] {
+        let answer = price(&terms, &[0, 20], &outside);
+        assert_eq!(answer, refused(Reason::ImageValue, place));
+    }
+}
+
+#[test]
 fn no_pairs() {
     let terms = Terms { width: 1, ..TERMS };
     let mut image = [-1];
     assert_eq!(check(&terms, &[7], &[], &mut image), Ok(CHECKED));
-    assert_eq!(image, [1_792]);
+    assert_eq!(image, [1_920]);
     assert_eq!(price(&terms, &[7], &image), Ok(CHECKED));
 }
 
@@ -67,7 +91,7 @@ fn refusals() {
     assert_eq!(image, [-1; 2]);
     let price = |image: &[i32]| price(&TERMS, &SAMPLES, image);
     assert_eq!(price(&[0; 3]), refused(Reason::ImageLength, 0));
-    assert_eq!(price(&[0, 65_281]), refused(Reason::ImageValue, 1));
+    assert_eq!(price(&[0, 65_536]), refused(Reason::ImageValue, 1));
 }
 
 #[test]
@@ -78,7 +102,7 @@ fn calls_at_the_same_time() {
                 for _ in 0..1_000 {
                     let mut image = [-1; 2];
                     check(&TERMS, &SAMPLES, &[flow], &mut image).unwrap();
-                    assert_eq!(image, [(-flow).max(0), 512 + flow]);
+                    assert_eq!(image, [128 - flow, 640 + flow]);
                 }
             });
         }

@@ -23,8 +23,8 @@ fn steady_rounds() {
         floor: 131_064,
         slack: 16,
     };
-    assert_eq!(run_two_by_one(0, 100), (Ok(settled), -254, [254, 258]));
-    assert_eq!(run_two_by_one(0, 17), (Ok(settled), -254, [254, 258]));
+    assert_eq!(run_two_by_one(0, 100), (Ok(settled), -254, [382, 386]));
+    assert_eq!(run_two_by_one(0, 17), (Ok(settled), -254, [382, 386]));
     let spent = Figures {
         outcome: Outcome::Spent,
         moved: 16,
@@ -32,7 +32,7 @@ fn steady_rounds() {
         floor: 131_054,
         slack: 36,
     };
-    assert_eq!(run_two_by_one(0, 16), (Ok(spent), -253, [253, 259]));
+    assert_eq!(run_two_by_one(0, 16), (Ok(spent), -253, [381, 387]));
 }
 
 #[test]
@@ -44,7 +44,7 @@ fn quick_rounds() {
         floor: 111_470,
         slack: 39_204,
     };
-    assert_eq!(run_two_by_one(3, 0), (Ok(spent), -157, [157, 355]));
+    assert_eq!(run_two_by_one(3, 0), (Ok(spent), -157, [285, 483]));
 }
 
 #[test]
@@ -54,7 +54,7 @@ fn no_pairs() {
     let rounds = Rounds::default();
     let figures = run(&terms, &rounds, &[7], &mut [], &mut image, &mut []).unwrap();
     assert_eq!((figures.outcome, figures.moved), (Outcome::Settled, 0));
-    assert_eq!(image, [1_792]);
+    assert_eq!(image, [1_920]);
 }
 
 #[test]

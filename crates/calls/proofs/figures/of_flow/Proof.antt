@@ -1,9 +1,8 @@
 -- `calls::figures::of_flow` meets its contract. Assumes nothing.
 use mathlib.Core.Path.{_≡_, ap, ap₂, _∙_}
-use Prim.Native.Nat.{_+_, _*_, _^_, _≤_, _<_}
+use Prim.Native.Nat.{_+_, _*_, _≤_}
 use native.Mathlib.Omega.{arith}
 use borrow.Author.Needs.{needs}
-use lib.Dec.{lit<}
 use lib.IntN.{ℤ, pos, _-ℤ_, _*ℤ_}
 use mir.Syntax.{w64}
 use mir.Val.{toZ, ofZ}
@@ -95,10 +94,7 @@ dual-requires c κs =
     let v = c .before .before in
     let k = v .before .before .before in
     let s = k .before .before in
-    omega (arith, lit, priced v, floor-fits (s .args .t) (s .args .samples .now) (at (s .args .flow .now)) (data-term (v .before)) (work c) (allowed k) (s .pre .feasible) (omega (arith, priced v)))
-  where
-    lit : 3 * largest < 2 ^ 63
-    lit = lit< tt
+    omega (arith, largest-fits, priced v, floor-fits (s .args .t) (s .args .samples .now) (at (s .args .flow .now)) (data-term (v .before)) (work c) (allowed k) (s .pre .feasible) (omega (arith, priced v)))
 
 -- price and floor
 primal : (c : tie.After-objective) → let s = c .before .before .before .before .before .before in

@@ -1,9 +1,11 @@
 -- `report::totals::counted` meets its contract. Assumes nothing.
 use native.Mathlib.Omega.{arith}
 use mathlib.Core.Path.{_≡_, ap, ap₂, _∙_}
-use Prim.Native.Nat.{ℕ, _+_, _^_, _<_}
+use Prim.Native.Nat.{ℕ, _+_, _*_, _^_, _≤_, _<_}
+use native.Mathlib.Nat.{mul-le-mul}
 use Rattle.model.specs.declared.Totals.{Totals}
 use Rattle.calls.specs.Answers.{answerOf}
+use Rattle.calls.proofs.Sizes.{most-slack-fits}
 use Rattle.report.specs.declared.totals.Share.{Share}
 use Rattle.report.specs.declared.totals.Peak.{Peak}
 use Rattle.report.specs.Counted.{peakOf}
@@ -50,13 +52,15 @@ fit : (c : tie.After-share-of) → let t = c .before .args .t in let s = c .shar
 fit c =
     let e = c .share-of .ensures in
     let p = c .before .pre in
+    let t = c .before .args .t in
+    let few : t .pixels + c .before .args .pixels ≤ 4096 * 65535 = omega (arith, p .bounded, p .notLast, p .pixelsAllowed) in
     let once = one-way (answerOf (c .before .args .answer) .outcome) in (
       omega (arith, ap (λ (s : Share). s .settled) e, once, p .bounded, p .notLast),
       (
         omega (arith, ap (λ (s : Share). s .spent) e, once, p .bounded, p .notLast),
         (
           omega (arith, ap (λ (s : Share). s .checked) e, once, p .bounded, p .notLast),
-          omega (arith, ap (λ (s : Share). s .slack) e, p),
+          omega (arith, ap (λ (s : Share). s .slack) e, p .bounded .totalWithin, p .slackAllowed, mul-le-mul most-slack-fits few),
         ),
       ),
     )

@@ -10,6 +10,9 @@ use Rattle.stencil.proofs.pixel.high_end.Tie as tie
 mul-natural : tie.Need-mul-natural
 mul-natural c = search needs
 
+add-natural : tie.Need-add-natural
+add-natural c = search needs
+
 natural-requires : tie.Need-natural-requires
 natural-requires c κs = search needs
 
@@ -18,4 +21,4 @@ unfolding highEnd
 returns c = read w32 (c .natural .ok) ∙ c .natural .ensures
 
 pub high-end-spec : {M : Type 1} → statement M
-high-end-spec = tie.close (tie.spec mul-natural natural-requires returns)
+high-end-spec = tie.close (tie.spec mul-natural add-natural natural-requires returns)

@@ -10,6 +10,9 @@ use Rattle.stencil.proofs.pixel.reading.Tie as tie
 mul-natural : tie.Need-mul-natural
 mul-natural c = search needs
 
+add-natural : tie.Need-add-natural
+add-natural c = search needs
+
 natural-requires : tie.Need-natural-requires
 natural-requires c κs = search needs
 
@@ -18,4 +21,4 @@ unfolding readingOf
 returns c = read w32 (c .natural .ok) ∙ c .natural .ensures
 
 pub reading-spec : {M : Type 1} → statement M
-reading-spec = tie.close (tie.spec mul-natural natural-requires returns)
+reading-spec = tie.close (tie.spec mul-natural add-natural natural-requires returns)

@@ -7,7 +7,6 @@ use native.Mathlib.Omega.{arith}
 use lib.ListN.{length, take, length-take}
 use lib.Seq.{length-take-le, take-length, take-all, take-take}
 use borrow.Author.Tests.{not-true, not-false}
-use Rattle.tape_read.specs.Scan.{Reached}
 use Rattle.tape_read.proofs.Reached.{moved}
 use Rattle.stream.specs.declared.take.Taken.{Taken}
 use Rattle.stream.specs.Taken.{lentIn, TakenFrom}

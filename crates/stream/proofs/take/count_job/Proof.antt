@@ -1,12 +1,13 @@
 -- `stream::take::count_job` meets its contract. Assumes nothing.
 use mathlib.Core.Path.{_≡_, refl, ap, ap₂, _∙_, subst, subst⁻¹}
-use Prim.Native.Nat.{ℕ}
+use Prim.Native.Nat.{ℕ, _*_}
 use native.Mathlib.Omega.{arith}
 use lib.IntN.{natAbs}
 use lib.ListN.{length}
 use Rattle.model.specs.Calls.{Answer}
 use Rattle.model.specs.Tape.{lentBy, parse}
 use Rattle.model.specs.Season.{treated}
+use Rattle.calls.specs.Slack.{mostSlack}
 use Rattle.job.specs.declared.answer.Answered.{Answered}
 use Rattle.job.specs.Answered.{AnswerTo}
 use Rattle.report.specs.Counted.{withJob, Bounded}
@@ -42,7 +43,7 @@ counted-requires c κs =
       bounded = s .pre .1 .bounded;
       notLast = s .pre .1 .notLast;
       pixelsAllowed = omega (arith, given .pixels, given .held, s .pre .1 .samplesMost);
-      slackAllowed = omega (arith, same, given .pixels, given .slack);
+      slackAllowed = omega (arith, same, ap (λ (n : ℕ). mostSlack * n) (given .pixels), given .slack);
     }
 
 same-length : tie.Need-same-length
