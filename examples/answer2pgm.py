@@ -5,10 +5,10 @@
     python3 examples/answer2pgm.py answer.txt clean.pgm
 
 Reads standard input and writes standard output where no file is named. Image values come in sub-units,
-256 to a level. Each becomes the sample whose level it lies in: of 256 levels its code, the value's whole
-256ths, or of as many as --maxval names: 63 for a scan of maxval 63, 65535 for the sub-units themselves.
-The picture is as bright on each. The figures go to standard error. An answer whose last rows are missing
-cannot be told from a smaller picture's.
+256 to a level. Each becomes the code whose level it lies in or, with --maxval N, the one of N + 1 equal
+levels: 63 for a scan of maxval 63, 65535 for the sub-units themselves. The picture is as bright on each.
+The figures go to standard error. An answer whose last rows are missing cannot be told from a smaller
+picture's.
 """
 
 import re

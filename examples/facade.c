@@ -26,7 +26,7 @@ static uint64_t next_random(uint64_t *state)
     return *state;
 }
 
-/* The height of a wall in levels: stones that stick out differently, with joints between them. */
+/* The height of a wall in codes: stones that stick out differently, with joints between them. */
 static int wall(int x, int y)
 {
     int course = y / COURSE;

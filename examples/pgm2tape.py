@@ -66,7 +66,7 @@ def main():
     with script.naming(NAME, script.target_name(options.target)):
         script.write(options.target, tape(rows, options))
     if maxval < 255:
-        print(f"{NAME}: {picture}: maxval {maxval}: samples scaled to 0..255, the levels of weight and box;"
+        print(f"{NAME}: {picture}: maxval {maxval}: samples scaled to the codes 0..255, in whose levels weight and box are;"
               f" `answer2pgm.py --maxval {maxval}` scales back", file=sys.stderr)
 
 

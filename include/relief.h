@@ -14,7 +14,7 @@
  * - low, high: the lowest and the highest level of the box, 0 to 255, low at most high. Image values
  *   run over these levels, from 256 * low to 256 * high + 255. Samples may lie outside the box.
  * - image value: in sub-units. It becomes a code again as value / 256 in whole numbers, the code
- *   whose level it lies in; value / 256.0 is a depth in levels, in which code s is read at s + 0.5.
+ *   whose level it lies in; value / 256.0 is its depth in levels (the reading of s has s + 0.5).
  * - pairs: neighbours. First every (pixel, pixel below) in row order of the upper pixel, then every
  *   (pixel, pixel to its right) in row order of the left one.
  * - fall of a pair: its first pixel's image value minus its second's.

@@ -65,7 +65,7 @@ class Scripts(unittest.TestCase):
 
 
 def scaled(file, maxval):
-    return (f"pgm2tape: {file}: maxval {maxval}: samples scaled to 0..255, the levels of weight and box;"
+    return (f"pgm2tape: {file}: maxval {maxval}: samples scaled to the codes 0..255, in whose levels weight and box are;"
             f" `answer2pgm.py --maxval {maxval}` scales back\n")
 
 

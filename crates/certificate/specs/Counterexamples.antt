@@ -95,12 +95,12 @@ abbrev pub scanTwoByOne : ℕ → ℕ → ℕ → Problem
 scanTwoByOne weight low high =
     grid (record { width = 2; height = 1; weight = weight; low = low; high = high }) (0 ∷ 2 ∷ [])
 
--- 2 by 2, with samples
-abbrev pub scanTwoByTwo : ℕ → ℕ → ℕ → List ℕ → Problem
-scanTwoByTwo weight low high samples =
-    grid (record { width = 2; height = 2; weight = weight; low = low; high = high }) samples
+-- 2 by 2, samples 0 2 in both rows, with a weight
+abbrev pub scanTwoByTwo : ℕ → Problem
+scanTwoByTwo weight =
+    grid (record { width = 2; height = 2; weight = weight; low = 0; high = 255 }) (0 ∷ 2 ∷ 0 ∷ 2 ∷ [])
 
--- one row, weight 1, with samples
+-- A row with samples, weight 1
 abbrev pub scanRow : ℕ → List ℕ → Problem
 scanRow width samples = grid (record { width = width; height = 1; weight = 1; low = 0; high = 255 }) samples
 
@@ -174,7 +174,7 @@ unfoldable pub settledRows : List Alteration
 settledRows =
     let p : Problem = scanTwoByOne 256 0 255 in
     let q : Problem = scanTwoByOne 258 0 255 in
-    let two : Problem = scanTwoByTwo 258 0 255 (0 ∷ 2 ∷ 0 ∷ 2 ∷ []) in
+    let two : Problem = scanTwoByTwo 258 in
     let narrow : Problem = scanTwoByOne 256 3 3 in
     -- 15 for 16: seven quick rounds leave the flow −258 and the image 386 382, whose fall of 4 does not move it back
     beside (settledWithin (16 * (258 * 1)) q (run q 7 0)) (settledWithin (15 * (258 * 1)) q (run q 7 0))

@@ -1,5 +1,5 @@
 -- Laws of one pixel or pair.
---     Readings    a reading's size
+--     Readings    a reading is within the limits of the passes
 --     Shares      a share's size
 pub mod Readings
 pub mod Shares

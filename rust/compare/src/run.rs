@@ -83,9 +83,9 @@ fn large(step: usize) -> impl Iterator<Item = JobInput> {
         job.terms.weight = [65_280, 200][turn % 2];
         (job.terms.low, job.terms.high) = random.pick(&[(0, 255), (20, 230)]);
         match turn / LARGEST.len() {
-            // All levels: most pairs move.
+            // All codes: most pairs move.
             0 => job.samples = random.bytes(job.samples.len()),
-            // One level: no pair would move.
+            // One code everywhere: no pair would move.
             1 => job.samples.fill(random.byte()),
             // As drawn.
             _ => (),

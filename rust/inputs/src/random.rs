@@ -101,12 +101,12 @@ impl Random {
         self.pick(&[limit + 1, last, any])
     }
 
-    /// Samples: of all levels, of a few, or of the first and the last.
+    /// Samples: of all codes, of a few, or of the first and the last.
     pub fn samples(&mut self, count: usize) -> Vec<u8> {
         let darkest = self.pick(&[0, 100]);
         let brightest = self.pick(&[darkest + 2, 255]);
         self.spread(count, darkest, brightest)
-            .map(|level| level as u8)
+            .map(|code| code as u8)
             .collect()
     }
 

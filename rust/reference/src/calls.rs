@@ -162,5 +162,5 @@ fn narrow(values: &[i64], buffer: &mut [i32]) {
 fn figure<T: TryFrom<i128>>(total: i128) -> T {
     T::try_from(total)
         .ok()
-        .expect("totals stay below 2^55 within the limits")
+        .expect("totals stay below 2^56 within the limits")
 }
