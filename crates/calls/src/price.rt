@@ -4,6 +4,7 @@ use crate::answer::Answer;
 use crate::figures;
 use model::Terms;
 use model::Verdict;
+use stencil::pixel;
 ghost use mathlib.Core.Path.{_≡_};
 ghost use mathlib.Core.Logic.{_↔_};
 ghost use Rattle.model.specs.Calls.{priceAnswer};
@@ -14,7 +15,9 @@ pub fn price(t: Terms, samples: &[u8], image: &[i32]) -> Answer
     ensures { λ r. ⌜ answerOf r ≡ priceAnswer t (now (samples .entry)) (now (image .entry)) ⌝ }
     ensures { λ r. ⌜ ((answerOf r .number ≡ 0) ↔ PriceAllowed t (now (samples .entry)) (now (image .entry))) ⌝ }
 {
-    let verdict = judges::judge_price(t, samples.len(), image);
+    let low = pixel::low_end(t.low);
+    let high = pixel::high_end(t.high);
+    let verdict = judges::judge_price(t, low, high, samples.len(), image);
     if let Verdict::Refuse { number, place } = verdict {
         return Answer::Refused { number, place };
     }

@@ -8,6 +8,7 @@ use model::Verdict;
 use rounds::buffers;
 use rounds::quick::quick_rounds;
 use rounds::steady::steady_rounds;
+use stencil::pixel;
 ghost use mathlib.Core.Path.{_≡_};
 ghost use mathlib.Core.Logic.{_↔_};
 ghost use Rattle.model.specs.Calls.{runAnswer, runFlow, runImage, runWork};
@@ -41,9 +42,11 @@ pub fn run(
     if let Verdict::Refuse { number, place } = verdict {
         return Answer::Refused { number, place };
     }
-    quick_rounds(t, r.quick, samples, flow, image, work);
+    let low = pixel::low_end(t.low);
+    let high = pixel::high_end(t.high);
+    quick_rounds(t, low, high, r.quick, samples, flow, image, work);
     buffers::clear(work);
-    let end = steady_rounds(t, r.allowance, samples, flow, image);
+    let end = steady_rounds(t, low, high, r.allowance, samples, flow, image);
     let f = figures::of_flow(t, samples, flow, image);
     if end.settled {
         Answer::Settled {

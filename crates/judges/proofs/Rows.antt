@@ -1,20 +1,23 @@
--- The rows of a call's table: those of the terms, then those below them, whose lengths are counted for an allowed size.
--- Assumes nothing.
+-- The rows of a call's table: those of the terms, then those below them, whose lengths are counted for an allowed size; and
+-- the row of 9, for the ends of the box. Assumes nothing.
 use mathlib.Core.Path.{_≡_, refl, sym, ap, ap₂, _∙_}
 use mathlib.Core.Bool.{Bool, true, false, not, cond}
 use mathlib.Core.List.{List, [], _∷_, _++_}
 use Prim.Native.Nat.{ℕ, _≤_}
 use native.Mathlib.Omega.{arith}
 use lib.Dec.{eqb}
+use lib.IntN.{ℤ}
 use Rattle.model.specs.declared.Terms.{Terms}
 use Rattle.model.specs.declared.Verdict.{Verdict}
 use Rattle.model.specs.Grid.{sizeAllowed}
 use Rattle.model.specs.Verdict.{Row, row, firstRefusal, decided}
-use Rattle.model.specs.Calls.{pixelsOf, pairsOf, sizeRow, weightRow, boxRow}
+use Rattle.model.specs.Calls.{pixelsOf, pairsOf, sizeRow, weightRow, boxRow, firstOutside, imageRow}
 use Rattle.model.proofs.Refusals.{firstRefusal-append}
 use Rattle.terms.proofs.Size.{allowed-size}
 use Rattle.terms.proofs.Accepted.{accepted-size}
+use Rattle.runs.specs.Ends.{BoxEnds}
 use Rattle.judges.specs.Lengths.{pixelsDue, pairsDue, lengthRows}
+use Rattle.judges.specs.Outside.{outsideRow}
 
 -- a length that has to be exact
 abbrev pub exactRow : ℕ → ℕ → ℕ → Row
@@ -57,3 +60,8 @@ module _ (t : Terms) where
       go : (x : Verdict) → firstRefusal termsRows ≡ x → decided x b Verdict.Refuse ≡ decided x (firstRefusal lower) Verdict.Refuse
       go Verdict.Accept h = g (accepted-size t h)
       go (Verdict.Refuse number place) h = refl
+
+  -- for the ends of the box, the row of 9 is the model's
+  pub outside-is : (values : List ℤ) {low high : ℤ} → BoxEnds t low high → outsideRow low high values ≡ imageRow t values
+  unfolding firstOutside
+  outside-is values ends = ap₂ (λ (a b : ℤ). outsideRow a b values) (ends .low-is) (ends .high-is)

@@ -1,2 +1,5 @@
--- The lengths that the buffers of a job have to have, as the code counts them.
+-- What the judges' contracts cite beside the model's definitions.
+--     Lengths     the lengths that the buffers of a job have to have, as the code counts them
+--     Outside     the row of 9 for any two ends
 pub mod Lengths
+pub mod Outside

@@ -3,7 +3,6 @@
 use model::Terms;
 use model::Verdict;
 use runs::pixels::first_outside;
-use stencil::pixel;
 ghost use Prim.Native.Nat.{_*_};
 ghost use mathlib.Core.Path.{_≡_};
 ghost use mathlib.Core.Bool.{not};
@@ -11,8 +10,9 @@ ghost use mathlib.Core.List.{[], _∷_};
 ghost use lib.Dec.{eqb, ltb};
 ghost use lib.ListN.{length};
 ghost use Rattle.model.specs.Verdict.{row, firstRefusal, decided};
-ghost use Rattle.model.specs.Calls.{pixelsOf, pairsOf, sizeRow, weightRow, boxRow, flowRow, imageRow};
+ghost use Rattle.model.specs.Calls.{pixelsOf, pairsOf, sizeRow, weightRow, boxRow, flowRow};
 ghost use Rattle.judges.specs.Lengths.{pixelsDue, pairsDue, lengthRows};
+ghost use Rattle.judges.specs.Outside.{outsideRow};
 
 // The first of two verdicts that refuses.
 fn first(upper: Verdict, lower: Verdict) -> Verdict
@@ -96,11 +96,11 @@ pub fn judge_check(t: Terms, samples: usize, flow: &[i32], image: usize) -> Verd
     judge_flow(flow, t.weight)
 }
 
-// 9: an image value outside the box, at the first index.
-fn judge_image(image: &[i32], t: Terms) -> Verdict
-    ensures { λ r. ⌜ r ≡ firstRefusal (imageRow t (now (image .entry)) ∷ []) ⌝ }
+// 9: an image value outside two ends, which are those of the box, at the first index.
+fn judge_image(image: &[i32], low: i32, high: i32) -> Verdict
+    ensures { λ r. ⌜ r ≡ firstRefusal (outsideRow low high (now (image .entry)) ∷ []) ⌝ }
 {
-    let place = first_outside(image, pixel::low_end(t.low), pixel::high_end(t.high));
+    let place = first_outside(image, low, high);
     if place < image.len() {
         Verdict::Refuse { number: 9, place }
     } else {
@@ -108,9 +108,10 @@ fn judge_image(image: &[i32], t: Terms) -> Verdict
     }
 }
 
-// Price: 1, 2, 3; 4, 6; 9. The image is read only where terms and lengths have passed.
-pub fn judge_price(t: Terms, samples: usize, image: &[i32]) -> Verdict
-    ensures { λ r. ⌜ r ≡ firstRefusal (sizeRow t 0 ∷ weightRow t 0 ∷ boxRow t 0 ∷ row (not (eqb samples (pixelsOf t))) 4 0 ∷ row (not (eqb (length (now (image .entry))) (pixelsOf t))) 6 0 ∷ imageRow t (now (image .entry)) ∷ []) ⌝ }
+// Price: 1, 2, 3; 4, 6; 9, by the two ends that it is handed. The image is read only where terms and lengths have
+// passed.
+pub fn judge_price(t: Terms, low: i32, high: i32, samples: usize, image: &[i32]) -> Verdict
+    ensures { λ r. ⌜ r ≡ firstRefusal (sizeRow t 0 ∷ weightRow t 0 ∷ boxRow t 0 ∷ row (not (eqb samples (pixelsOf t))) 4 0 ∷ row (not (eqb (length (now (image .entry))) (pixelsOf t))) 6 0 ∷ outsideRow low high (now (image .entry)) ∷ []) ⌝ }
 {
     let n = lengths_due(t).pixels;
     let lengths = first(exact(samples, n, 4), exact(image.len(), n, 6));
@@ -118,7 +119,7 @@ pub fn judge_price(t: Terms, samples: usize, image: &[i32]) -> Verdict
     let Verdict::Accept = upper else {
         return upper;
     };
-    judge_image(image, t)
+    judge_image(image, low, high)
 }
 
 // 10: quick rounds over 4,096.

@@ -19,6 +19,7 @@ use Rattle.model.specs.Calls.{imageOf}
 use Rattle.model.proofs.Answers.{held-image}
 use Rattle.model.proofs.Lists.{firstWhere-cong}
 use Rattle.model.proofs.Pairs.{neighbours, first-inside, second-inside}
+use Rattle.runs.specs.Ends.{BoxEnds}
 use Rattle.primal.specs.Image.{imageValue}
 use Rattle.stencil.specs.Pair.{stepValue}
 use Rattle.raster.specs.Whole.{gridStep, gridMoves, gridFall}
@@ -37,13 +38,14 @@ module _ (t : Terms) (samples : List ℕ) where
           positive Prim.Native.Nat.zero b = absurd (omega arith)
           positive (Prim.Native.Nat.suc w) b = omega arith
 
-  -- The image of a flow
-  pub image-is : (flow : List ℤ) → table (t .width * t .height) (imageValue (lowEnd (t .low)) (highEnd (t .high)) samples flow (t .width) (t .height)) ≡ imageOf t samples flow
+  -- The image of a flow, clamped to the ends of the box
+  pub image-is : (flow : List ℤ) {low high : ℤ} → BoxEnds t low high →
+      table (t .width * t .height) (imageValue low high samples flow (t .width) (t .height)) ≡ imageOf t samples flow
   unfolding imageOf image
-  image-is flow = table-cong (t .width * t .height) (λ i l.
+  image-is flow ends = rw (ends .low-is, ends .high-is) (table-cong (t .width * t .height) (λ i l.
       ap (λ (q : ℤ). clamp (lowEnd (t .low)) (highEnd (t .high)) (readingOf (getD samples i 0) -ℤ q))
       (sym (pull-gathered t samples (at flow) (i / t .width) (i % t .width) (placed i l .0) (placed i l .1))
-      ∙ ap (pull (grid t samples) (at flow)) (div-add-mod' i (t .width))))
+      ∙ ap (pull (grid t samples) (at flow)) (div-add-mod' i (t .width)))))
 
   module _ (flow : List ℤ) {values : List ℤ} (e : values ≡ imageOf t samples flow) where
     value-at : (i : ℕ) → i < t .width * t .height → at values i ≡ image (grid t samples) (at flow) i

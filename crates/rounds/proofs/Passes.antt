@@ -1,22 +1,20 @@
 -- What the passes of a round ask and leave: the image of a flow, then all pairs. Assumes nothing.
-use mathlib.Core.Path.{_≡_, ap, ap₂, _∙_, sym, subst}
+use mathlib.Core.Path.{_≡_, ap, _∙_, sym, subst}
 use mathlib.Core.List.{List}
 use Prim.Native.Nat.{ℕ, _*_, _^_, _<_}
 use native.Mathlib.Omega.{arith}
 use lib.IntN.{ℤ, pos}
 use lib.ListN.{length}
 use Rattle.model.specs.declared.Terms.{Terms}
-use Rattle.model.specs.Lists.{at, table}
+use Rattle.model.specs.Lists.{at}
 use Rattle.model.specs.Problem.{image}
-use Rattle.model.specs.Grid.{lowEnd, highEnd, gridPairs, grid}
+use Rattle.model.specs.Grid.{gridPairs, grid}
 use Rattle.model.specs.Calls.{imageOf}
 use Rattle.model.proofs.Lists.{length-table}
 use Rattle.model.proofs.Pairs.{grid-count}
 use Rattle.runs.specs.Limits.{Within}
 use Rattle.primal.specs.Limits.{ImageLimits}
-use Rattle.primal.specs.Image.{imageValue}
 use Rattle.raster.specs.Whole.{GridLimits}
-use Rattle.raster.proofs.Model.{image-is}
 use Rattle.model.specs.Accepted.{TermsAllowed}
 use Rattle.rounds.proofs.Model.{image-most}
 
@@ -56,12 +54,3 @@ module _ (t : Terms) (samples : List ℕ) {flow values : List ℤ} (limits : Ter
           flow-most = flow-most;
           image-most = subst (Within (2 ^ 20)) (sym e) (image-most t samples l u flow);
         }
-
--- the image, by the ends of the box that the pass was given
-pub filled-is : (t : Terms) (samples : List ℕ) (flow : List ℤ) {values : List ℤ} {low high : ℤ} →
-    values ≡ table (t .width * t .height) (imageValue low high samples flow (t .width) (t .height)) →
-    low ≡ lowEnd (t .low) → high ≡ highEnd (t .high) → values ≡ imageOf t samples flow
-filled-is t samples flow e l u =
-    e
-    ∙ ap₂ (λ (a b : ℤ). table (t .width * t .height) (imageValue a b samples flow (t .width) (t .height))) l u
-    ∙ image-is t samples flow

@@ -1,10 +1,16 @@
--- A row of a flow's image: what the limits of a row say of a column. Assumes nothing.
+-- A row of a flow's image: what the limits of a row say of a column, and that clamped values lie between the two ends. Assumes
+-- nothing.
 use mathlib.Core.List.{List, _∷_}
 use Prim.Native.Nat.{ℕ, zero, suc, _^_, _≤_, _<_, zero-le}
 use native.Mathlib.Omega.{arith}
 use lib.IntN.{ℤ, pos, natAbs}
 use lib.ListN.{length}
-use Rattle.model.specs.Lists.{at}
+use lib.Signed.{_≤ℤ_}
+use Rattle.integers.specs.Whole.{clamp}
+use Rattle.integers.proofs.Clamp.{clamp-≥, clamp-≤}
+use Rattle.model.specs.Lists.{at, table}
+use Rattle.model.proofs.Lists.{length-table, getD-table}
+use Rattle.runs.specs.Ends.{Between}
 use Rattle.runs.specs.Limits.{Within, ColumnLimits, RowLimits}
 
 -- 0 before a part
@@ -23,3 +29,9 @@ module _ {row : List ℤ} {samples : List ℕ} {below above across : List ℤ} (
         right-most = m;
         left-most = within-cons across (l .across-most) c;
       }
+
+-- a row of clamped values, for any two ends
+pub clamped-between : {low high : ℤ} → low ≤ℤ high → (n : ℕ) (g : ℕ → ℤ) → Between low high (table n (λ c. clamp low high (g c)))
+clamped-between {low} {high} o n g i h =
+    let l : i < n = rw (length-table n (λ c. clamp low high (g c))) at h in
+    rw (getD-table n (λ c. clamp low high (g c)) i (pos 0) l) (clamp-≥ low high (g i) o, clamp-≤ low high (g i) o)

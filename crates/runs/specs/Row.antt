@@ -1,7 +1,7 @@
 -- A row of the image of a flow, from the parts of the flow that hold the numbers of its pairs: with the row below, with the
 -- row above, and across the row. Past a part's end a number is 0, so a part that is empty counts for nothing.
 use mathlib.Core.List.{List, _∷_}
-use Prim.Native.Nat.{ℕ, _+_}
+use Prim.Native.Nat.{ℕ}
 use lib.IntN.{ℤ, pos, _+ℤ_, _-ℤ_}
 use lib.ListN.{getD}
 use Rattle.integers.specs.Whole.{clamp}

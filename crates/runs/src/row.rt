@@ -6,7 +6,9 @@ use stencil::pixel;
 ghost use mathlib.Core.Path.{_≡_};
 ghost use Prim.Native.Nat.{_<_};
 ghost use lib.ListN.{length};
+ghost use lib.Signed.{_≤ℤ_};
 ghost use Rattle.model.specs.Lists.{at, table};
+ghost use Rattle.runs.specs.Ends.{Between};
 ghost use Rattle.runs.specs.Limits.{ColumnLimits, RowLimits};
 ghost use Rattle.runs.specs.Row.{columnValue, rowValue};
 
@@ -43,7 +45,8 @@ fn column_value(
     )
 }
 
-// One row. Each column's number to the right is the next column's to the left.
+// One row, clamped to the two ends that it is handed, in sub-units. Each column's number to the right is the next
+// column's to the left.
 pub fn image_row(
     row: &mut [i32],
     samples: &[u8],
@@ -55,6 +58,7 @@ pub fn image_row(
 )
     requires { ⌜ RowLimits (now row) (now samples) (now below) (now above) (now across) ⌝ }
     ensures { λ _. ⌜ now (row .exit) ≡ table (length (now (row .entry))) (rowValue low high (now (samples .entry)) (now (below .entry)) (now (above .entry)) (now (across .entry))) ⌝ }
+    ensures { λ _. ⌜ (low ≤ℤ high → Between low high (now (row .exit))) ⌝ }
 {
     let mut left = 0;
     let mut c = 0;

@@ -3,11 +3,14 @@ use mathlib.Core.Path.{_≡_, ap, _∙_}
 use mathlib.Core.List.{List, [], _∷_, _++_}
 use Prim.Native.Nat.{ℕ}
 use lib.ListN.{length}
+use mir.Syntax.{w32}
+use mir.ValLaws.{toZ-ofZ}
 use Rattle.model.specs.declared.Terms.{Terms}
 use Rattle.model.specs.declared.Verdict.{Verdict}
 use Rattle.model.specs.Verdict.{Row, firstRefusal}
-use Rattle.model.specs.Calls.{pixelsOf, imageRow}
+use Rattle.model.specs.Calls.{pixelsOf}
 use Rattle.model.proofs.Refusals.{joined, stopped, went-on}
+use Rattle.judges.specs.Outside.{outsideRow}
 use Rattle.judges.proofs.Rows.{exactRow, termsRows, pixels-due, under-terms}
 use borrow.Author.Needs.{needs}
 use Rattle.judges.proofs.judge_price.Statement.{statement}
@@ -63,7 +66,7 @@ returns : tie.Need-returns
 returns c =
     let first = c .before .before in
     let a = first .before .before .before .before .before .before .args in
-    stopped (rows (a .t) (a .samples) (length (a .image .now))) (imageRow (a .t) (a .image .now) ∷ []) (judged first) (c .enum-told2 .given .1)
+    stopped (rows (a .t) (a .samples) (length (a .image .now))) (outsideRow (a .low) (a .high) (a .image .now) ∷ []) (judged first) (c .enum-told2 .given .1)
 
 judge-image-requires : tie.Need-judge-image-requires
 judge-image-requires c κs = search needs
@@ -71,9 +74,10 @@ judge-image-requires c κs = search needs
 returns-2 : tie.Need-returns-2
 returns-2 c =
     let first = c .before .before .before in
-    let a = first .before .before .before .before .before .before .args in
-    went-on (rows (a .t) (a .samples) (length (a .image .now))) (imageRow (a .t) (a .image .now) ∷ []) (judged first)
-    (c .before .enum-told .given .1) (c .judge-image .ensures)
+    let s = first .before .before .before .before .before .before in
+    let a = s .args in
+    went-on (rows (a .t) (a .samples) (length (a .image .now))) (outsideRow (a .low) (a .high) (a .image .now) ∷ []) (judged first)
+    (c .before .enum-told .given .1) (rw (toZ-ofZ w32 _ (s .fits .low), toZ-ofZ w32 _ (s .fits .high)) at (c .judge-image .ensures))
 
 pub judge-price-spec : {M : Type 1} → statement M
 judge-price-spec =

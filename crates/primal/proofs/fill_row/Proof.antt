@@ -107,7 +107,7 @@ same-length c = search needs
 returns : tie.Need-returns
 returns c =
     let s = c .before .before .before .before .before .before .before .before .before .before in
-    let row = rw (c .before .before .before .before .before .before .before .before .least .ensures, c .before .before .before .before .before .before .before .before2 .ensures, toZ-ofZ w32 _ (s .fits .low), toZ-ofZ w32 _ (s .fits .high), row-table (s .pre) (s .args .low) (s .args .high)) at (c .before .image-row .ensures) in
+    let row = rw (c .before .before .before .before .before .before .before .before .least .ensures, c .before .before .before .before .before .before .before .before2 .ensures, toZ-ofZ w32 _ (s .fits .low), toZ-ofZ w32 _ (s .fits .high), row-table (s .pre) (s .args .low) (s .args .high)) at (c .before .image-row .ensures .0) in
     row-put (s .args .r * s .args .width) (s .args .width) _ (s .args .image .now) row
 
 pub fill-row-spec : {M : Type 1} → statement M

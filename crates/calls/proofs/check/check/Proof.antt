@@ -1,12 +1,10 @@
 -- `calls::check::check` meets its contract. Assumes nothing.
-use mathlib.Core.Path.{_≡_, sym, ap₂, _∙_}
-use Prim.Native.Nat.{_*_}
+use mathlib.Core.Path.{_≡_, sym, _∙_}
 use borrow.Author.Needs.{needs}
-use lib.IntN.{ℤ}
 use mir.Syntax.{w32, w64}
 use Rattle.integers.proofs.Machine.{read}
 use Rattle.model.specs.declared.Verdict.{Verdict}
-use Rattle.model.specs.Lists.{at, table}
+use Rattle.model.specs.Lists.{at}
 use Rattle.model.specs.Problem.{Feasible}
 use Rattle.model.specs.Grid.{grid}
 use Rattle.model.specs.Calls.{checked, checkVerdict, imageOf}
@@ -15,7 +13,6 @@ use Rattle.model.proofs.Answers.{check-answer, check-image}
 use Rattle.model.proofs.Accepted.{told, check-feasible, check-accepted, check-number}
 use Rattle.model.proofs.Pairs.{grid-count}
 use Rattle.certificate.proofs.Grid.{check-demand}
-use Rattle.primal.specs.Image.{imageValue}
 use Rattle.raster.proofs.Model.{image-is}
 use Rattle.calls.proofs.Jobs.{flow-most}
 use Rattle.calls.proofs.Objectives.{figured}
@@ -94,12 +91,9 @@ filled c =
     let high = c .before .before .before .before in
     let low = high .before in
     let s = low .before .before .before .before .before in
-    let t = s .args .t in
     c .fill-image .ensures
-    ∙ ap₂ (λ (a b : ℤ). table (t .width * t .height) (imageValue a b (s .args .samples .now) (s .args .flow .now) (t .width) (t .height)))
-    (read w32 (low .low-end .ok) ∙ low .low-end .ensures)
-    (read w32 (high .high-end .ok) ∙ high .high-end .ensures)
-    ∙ image-is t (s .args .samples .now) (s .args .flow .now)
+    ∙ image-is (s .args .t) (s .args .samples .now) (s .args .flow .now)
+    (record { low-is = read w32 (low .low-end .ok) ∙ low .low-end .ensures; high-is = read w32 (high .high-end .ok) ∙ high .high-end .ensures })
 
 of-flow-requires : tie.Need-of-flow-requires
 of-flow-requires c κs =

@@ -2,38 +2,58 @@
 use mathlib.Core.Path.{_≡_, sym, ap, _∙_}
 use borrow.Author.Needs.{needs}
 use lib.IntN.{ℤ, pos}
+use mir.Syntax.{w32}
+use Rattle.integers.proofs.Machine.{read}
 use Rattle.model.specs.declared.Verdict.{Verdict}
 use Rattle.model.specs.Calls.{figures, checked, priceVerdict}
 use Rattle.model.proofs.Answers.{price-answer}
 use Rattle.model.proofs.Accepted.{told, price-inside, price-accepted, price-number}
+use Rattle.judges.proofs.Rows.{outside-is}
 use Rattle.calls.proofs.price.price.Statement.{statement}
 use Rattle.calls.proofs.price.price.Tie as tie
 
+low-end-requires : tie.Need-low-end-requires
+low-end-requires c κs = search needs
+
+high-end-requires : tie.Need-high-end-requires
+high-end-requires c κs = search needs
+
 judge-price-requires : tie.Need-judge-price-requires
 judge-price-requires c κs = search needs
+
+-- the verdict, by the ends of the box
+judged : (c : tie.After-judge-price) → let s = c .before .before .before .before in
+    c .judge-price .result ≡ priceVerdict (s .args .t) (s .args .samples .now) (s .args .image .now)
+unfolding priceVerdict
+judged c =
+    let high = c .before in
+    let low = high .before in
+    let s = low .before .before in
+    let t = s .args .t in
+    rw (outside-is t (s .args .image .now)
+    (record { low-is = read w32 (low .low-end .ok) ∙ low .low-end .ensures; high-is = read w32 (high .high-end .ok) ∙ high .high-end .ensures }))
+    at (c .judge-price .ensures)
 
 enum-known-verdict : tie.Need-enum-known-verdict
 enum-known-verdict c = search needs
 
 returns : tie.Need-returns
-unfolding priceVerdict
 returns c =
-    let s = c .before .before .before .before .before in
-    let e = sym (price-answer (s .args .t) (s .args .samples .now) (s .args .image .now) (sym (c .before .before .before .judge-price .ensures) ∙ c .before .verdict .given .1)) in
+    let s = c .before .before .before .before .before .before .before in
+    let e = sym (price-answer (s .args .t) (s .args .samples .now) (s .args .image .now) (sym (judged (c .before .before .before)) ∙ c .before .verdict .given .1)) in
     (e, told e (price-number (s .args .t) (s .args .samples .now) (s .args .image .now)))
 
 enum-told : tie.Need-enum-told
 enum-told c = search needs
 
 -- past the verdict
-accepted : (c : tie.After-enum-told) → let s = c .before .before .before .before in
+accepted : (c : tie.After-enum-told) → let s = c .before .before .before .before .before .before in
     priceVerdict (s .args .t) (s .args .samples .now) (s .args .image .now) ≡ Verdict.Accept
-unfolding priceVerdict
-accepted c = sym (c .before .before .judge-price .ensures) ∙ c .enum-told .given .1
+accepted c = sym (judged (c .before .before)) ∙ c .enum-told .given .1
 
 image-price-requires : tie.Need-image-price-requires
 image-price-requires c κs =
-    let s = c .before .before .before .before in
+    let s = c .before .before .before .before .before .before in
     let a = price-accepted (s .args .t) (s .args .samples .now) (s .args .image .now) .0 (accepted c) in
     record {
       terms = a .terms;
@@ -44,7 +64,7 @@ image-price-requires c κs =
 
 returns-2 : tie.Need-returns-2
 returns-2 c =
-    let s = c .before .before .before .before .before in
+    let s = c .before .before .before .before .before .before .before in
     let e =
     ap (λ (z : ℤ). figures checked 0 z (pos 0) (pos 0)) (c .image-price .ensures)
     ∙ sym (price-answer (s .args .t) (s .args .samples .now) (s .args .image .now) (accepted (c .before)))
@@ -55,6 +75,8 @@ pub price-spec : {M : Type 1} → statement M
 price-spec =
     tie.close
     (tie.spec
+    low-end-requires
+    high-end-requires
     judge-price-requires
     enum-known-verdict
     returns

@@ -8,7 +8,7 @@ use native.Mathlib.Omega.{arith}
 use borrow.Author.Needs.{needs}
 use lib.IntN.{ℤ, pos}
 use lib.ListN.{length, replicate}
-use mir.Syntax.{w64}
+use mir.Syntax.{w32, w64}
 use mir.Val.{toZ, ofZ}
 use Rattle.integers.proofs.Machine.{read}
 use Rattle.model.specs.declared.Verdict.{Verdict}
@@ -22,6 +22,7 @@ use Rattle.model.proofs.Answers.{run-answer, run-flow, run-image, run-work}
 use Rattle.model.proofs.Accepted.{told, run-accepted, run-number}
 use Rattle.certificate.specs.Demand.{RunDemand}
 use Rattle.certificate.proofs.Grid.{run-demand, ending-flow}
+use Rattle.runs.specs.Ends.{BoxEnds}
 use Rattle.runs.specs.Limits.{Within}
 use Rattle.model.proofs.Sizes.{iterate-size}
 use Rattle.rounds.proofs.Kept.{iterate-within}
@@ -66,22 +67,38 @@ facts c =
     let s = c .before .before .before .before in
     run-accepted (s .args .t) (s .args .r) (s .args .samples .now) (s .args .flow .now) (s .args .image .now) (s .args .work .now) .0 (accepted c)
 
+low-end-requires : tie.Need-low-end-requires
+low-end-requires c κs = search needs
+
+high-end-requires : tie.Need-high-end-requires
+high-end-requires c κs = search needs
+
+-- the ends of the box
+ends : (c : tie.After-high-end) → let s = c .before .before .before .before .before .before in
+    BoxEnds (s .args .t) (toZ w32 (ofZ w32 (c .before .low-end .result))) (toZ w32 (ofZ w32 (c .high-end .result)))
+ends c =
+    let low = c .before in
+    record { low-is = read w32 (low .low-end .ok) ∙ low .low-end .ensures; high-is = read w32 (c .high-end .ok) ∙ c .high-end .ensures }
+
 quick-rounds-requires : tie.Need-quick-rounds-requires
 quick-rounds-requires c κs =
-    let a = facts (c .before .before .before) in
-    record {
-      limits = a .terms;
-      lengths = record { samples-length = a .samples-length; flow-length = a .flow-length; image-length = a .image-length };
-      quick-most = omega (arith, a .quick-most);
-      work-length = a .work-length ∙ ap (λ (n : ℕ). 2 * n) (sym (a .flow-length));
-    }
+    let high = c .before .before .before in
+    let a = facts (high .before .before) in (
+      ends high,
+      record {
+        limits = a .terms;
+        lengths = record { samples-length = a .samples-length; flow-length = a .flow-length; image-length = a .image-length };
+        quick-most = omega (arith, a .quick-most);
+        work-length = a .work-length ∙ ap (λ (n : ℕ). 2 * n) (sym (a .flow-length));
+      },
+    )
 
 clear-requires : tie.Need-clear-requires
 clear-requires c κs = search needs
 
 -- the flow that the quick rounds leave
-iterate : (c : tie.After-quick-rounds) → let s = c .before .before .before .before .before .before .before .before in
-    c .quick-rounds .last .1 .1 .1 .0 ≡ quickFlow (s .args .t) (s .args .r) (s .args .samples .now)
+iterate : (c : tie.After-quick-rounds) → let s = c .before .before .before .before .before .before .before .before .before .before in
+    c .quick-rounds .last .1 .1 .1 .1 .1 .0 ≡ quickFlow (s .args .t) (s .args .r) (s .args .samples .now)
 unfolding quickFlow
 iterate c = c .quick-rounds .ensures .0
 
@@ -89,41 +106,44 @@ steady-rounds-requires : tie.Need-steady-rounds-requires
 unfolding quickFlow
 steady-rounds-requires c κs =
     let q = c .before .before .before .before .before .before .before .before in
-    let e = q .before .before .before .before in
+    let high = q .before .before .before .before in
+    let e = high .before .before in
     let s = e .before .before .before .before in
     let a = facts e in
     let t = s .args .t in
-    let b = s .args .samples .now in
-    record {
-      limits = a .terms;
-      lengths = record { samples-length = a .samples-length; flow-length = ap length (iterate q) ∙ iterate-size eighth (grid t b) (s .args .r .quick); image-length = c .before .before .before .before .before .before .image .given ∙ a .image-length };
-      flow-most = subst (Within (t .weight)) (sym (iterate q)) (iterate-within eighth t b (s .args .r .quick));
-    }
+    let b = s .args .samples .now in (
+      ends high,
+      record {
+        limits = a .terms;
+        lengths = record { samples-length = a .samples-length; flow-length = ap length (iterate q) ∙ iterate-size eighth (grid t b) (s .args .r .quick); image-length = c .before .before .before .before .before .before .image .given ∙ a .image-length };
+        flow-most = subst (Within (t .weight)) (sym (iterate q)) (iterate-within eighth t b (s .args .r .quick));
+      },
+    )
 
 -- how the steady rounds end
-last : (c : tie.After-steady-rounds) → let s = c .before .before .before .before .before .before .before .before .before .before .before .before .before .before .before .before .before in
+last : (c : tie.After-steady-rounds) → let s = c .before .before .before .before .before .before .before .before .before .before .before .before .before .before .before .before .before .before .before in
     let e = ending (s .args .t) (s .args .r) (s .args .samples .now) in
-    (c .steady-rounds .last .1 .1 .1 .0 ≡ e .flow)
-    × (c .steady-rounds .last .1 .1 .1 .1 .0 ≡ imageOf (s .args .t) (s .args .samples .now) (e .flow))
+    (c .steady-rounds .last .1 .1 .1 .1 .1 .0 ≡ e .flow)
+    × (c .steady-rounds .last .1 .1 .1 .1 .1 .1 .0 ≡ imageOf (s .args .t) (s .args .samples .now) (e .flow))
     × (c .steady-rounds .result .moved ≡ e .moved)
     × (c .steady-rounds .result .settled ≡ e .settled)
 unfolding ending
 last c =
     let q = c .before .before .before .before .before .before .before .before .before in
-    let s = q .before .before .before .before .before .before .before .before in
+    let s = q .before .before .before .before .before .before .before .before .before .before in
     let p = grid (s .args .t) (s .args .samples .now) in
-    let ends = c .steady-rounds .ensures in
-    let f = ends .0 ∙ ap (λ (g : List ℤ). steadyRounds nearestEighth p (s .args .r .allowance) g .flow) (iterate q) in (
+    let left = c .steady-rounds .ensures in
+    let f = left .0 ∙ ap (λ (g : List ℤ). steadyRounds nearestEighth p (s .args .r .allowance) g .flow) (iterate q) in (
       f,
-      ends .1 .0 ∙ ap (imageOf (s .args .t) (s .args .samples .now)) f,
-      ends .1 .1 .0 ∙ ap (λ (g : List ℤ). steadyRounds nearestEighth p (s .args .r .allowance) g .moved) (iterate q),
-      ends .1 .1 .1 ∙ ap (λ (g : List ℤ). steadyRounds nearestEighth p (s .args .r .allowance) g .settled) (iterate q),
+      left .1 .0 ∙ ap (imageOf (s .args .t) (s .args .samples .now)) f,
+      left .1 .1 .0 ∙ ap (λ (g : List ℤ). steadyRounds nearestEighth p (s .args .r .allowance) g .moved) (iterate q),
+      left .1 .1 .1 ∙ ap (λ (g : List ℤ). steadyRounds nearestEighth p (s .args .r .allowance) g .settled) (iterate q),
     )
 
 of-flow-requires : tie.Need-of-flow-requires
 of-flow-requires c κs =
     let l = c .before .before .before .before in
-    let e = l .before .before .before .before .before .before .before .before .before .before .before .before .before in
+    let e = l .before .before .before .before .before .before .before .before .before .before .before .before .before .before .before in
     let s = e .before .before .before .before in
     let a = facts e in
     let t = s .args .t in
@@ -140,7 +160,7 @@ of-flow-requires c κs =
 
 -- what a run leaves, and its figures with the outcome that its test gives
 ran : (c : tie.After-of-flow) → let l = c .before .before .before .before .before in
-    let e = l .before .before .before .before .before .before .before .before .before .before .before .before .before in
+    let e = l .before .before .before .before .before .before .before .before .before .before .before .before .before .before .before in
     let s = e .before .before .before .before in
     let t = s .args .t in
     let r = s .args .r in
@@ -150,8 +170,8 @@ ran : (c : tie.After-of-flow) → let l = c .before .before .before .before .bef
     let w = s .args .work .now in
     (o : Outcome) → cond (l .steady-rounds .result .settled) settled spent ≡ o →
     let a = figures o (l .steady-rounds .result .moved) (pos (c .of-flow .result .price)) (toZ w64 (ofZ w64 (c .of-flow .result .floor))) (pos (c .of-flow .result .slack)) in
-    let flow = l .steady-rounds .last .1 .1 .1 .0 in
-    let image = l .steady-rounds .last .1 .1 .1 .1 .0 in
+    let flow = l .steady-rounds .last .1 .1 .1 .1 .1 .0 in
+    let image = l .steady-rounds .last .1 .1 .1 .1 .1 .1 .0 in
     (a ≡ runAnswer t r b f x w)
     × ((flow ≡ runFlow t r b f x w)
     × ((image ≡ runImage t r b f x w)
@@ -159,7 +179,7 @@ ran : (c : tie.After-of-flow) → let l = c .before .before .before .before .bef
     × (((a .number ≡ 0) ↔ RunAllowed t r b f x w) × (a .number ≡ 0 → RunDemand t r b flow image a)))))
 ran c o h =
     let l = c .before .before .before .before .before in
-    let e = l .before .before .before .before .before .before .before .before .before .before .before .before .before in
+    let e = l .before .before .before .before .before .before .before .before .before .before .before .before .before .before .before in
     let s = e .before .before .before .before in
     let t = s .args .t in
     let r = s .args .r in
@@ -172,7 +192,7 @@ ran c o h =
     let n = last l in
     let cleared = l .before .before .before .before in
     let answer =
-    figured o (l .steady-rounds .result .moved) t b (l .steady-rounds .last .1 .1 .1 .0) (g .0) (read w64 (c .of-flow .ok .1 .1 .1 .0 .1) ∙ g .1 .0) (g .1 .1)
+    figured o (l .steady-rounds .result .moved) t b (l .steady-rounds .last .1 .1 .1 .1 .1 .0) (g .0) (read w64 (c .of-flow .ok .1 .1 .1 .0 .1) ∙ g .1 .0) (g .1 .1)
     ∙ ap₂ (λ (m : ℕ) (z : List ℤ). figuresOf o m t b z) (n .2) (n .0)
     ∙ ap (λ (z : Outcome). figuresOf z (ending t r b .moved) t b (ending t r b .flow)) (sym h ∙ ap (λ (z : Bool). cond z settled spent) (n .3))
     ∙ sym (run-answer t r b f x w yes)
@@ -218,6 +238,8 @@ run-spec =
     enum-known-verdict
     returns
     enum-told
+    low-end-requires
+    high-end-requires
     quick-rounds-requires
     clear-requires
     steady-rounds-requires

@@ -4,13 +4,15 @@ use Prim.Native.Nat.{_-_}
 use borrow.Author.Needs.{needs}
 use lib.ListN.{length}
 use mir.Syntax.{w32}
+use mir.ValLaws.{toZ-ofZ}
 use Rattle.integers.proofs.Machine.{read}
 use Rattle.model.specs.Grid.{gridPairs}
 use Rattle.model.specs.Rounds.{eighth, nextMomentum, quickRound}
 use Rattle.model.specs.Calls.{imageOf}
 use Rattle.momentum.specs.Reciprocal.{Reciprocal}
+use Rattle.raster.proofs.Model.{image-is}
 use Rattle.rounds.proofs.Model.{next-range, factor-most, iterate-is, ahead-is}
-use Rattle.rounds.proofs.Passes.{fill-limits, grid-limits, filled-is}
+use Rattle.rounds.proofs.Passes.{fill-limits, grid-limits}
 use Rattle.rounds.proofs.quick.advance_round.Statement.{statement}
 use Rattle.rounds.proofs.quick.advance_round.Tie as tie
 
@@ -20,29 +22,22 @@ cast-w c = search needs
 cast-h : tie.Need-cast-h
 cast-h c = search needs
 
-low-end-requires : tie.Need-low-end-requires
-low-end-requires c κs = search needs
-
-high-end-requires : tie.Need-high-end-requires
-high-end-requires c κs = search needs
-
 -- a number ahead for each pair
 ahead-length : (s : tie.Start) → length (s .args .ahead .now) ≡ length (gridPairs (s .args .t .width) (s .args .t .height))
-ahead-length s = sym (s .pre .same-length) ∙ s .pre .lengths .flow-length
+ahead-length s = sym (s .pre .1 .same-length) ∙ s .pre .1 .lengths .flow-length
 
 fill-image-requires : tie.Need-fill-image-requires
 fill-image-requires c κs =
-    let s = c .before .before .before .before .before .before .before in
-    fill-limits (s .args .t) (s .args .samples .now) (s .pre .limits) (ahead-length s) (s .pre .ahead-most) (s .pre .lengths .samples-length) (s .pre .lengths .image-length)
+    let s = c .before .before .before .before .before in
+    fill-limits (s .args .t) (s .args .samples .now) (s .pre .1 .limits) (ahead-length s) (s .pre .1 .ahead-most) (s .pre .1 .lengths .samples-length) (s .pre .1 .lengths .image-length)
 
 -- the image of the numbers ahead
-image-filled : (c : tie.After-fill-image) → let s = c .before .before .before .before .before .before .before .before in
+image-filled : (c : tie.After-fill-image) → let s = c .before .before .before .before .before .before in
     c .fill-image .last .0 ≡ imageOf (s .args .t) (s .args .samples .now) (s .args .ahead .now)
 image-filled c =
-    let s = c .before .before .before .before .before .before .before .before in
-    let l = c .before .before .low-end in
-    let h = c .before .high-end in
-    filled-is (s .args .t) (s .args .samples .now) (s .args .ahead .now) (c .fill-image .ensures) (read w32 (l .ok) ∙ l .ensures) (read w32 (h .ok) ∙ h .ensures)
+    let s = c .before .before .before .before .before .before in
+    rw (toZ-ofZ w32 _ (s .fits .low), toZ-ofZ w32 _ (s .fits .high)) at (c .fill-image .ensures)
+    ∙ image-is (s .args .t) (s .args .samples .now) (s .args .ahead .now) (s .pre .0)
 
 next-momentum-requires : tie.Need-next-momentum-requires
 next-momentum-requires c κs = search needs
@@ -52,7 +47,7 @@ sub-reciprocal c = search needs
 
 reciprocal-requires : tie.Need-reciprocal-requires
 reciprocal-requires c κs =
-    let p = c .before .before .before .before .before .before .before .before .before .before .pre in
+    let p = c .before .before .before .before .before .before .before .before .pre .1 in
     rw (c .next-momentum .ensures) (next-range _ (p .momentum-least) (p .momentum-most))
 
 natural-requires : tie.Need-natural-requires
@@ -61,7 +56,7 @@ natural-requires c κs = search needs
 -- the factor, by the model's next T
 by-next : (c : tie.After-natural) →
     let r = c .before .before .before .before in
-    let T = r .before .before .before .before .before .before .before .before .before .before .before .args .momentum in
+    let T = r .before .before .before .before .before .before .before .before .before .args .momentum in
     Reciprocal (T - 65536) (nextMomentum T) (r .reciprocal .result)
 by-next c =
     let r = c .before .before .before .before in
@@ -70,9 +65,9 @@ by-next c =
 advance-grid-requires : tie.Need-advance-grid-requires
 advance-grid-requires c κs =
     let f = c .before .before .before .before .before .before .before in
-    let s = f .before .before .before .before .before .before .before .before in
-    let p = s .pre in
-    let k = f .before .before .before .before .before .before .struct-known .given in
+    let s = f .before .before .before .before .before .before in
+    let p = s .pre .1 in
+    let k = f .before .before .before .before .struct-known .given in
     rw (read w32 (c .natural .ok), c .natural .ensures)
     (record {
       grid =
@@ -98,8 +93,8 @@ returns c =
     let g = c .before .before in
     let n = g .before in
     let f = n .before .before .before .before .before .before .before in
-    let s = f .before .before .before .before .before .before .before .before in
-    let p = s .pre in
+    let s = f .before .before .before .before .before .before in
+    let p = s .pre .1 in
     let a = s .args in
     let e = image-filled f in (
       rw (read w32 (n .natural .ok), n .natural .ensures, p .lengths .flow-length) at (g .advance-grid .ensures .0)
@@ -118,8 +113,6 @@ advance-round-spec =
     (tie.spec
     cast-w
     cast-h
-    low-end-requires
-    high-end-requires
     fill-image-requires
     next-momentum-requires
     sub-reciprocal

@@ -7,6 +7,8 @@ use borrow.Author.Needs.{needs}
 use lib.IntN.{ℤ}
 use lib.ListN.{length}
 use lib.Seq.{length-take-le}
+use mir.Syntax.{w32}
+use mir.ValLaws.{toZ-ofZ}
 use Rattle.rounds.specs.Ready.{QuickReady}
 use Rattle.rounds.proofs.Halves.{second-half, second-back}
 use Rattle.rounds.proofs.quick.quick_round.Statement.{statement}
@@ -14,7 +16,7 @@ use Rattle.rounds.proofs.quick.quick_round.Tie as tie
 
 -- the first half is within the buffer
 shorter : (c : tie.Start) → length (c .args .flow .now) ≤ length (c .args .work .now)
-shorter c = omega (arith, c .pre .0)
+shorter c = omega (arith, c .pre .1)
 
 slice-relend-prefix-copy : tie.Need-slice-relend-prefix-copy
 slice-relend-prefix-copy c = search needs
@@ -41,10 +43,11 @@ advance-round-requires : tie.Need-advance-round-requires
 advance-round-requires c κs =
     let k = c .before .before .before .before in
     let s = k .before .before .before .before in
+    (rw (toZ-ofZ w32 _ (s .fits .low), toZ-ofZ w32 _ (s .fits .high)) (s .pre .0),
     subst
     (λ (ahead : List ℤ). QuickReady (s .args .t) (s .args .samples .now) (s .args .flow .now) ahead (s .args .image .now) (s .args .momentum))
     (sym (second-half (k .copy .last .0) (s .args .work .now) (ap length (k .copy .ensures))))
-    (s .pre .1)
+    (s .pre .2))
 
 same-length : tie.Need-same-length
 same-length c = search needs

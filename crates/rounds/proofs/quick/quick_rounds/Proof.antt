@@ -3,15 +3,17 @@ use mathlib.Core.Path.{_≡_, sym, ap, _∙_}
 use Prim.Native.Nat.{ℕ, _-_, _*_}
 use native.Mathlib.Omega.{arith}
 use borrow.Author.Needs.{needs}
+use mir.Syntax.{w32}
+use mir.ValLaws.{toZ-ofZ}
 use Rattle.rounds.proofs.Turns.{Turned, turned-none, turned-ready, turned-more, turned-length, turned-work}
 use Rattle.rounds.proofs.quick.quick_rounds.Statement.{statement}
 use Rattle.rounds.proofs.quick.quick_rounds.Tie as tie
 
 abbrev Inv-loop : tie.InvT-loop
-Inv-loop t quick samples flow₀ image₀ work₀ momentum₀ k₀ flow image work momentum k = Turned t quick samples image₀ k flow image work momentum
+Inv-loop t low high quick samples flow₀ image₀ work₀ momentum₀ k₀ flow image work momentum k = Turned t quick samples image₀ k flow image work momentum
 
 abbrev μ-loop : tie.MeasureT-loop
-μ-loop t quick samples flow₀ image₀ work₀ momentum₀ k₀ flow image work momentum k = quick - k
+μ-loop t low high quick samples flow₀ image₀ work₀ momentum₀ k₀ flow image work momentum k = quick - k
 
 clear-requires : tie.Need-clear-requires Inv-loop μ-loop
 clear-requires c κs = search needs
@@ -22,13 +24,13 @@ clear-requires-2 c κs = search needs
 loop-holds : tie.Need-loop-holds Inv-loop μ-loop
 loop-holds c =
     let s = c .before .before .before .before .before .before .before in
-    turned-none (s .pre) (c .before .before .before .before .clear .ensures) (c .before .clear2 .ensures)
+    turned-none (s .pre .1) (c .before .before .before .before .clear .ensures) (c .before .clear2 .ensures)
 
 quick-round-requires : tie.Need-quick-round-requires Inv-loop μ-loop
 quick-round-requires c κs =
     let i = c .before .before .before .before in
     let s = i .before .before .before .before .before .before .before .before in
-    (turned-work (i .loop .inv), turned-ready (i .loop .inv) (s .pre) (omega arith))
+    (rw (toZ-ofZ w32 _ (s .fits .low), toZ-ofZ w32 _ (s .fits .high)) (s .pre .0), turned-work (i .loop .inv), turned-ready (i .loop .inv) (s .pre .1) (omega arith))
 
 add-k : tie.Need-add-k Inv-loop μ-loop
 add-k c = search needs
@@ -46,19 +48,19 @@ same-length : tie.Need-same-length Inv-loop μ-loop
 same-length c =
     let i = c .before in
     let s = i .before .before .before .before .before .before .before .before in
-    turned-length (i .loop .inv) ∙ sym (s .pre .lengths .flow-length)
+    turned-length (i .loop .inv) ∙ sym (s .pre .1 .lengths .flow-length)
 
 same-length-2 : tie.Need-same-length-2 Inv-loop μ-loop
 same-length-2 c =
     let i = c .before in
     let s = i .before .before .before .before .before .before .before .before in
-    i .loop .inv .image-length ∙ sym (s .pre .lengths .image-length)
+    i .loop .inv .image-length ∙ sym (s .pre .1 .lengths .image-length)
 
 same-length-3 : tie.Need-same-length-3 Inv-loop μ-loop
 same-length-3 c =
     let i = c .before in
     let s = i .before .before .before .before .before .before .before .before in
-    turned-work (i .loop .inv) ∙ ap (λ (n : ℕ). 2 * n) (same-length c) ∙ sym (s .pre .work-length)
+    turned-work (i .loop .inv) ∙ ap (λ (n : ℕ). 2 * n) (same-length c) ∙ sym (s .pre .1 .work-length)
 
 returns : tie.Need-returns Inv-loop μ-loop
 returns c =

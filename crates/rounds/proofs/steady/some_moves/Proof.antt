@@ -5,6 +5,7 @@ use native.Mathlib.Omega.{arith}
 use borrow.Author.Needs.{needs}
 use borrow.Author.Tests.{lt-ltb, le-ltb}
 use mir.Syntax.{w32}
+use mir.ValLaws.{toZ-ofZ}
 use Rattle.integers.proofs.Machine.{read}
 use Rattle.model.specs.Lists.{at}
 use Rattle.model.specs.Problem.{pairCount}
@@ -13,14 +14,14 @@ use Rattle.model.specs.Rounds.{nearestEighth, firstMoving}
 use Rattle.model.specs.Calls.{imageOf}
 use Rattle.runs.specs.Run.{movingOf}
 use Rattle.runs.specs.Limits.{Within}
-use Rattle.raster.proofs.Model.{moving-is}
+use Rattle.raster.proofs.Model.{image-is, moving-is}
 use Rattle.runs.proofs.Moving.{one-moves, nothing-moves}
-use Rattle.rounds.proofs.Passes.{fill-limits, grid-limits, filled-is}
+use Rattle.rounds.proofs.Passes.{fill-limits, grid-limits}
 use Rattle.rounds.proofs.steady.some_moves.Statement.{statement}
 use Rattle.rounds.proofs.steady.some_moves.Tie as tie
 
 flow-most : (c : tie.Start) → Within (2 ^ 20) (c .args .flow .now)
-flow-most c i = omega (arith, c .pre .flow-most i, c .pre .limits .weight-most)
+flow-most c i = omega (arith, c .pre .1 .flow-most i, c .pre .1 .limits .weight-most)
 
 cast-w : tie.Need-cast-w
 cast-w c = search needs
@@ -28,25 +29,18 @@ cast-w c = search needs
 cast-h : tie.Need-cast-h
 cast-h c = search needs
 
-low-end-requires : tie.Need-low-end-requires
-low-end-requires c κs = search needs
-
-high-end-requires : tie.Need-high-end-requires
-high-end-requires c κs = search needs
-
 fill-image-requires : tie.Need-fill-image-requires
 fill-image-requires c κs =
-    let s = c .before .before .before .before .before .before in
-    fill-limits (s .args .t) (s .args .samples .now) (s .pre .limits) (s .pre .lengths .flow-length) (flow-most s) (s .pre .lengths .samples-length) (s .pre .lengths .image-length)
+    let s = c .before .before .before .before in
+    fill-limits (s .args .t) (s .args .samples .now) (s .pre .1 .limits) (s .pre .1 .lengths .flow-length) (flow-most s) (s .pre .1 .lengths .samples-length) (s .pre .1 .lengths .image-length)
 
 -- the image of the flow
-image-filled : (c : tie.After-fill-image) → let s = c .before .before .before .before .before .before .before in
+image-filled : (c : tie.After-fill-image) → let s = c .before .before .before .before .before in
     c .fill-image .last .0 ≡ imageOf (s .args .t) (s .args .samples .now) (s .args .flow .now)
 image-filled c =
-    let s = c .before .before .before .before .before .before .before in
-    let l = c .before .before .low-end in
-    let h = c .before .high-end in
-    filled-is (s .args .t) (s .args .samples .now) (s .args .flow .now) (c .fill-image .ensures) (read w32 (l .ok) ∙ l .ensures) (read w32 (h .ok) ∙ h .ensures)
+    let s = c .before .before .before .before .before in
+    rw (toZ-ofZ w32 _ (s .fits .low), toZ-ofZ w32 _ (s .fits .high)) at (c .fill-image .ensures)
+    ∙ image-is (s .args .t) (s .args .samples .now) (s .args .flow .now) (s .pre .0)
 
 natural-requires : tie.Need-natural-requires
 natural-requires c κs = search needs
@@ -54,10 +48,10 @@ natural-requires c κs = search needs
 first-moving-grid-requires : tie.Need-first-moving-grid-requires
 first-moving-grid-requires c κs =
     let f = c .before .before .before in
-    let s = f .before .before .before .before .before .before .before in
-    let k = f .before .before .before .before .before .struct-known .given in
+    let s = f .before .before .before .before .before in
+    let k = f .before .before .before .struct-known .given in
     rw (read w32 (c .natural .ok), c .natural .ensures)
-    (grid-limits (s .args .t) (s .args .samples .now) (s .pre .limits) (s .pre .lengths .flow-length) (flow-most s) (k .1 .1 .1 .0 .fits) (k .1 .1 .1 .1 .0 .fits) (image-filled f))
+    (grid-limits (s .args .t) (s .args .samples .now) (s .pre .1 .limits) (s .pre .1 .lengths .flow-length) (flow-most s) (k .1 .1 .1 .0 .fits) (k .1 .1 .1 .1 .0 .fits) (image-filled f))
 
 -- how many pairs there are, and the first that would move
 abbrev count : tie.Start → ℕ
@@ -68,13 +62,13 @@ first s = firstMoving nearestEighth (grid (s .args .t) (s .args .samples .now)) 
 
 -- the answer of the search
 answer-is : (c : tie.After-first-moving-grid) →
-    let s = c .before .before .before .before .before .before .before .before .before .before .before in
+    let s = c .before .before .before .before .before .before .before .before .before in
     c .first-moving-grid .result ≡ movingOf (count s) (first s)
 answer-is c =
     let n = c .before .natural in
     let f = c .before .before .before .before in
-    let s = f .before .before .before .before .before .before .before in
-    rw (read w32 (n .ok), n .ensures, s .pre .lengths .flow-length) at (c .first-moving-grid .ensures)
+    let s = f .before .before .before .before .before in
+    rw (read w32 (n .ok), n .ensures, s .pre .1 .lengths .flow-length) at (c .first-moving-grid .ensures)
     ∙ ap (movingOf (count s)) (moving-is (s .args .t) (s .args .samples .now) (s .args .flow .now) (image-filled f) nearestEighth)
 
 enum-told : tie.Need-enum-told
@@ -90,7 +84,7 @@ returns : tie.Need-returns
 returns c =
     let m = c .before .before in
     let f = m .before .before .before .before in
-    let s = f .before .before .before .before .before .before .before in (
+    let s = f .before .before .before .before .before in (
       image-filled f,
       sym (lt-ltb (first s) (count s) (one-moves (count s) (first s) (answer-is m) (c .enum-told .given .1))),
     )
@@ -102,7 +96,7 @@ returns-2 : tie.Need-returns-2
 returns-2 c =
     let m = c .before .before in
     let f = m .before .before .before .before in
-    let s = f .before .before .before .before .before .before .before in (
+    let s = f .before .before .before .before .before in (
       image-filled f,
       sym (le-ltb (first s) (count s) (nothing-moves (count s) (first s) (answer-is m) (c .enum-told2 .given .1))),
     )
@@ -113,8 +107,6 @@ some-moves-spec =
     (tie.spec
     cast-w
     cast-h
-    low-end-requires
-    high-end-requires
     fill-image-requires
     natural-requires
     first-moving-grid-requires

@@ -9,6 +9,7 @@ use borrow.Author.Needs.{needs}
 use borrow.Author.Tests.{leb-true, leb-false, not-true, not-false}
 use lib.IntN.{ℤ}
 use mir.Syntax.{w32}
+use mir.ValLaws.{toZ-ofZ}
 use Rattle.integers.proofs.Machine.{read}
 use Rattle.model.specs.Grid.{grid}
 use Rattle.model.specs.Rounds.{nearestEighth, step, Steady}
@@ -21,11 +22,11 @@ use Rattle.rounds.proofs.steady.steady_rounds.Statement.{statement}
 use Rattle.rounds.proofs.steady.steady_rounds.Tie as tie
 
 abbrev Inv-loop : tie.InvT-loop
-Inv-loop t allowance samples flow₀ image₀ w h weight most moved₀ flow image moved =
+Inv-loop t low high allowance samples flow₀ image₀ w h weight most moved₀ flow image moved =
     SteadyReady t samples flow image × Rested nearestEighth (grid t samples) allowance flow₀ moved flow
 
 abbrev μ-loop : tie.MeasureT-loop
-μ-loop t allowance samples flow₀ image₀ w h weight most moved₀ flow image moved = allowance - moved
+μ-loop t low high allowance samples flow₀ image₀ w h weight most moved₀ flow image moved = allowance - moved
 
 cast-w : tie.Need-cast-w Inv-loop μ-loop
 cast-w c = search needs
@@ -37,27 +38,30 @@ natural-requires : tie.Need-natural-requires Inv-loop μ-loop
 natural-requires c κs = search needs
 
 flow-most : (s : tie.Start Inv-loop μ-loop) (flow : List ℤ) → Within (s .args .t .weight) flow → Within (2 ^ 20) flow
-flow-most s flow h i = omega (arith, h i, s .pre .limits .weight-most)
+flow-most s flow h i = omega (arith, h i, s .pre .1 .limits .weight-most)
 
 loop-holds : tie.Need-loop-holds Inv-loop μ-loop
 loop-holds c =
     let s = c .before .before .before .before in
-    (s .pre, rested-none nearestEighth (grid (s .args .t) (s .args .samples .now)) (s .args .allowance) (s .args .flow .now))
+    (s .pre .1, rested-none nearestEighth (grid (s .args .t) (s .args .samples .now)) (s .args .allowance) (s .args .flow .now))
 
 some-moves-requires : tie.Need-some-moves-requires Inv-loop μ-loop
-some-moves-requires c κs = c .before .before .loop .inv .0
+some-moves-requires c κs =
+    let i = c .before .before in
+    let s = i .before .before .before .before .before in
+    (rw (toZ-ofZ w32 _ (s .fits .low), toZ-ofZ w32 _ (s .fits .high)) (s .pre .0), i .loop .inv .0)
 
 same-length : tie.Need-same-length Inv-loop μ-loop
 same-length c =
     let i = c .before .before .before .before .before in
     let s = i .before .before .before .before .before in
-    i .loop .inv .0 .lengths .flow-length ∙ sym (s .pre .lengths .flow-length)
+    i .loop .inv .0 .lengths .flow-length ∙ sym (s .pre .1 .lengths .flow-length)
 
 same-length-2 : tie.Need-same-length-2 Inv-loop μ-loop
 same-length-2 c =
     let i = c .before .before .before .before .before in
     let s = i .before .before .before .before .before in
-    image-size (s .args .t) (s .args .samples .now) (i .loop .flow) (c .before .before .some-moves .ensures .0) ∙ sym (s .pre .lengths .image-length)
+    image-size (s .args .t) (s .args .samples .now) (i .loop .flow) (c .before .before .some-moves .ensures .0) ∙ sym (s .pre .1 .lengths .image-length)
 
 -- the loop is left where no pair would move, or with the allowance used up
 over : (c : tie.Joined1 Inv-loop μ-loop) →
@@ -87,7 +91,7 @@ step-grid-requires c κs =
     let n = i .before in
     let k = n .before .before .struct-known .given in
     rw (read w32 (n .natural .ok), n .natural .ensures)
-    (grid-limits (s .args .t) (s .args .samples .now) (s .pre .limits) (i .loop .inv .0 .lengths .flow-length) (flow-most s (i .loop .flow) (i .loop .inv .0 .flow-most)) (k .1 .1 .1 .0 .fits) (k .1 .1 .1 .1 .0 .fits) (m .some-moves .ensures .0))
+    (grid-limits (s .args .t) (s .args .samples .now) (s .pre .1 .limits) (i .loop .inv .0 .lengths .flow-length) (flow-most s (i .loop .flow) (i .loop .inv .0 .flow-most)) (k .1 .1 .1 .0 .fits) (k .1 .1 .1 .1 .0 .fits) (m .some-moves .ensures .0))
 
 -- a step on the flow
 stepped : (c : tie.After-step-grid Inv-loop μ-loop) →

@@ -15,7 +15,7 @@ use Rattle.model.specs.Lists.{at}
 use Rattle.runs.specs.Row.{rowValue}
 use Rattle.runs.proofs.Elements.{element}
 use Rattle.runs.proofs.Fill.{Filling, filling-none, filling-more, filling-all}
-use Rattle.runs.proofs.Columns.{column-limits}
+use Rattle.runs.proofs.Columns.{column-limits, clamped-between}
 use Rattle.runs.proofs.row.image_row.Statement.{statement}
 use Rattle.runs.proofs.row.image_row.Tie as tie
 
@@ -92,10 +92,13 @@ returns c =
     let s = c .before .before .before .before .before in
     let l = c .before .before .before .loop in
     let past : at (s .args .across .now) (l .c) ≡ pos 0 = List·getD-eq-default (s .args .across .now) (pos 0) (omega arith) in
+    let row =
     rw (toZ-ofZ w32 _ (s .fits .low), toZ-ofZ w32 _ (s .fits .high))
     at (filling-all
     (filling-more (l .inv .1) {x = toZ w32 (ofZ w32 (c .column-value2 .result))} (omega (arith, s .pre)) (rw (read w32 {r = c .column-value2 .result} (c .column-value2 .ok), c .column-value2 .ensures, past, l .inv .2)))
     (omega (arith, s .pre)))
+    in
+    (row, λ o. rw row (clamped-between o (length (s .args .row .now)) _))
 
 pub image-row-spec : {M : Type 1} → statement M
 image-row-spec =
