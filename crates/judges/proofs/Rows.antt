@@ -1,5 +1,5 @@
 -- The rows of a call's table: those of the terms, then those below them, whose lengths are counted for an allowed size; and
--- the row of 9, for the ends of the box. Assumes nothing.
+-- the rows of a price, for the ends of the box. Assumes nothing.
 use mathlib.Core.Path.{_≡_, refl, sym, ap, ap₂, _∙_}
 use mathlib.Core.Bool.{Bool, true, false, not, cond}
 use mathlib.Core.List.{List, [], _∷_, _++_}
@@ -7,11 +7,12 @@ use Prim.Native.Nat.{ℕ, _≤_}
 use native.Mathlib.Omega.{arith}
 use lib.Dec.{eqb}
 use lib.IntN.{ℤ}
+use lib.ListN.{length}
 use Rattle.model.specs.declared.Terms.{Terms}
 use Rattle.model.specs.declared.Verdict.{Verdict}
 use Rattle.model.specs.Grid.{sizeAllowed}
 use Rattle.model.specs.Verdict.{Row, row, firstRefusal, decided}
-use Rattle.model.specs.Calls.{pixelsOf, pairsOf, sizeRow, weightRow, boxRow, firstOutside, imageRow}
+use Rattle.model.specs.Calls.{pixelsOf, pairsOf, sizeRow, weightRow, boxRow, firstOutside, priceVerdict}
 use Rattle.model.proofs.Refusals.{firstRefusal-append}
 use Rattle.terms.proofs.Size.{allowed-size}
 use Rattle.terms.proofs.Accepted.{accepted-size}
@@ -61,7 +62,12 @@ module _ (t : Terms) where
       go Verdict.Accept h = g (accepted-size t h)
       go (Verdict.Refuse number place) h = refl
 
-  -- for the ends of the box, the row of 9 is the model's
-  pub outside-is : (values : List ℤ) {low high : ℤ} → BoxEnds t low high → outsideRow low high values ≡ imageRow t values
-  unfolding firstOutside
-  outside-is values ends = ap₂ (λ (a b : ℤ). outsideRow a b values) (ends .low-is) (ends .high-is)
+  -- the rows of a price, for the ends of the box: the model's verdict
+  pub price-verdict : (samples : List ℕ) (values : List ℤ) {low high : ℤ} → BoxEnds t low high →
+      firstRefusal (termsRows ++ (exactRow 4 (length samples) (pixelsOf t) ∷ exactRow 6 (length values) (pixelsOf t) ∷ outsideRow low high values ∷ []))
+      ≡ priceVerdict t samples values
+  unfolding firstOutside priceVerdict
+  price-verdict samples values ends =
+      ap₂
+      (λ (a b : ℤ). firstRefusal (termsRows ++ (exactRow 4 (length samples) (pixelsOf t) ∷ exactRow 6 (length values) (pixelsOf t) ∷ outsideRow a b values ∷ [])))
+      (ends .low-is) (ends .high-is)

@@ -1,4 +1,4 @@
--- The row of 9 for any two ends, in sub-units. For the ends of the box it is the model's `imageRow` (proofs/Rows.antt).
+-- The row of 9 for any two ends, in sub-units. For the ends of the box it is the row of the model (proofs/Rows.antt).
 use mathlib.Core.List.{List}
 use lib.Dec.{ltb}
 use lib.IntN.{ℤ}

@@ -1,9 +1,10 @@
 -- `judges::judge_image` meets its contract. Assumes nothing.
-use mathlib.Core.Path.{_≡_, sym, ap, subst, _∙_}
+use mathlib.Core.Path.{_≡_, sym, ap, ap₂, subst, _∙_}
 use mathlib.Core.List.{[]}
 use Prim.Native.Nat.{ℕ, _<_, _≤_}
 use borrow.Author.Needs.{needs}
 use borrow.Author.Tests.{lt-ltb, le-ltb}
+use lib.IntN.{ℤ}
 use lib.ListN.{length}
 use mir.Syntax.{w32}
 use mir.ValLaws.{toZ-ofZ}
@@ -21,7 +22,8 @@ found : (c : tie.After-first-outside) → let a = c .before .args in
     c .first-outside .result ≡ firstOutsideEnds (a .low) (a .high) (a .image .now)
 found c =
     let s = c .before in
-    rw (toZ-ofZ w32 _ (s .fits .low), toZ-ofZ w32 _ (s .fits .high)) at (c .first-outside .ensures)
+    c .first-outside .ensures
+    ∙ ap₂ (λ (a b : ℤ). firstOutsideEnds a b (s .args .image .now)) (toZ-ofZ w32 _ (s .fits .low)) (toZ-ofZ w32 _ (s .fits .high))
 
 returns : tie.Need-returns
 returns c =

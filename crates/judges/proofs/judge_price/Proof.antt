@@ -1,7 +1,8 @@
 -- `judges::judge_price` meets its contract. Assumes nothing.
-use mathlib.Core.Path.{_≡_, ap, _∙_}
+use mathlib.Core.Path.{_≡_, ap, ap₂, _∙_}
 use mathlib.Core.List.{List, [], _∷_, _++_}
 use Prim.Native.Nat.{ℕ}
+use lib.IntN.{ℤ}
 use lib.ListN.{length}
 use mir.Syntax.{w32}
 use mir.ValLaws.{toZ-ofZ}
@@ -77,7 +78,9 @@ returns-2 c =
     let s = first .before .before .before .before .before .before in
     let a = s .args in
     went-on (rows (a .t) (a .samples) (length (a .image .now))) (outsideRow (a .low) (a .high) (a .image .now) ∷ []) (judged first)
-    (c .before .enum-told .given .1) (rw (toZ-ofZ w32 _ (s .fits .low), toZ-ofZ w32 _ (s .fits .high)) at (c .judge-image .ensures))
+    (c .before .enum-told .given .1)
+    (c .judge-image .ensures
+    ∙ ap₂ (λ (x y : ℤ). firstRefusal (outsideRow x y (a .image .now) ∷ [])) (toZ-ofZ w32 _ (s .fits .low)) (toZ-ofZ w32 _ (s .fits .high)))
 
 pub judge-price-spec : {M : Type 1} → statement M
 judge-price-spec =

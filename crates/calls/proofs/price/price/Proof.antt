@@ -8,7 +8,7 @@ use Rattle.model.specs.declared.Verdict.{Verdict}
 use Rattle.model.specs.Calls.{figures, checked, priceVerdict}
 use Rattle.model.proofs.Answers.{price-answer}
 use Rattle.model.proofs.Accepted.{told, price-inside, price-accepted, price-number}
-use Rattle.judges.proofs.Rows.{outside-is}
+use Rattle.judges.proofs.Rows.{price-verdict}
 use Rattle.calls.proofs.price.price.Statement.{statement}
 use Rattle.calls.proofs.price.price.Tie as tie
 
@@ -24,15 +24,13 @@ judge-price-requires c κs = search needs
 -- the verdict, by the ends of the box
 judged : (c : tie.After-judge-price) → let s = c .before .before .before .before in
     c .judge-price .result ≡ priceVerdict (s .args .t) (s .args .samples .now) (s .args .image .now)
-unfolding priceVerdict
 judged c =
     let high = c .before in
     let low = high .before in
     let s = low .before .before in
-    let t = s .args .t in
-    rw (outside-is t (s .args .image .now)
-    (record { low-is = read w32 (low .low-end .ok) ∙ low .low-end .ensures; high-is = read w32 (high .high-end .ok) ∙ high .high-end .ensures }))
-    at (c .judge-price .ensures)
+    c .judge-price .ensures
+    ∙ price-verdict (s .args .t) (s .args .samples .now) (s .args .image .now)
+    (record { low-is = read w32 (low .low-end .ok) ∙ low .low-end .ensures; high-is = read w32 (high .high-end .ok) ∙ high .high-end .ensures })
 
 enum-known-verdict : tie.Need-enum-known-verdict
 enum-known-verdict c = search needs
