@@ -23,17 +23,11 @@ pub fn check(t: Terms, samples: &[u8], flow: &[i32], image: &mut [i32]) -> Answe
     if let Verdict::Refuse { number, place } = verdict {
         return Answer::Refused { number, place };
     }
+    let w = t.width as usize;
+    let h = t.height as usize;
     let low = pixel::low_end(t.low);
     let high = pixel::high_end(t.high);
-    fill_image(
-        image,
-        samples,
-        flow,
-        t.width as usize,
-        t.height as usize,
-        low,
-        high,
-    );
+    fill_image(image, samples, flow, w, h, low, high);
     let f = figures::of_flow(t, samples, flow, image);
     Answer::Checked {
         price: f.price,

@@ -96,7 +96,7 @@ pub fn judge_check(t: Terms, samples: usize, flow: &[i32], image: usize) -> Verd
     judge_flow(flow, t.weight)
 }
 
-// 9: an image value outside two ends, which are those of the box, at the first index.
+// 9: an image value outside the two ends that it is handed, at the first index.
 fn judge_image(image: &[i32], low: i32, high: i32) -> Verdict
     ensures { λ r. ⌜ r ≡ firstRefusal (outsideRow low high (now (image .entry)) ∷ []) ⌝ }
 {

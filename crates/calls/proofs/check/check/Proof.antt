@@ -57,17 +57,17 @@ feasible c =
     let s = c .before .before .before .before in
     check-feasible (s .args .t) (s .args .samples .now) (s .args .flow .now) (s .args .image .now) (facts c)
 
+cast-w : tie.Need-cast-w
+cast-w c = search needs
+
+cast-h : tie.Need-cast-h
+cast-h c = search needs
+
 low-end-requires : tie.Need-low-end-requires
 low-end-requires c κs = search needs
 
 high-end-requires : tie.Need-high-end-requires
 high-end-requires c κs = search needs
-
-cast-fill-image : tie.Need-cast-fill-image
-cast-fill-image c = search needs
-
-cast-fill-image-2 : tie.Need-cast-fill-image-2
-cast-fill-image-2 c = search needs
 
 fill-image-requires : tie.Need-fill-image-requires
 fill-image-requires c κs =
@@ -88,9 +88,9 @@ fill-image-requires c κs =
 filled : (c : tie.After-fill-image) → let s = c .before .before .before .before .before .before .before .before .before .before in
     c .fill-image .last .0 ≡ imageOf (s .args .t) (s .args .samples .now) (s .args .flow .now)
 filled c =
-    let high = c .before .before .before .before in
+    let high = c .before .before in
     let low = high .before in
-    let s = low .before .before .before .before .before in
+    let s = low .before .before .before .before .before .before .before in
     c .fill-image .ensures
     ∙ image-is (s .args .t) (s .args .samples .now) (s .args .flow .now)
     (record { low-is = read w32 (low .low-end .ok) ∙ low .low-end .ensures; high-is = read w32 (high .high-end .ok) ∙ high .high-end .ensures })
@@ -136,10 +136,10 @@ check-spec =
     enum-known-verdict
     returns
     enum-told
+    cast-w
+    cast-h
     low-end-requires
     high-end-requires
-    cast-fill-image
-    cast-fill-image-2
     fill-image-requires
     of-flow-requires
     same-length
