@@ -1,2 +1,2 @@
--- The rows of the terms, then those below them.
+-- The rows of the terms, then those below them; and that the rows of a price are the model's.
 pub mod Rows

@@ -62,12 +62,13 @@ module _ (t : Terms) where
       go Verdict.Accept h = g (accepted-size t h)
       go (Verdict.Refuse number place) h = refl
 
-  -- the rows of a price, for the ends of the box: the model's verdict
-  pub price-verdict : (samples : List ℕ) (values : List ℤ) {low high : ℤ} → BoxEnds t low high →
-      firstRefusal (termsRows ++ (exactRow 4 (length samples) (pixelsOf t) ∷ exactRow 6 (length values) (pixelsOf t) ∷ outsideRow low high values ∷ []))
-      ≡ priceVerdict t samples values
-  unfolding firstOutside priceVerdict
-  price-verdict samples values ends =
-      ap₂
-      (λ (a b : ℤ). firstRefusal (termsRows ++ (exactRow 4 (length samples) (pixelsOf t) ∷ exactRow 6 (length values) (pixelsOf t) ∷ outsideRow a b values ∷ [])))
-      (ends .low-is) (ends .high-is)
+  module _ (samples : List ℕ) (values : List ℤ) where
+    -- the rows of a price, by two ends
+    abbrev priceRows : ℤ → ℤ → List Row
+    priceRows low high =
+        termsRows ++ (exactRow 4 (length samples) (pixelsOf t) ∷ exactRow 6 (length values) (pixelsOf t) ∷ outsideRow low high values ∷ [])
+
+    -- by those of the box they give the model's verdict
+    pub price-verdict : {low high : ℤ} → BoxEnds t low high → firstRefusal (priceRows low high) ≡ priceVerdict t samples values
+    unfolding firstOutside priceVerdict
+    price-verdict ends = ap₂ (λ (a b : ℤ). firstRefusal (priceRows a b)) (ends .low-is) (ends .high-is)

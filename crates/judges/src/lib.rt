@@ -96,7 +96,7 @@ pub fn judge_check(t: Terms, samples: usize, flow: &[i32], image: usize) -> Verd
     judge_flow(flow, t.weight)
 }
 
-// 9: an image value outside the two ends that it is handed, at the first index.
+// 9: an image value outside a range, which is the box for a price, at the first index.
 fn judge_image(image: &[i32], low: i32, high: i32) -> Verdict
     ensures { λ r. ⌜ r ≡ firstRefusal (outsideRow low high (now (image .entry)) ∷ []) ⌝ }
 {
@@ -108,8 +108,7 @@ fn judge_image(image: &[i32], low: i32, high: i32) -> Verdict
     }
 }
 
-// Price: 1, 2, 3; 4, 6; 9, by the two ends that it is handed. The image is read only where terms and lengths have
-// passed.
+// Price: 1, 2, 3; 4, 6; 9, by the ends that it is handed. The image is read only where terms and lengths have passed.
 pub fn judge_price(t: Terms, low: i32, high: i32, samples: usize, image: &[i32]) -> Verdict
     ensures { λ r. ⌜ r ≡ firstRefusal (sizeRow t 0 ∷ weightRow t 0 ∷ boxRow t 0 ∷ row (not (eqb samples (pixelsOf t))) 4 0 ∷ row (not (eqb (length (now (image .entry))) (pixelsOf t))) 6 0 ∷ outsideRow low high (now (image .entry)) ∷ []) ⌝ }
 {

@@ -1,4 +1,4 @@
--- A row of a flow's image: what the limits of a row say of a column, and that clamped values lie between the two ends. Assumes
+-- A row of a flow's image: what the limits of a row say of a column, and that clamped values lie within the range. Assumes
 -- nothing.
 use mathlib.Core.List.{List, _∷_}
 use Prim.Native.Nat.{ℕ, zero, suc, _^_, _≤_, _<_, zero-le}
@@ -30,7 +30,7 @@ module _ {row : List ℤ} {samples : List ℕ} {below above across : List ℤ} (
         left-most = within-cons across (l .across-most) c;
       }
 
--- a row of clamped values, for any two ends
+-- clamped values lie between the two ends, whichever these are
 pub clamped-between : {low high : ℤ} → low ≤ℤ high → (n : ℕ) (g : ℕ → ℤ) → Between low high (table n (λ c. clamp low high (g c)))
 clamped-between {low} {high} o n g i h =
     let l : i < n = rw (length-table n (λ c. clamp low high (g c))) at h in

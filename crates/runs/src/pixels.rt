@@ -8,7 +8,7 @@ ghost use Rattle.integers.specs.Whole.{square};
 ghost use Rattle.integers.specs.Sum.{total};
 ghost use Rattle.model.specs.Lists.{at};
 ghost use Rattle.model.specs.Grid.{readingOf};
-ghost use Rattle.runs.specs.Ends.{firstOutsideEnds};
+ghost use Rattle.runs.specs.Ends.{firstOutsideRange};
 ghost use Rattle.runs.specs.Limits.{MisfitLimits};
 
 // The data term: the sum of the squared differences of values and readings.
@@ -25,9 +25,9 @@ pub fn misfit(image: &[i32], samples: &[u8]) -> u64
     sum
 }
 
-// The first value outside the two ends that it is handed, or the number of values where none is.
+// The first value that lies outside a range, or their number where none does.
 pub fn first_outside(values: &[i32], low: i32, high: i32) -> usize
-    ensures { λ r. ⌜ r ≡ firstOutsideEnds low high (now (values .entry)) ⌝ }
+    ensures { λ r. ⌜ r ≡ firstOutsideRange low high (now (values .entry)) ⌝ }
 {
     let mut i = 0;
     while i < values.len() {

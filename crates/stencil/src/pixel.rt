@@ -26,7 +26,7 @@ pub fn squared_misfit(x: i32, s: u8) -> u64
     d * d
 }
 
-// Whether a value lies outside two ends.
+// Whether a value lies outside a range.
 pub fn outside(z: i32, low: i32, high: i32) -> bool
     ensures { λ r. ⌜ r ≡ (ltZ z low || ltZ high z) ⌝ }
 {
@@ -34,7 +34,7 @@ pub fn outside(z: i32, low: i32, high: i32) -> bool
 }
 
 // A pixel of a flow's image, from its reading b and the numbers of its pairs with the pixels
-// around it, clamped to two ends.
+// around it.
 pub fn pixel_value(
     b: i32,
     below: i32,
@@ -51,8 +51,7 @@ pub fn pixel_value(
     signed::clamped(signed::sub(b, pull), low, high)
 }
 
-// The lower end of the box, in sub-units: the first of its lowest level. A call works out both ends once, and hands
-// them to the passes as numbers.
+// The lower end of the box, in sub-units: the first of its lowest level.
 pub fn low_end(low: u8) -> i32
     ensures { λ r. ⌜ r ≡ lowEnd low ⌝ }
 {

@@ -10,7 +10,7 @@ use mir.Syntax.{w32}
 use mir.ValLaws.{toZ-ofZ}
 use Rattle.model.specs.declared.Verdict.{Verdict}
 use Rattle.model.proofs.Refusals.{accepted, refused, passed}
-use Rattle.runs.specs.Ends.{firstOutsideEnds}
+use Rattle.runs.specs.Ends.{firstOutsideRange}
 use Rattle.judges.proofs.judge_image.Statement.{statement}
 use Rattle.judges.proofs.judge_image.Tie as tie
 
@@ -19,11 +19,11 @@ first-outside-requires c κs = search needs
 
 -- the search is for the ends that were handed
 found : (c : tie.After-first-outside) → let a = c .before .args in
-    c .first-outside .result ≡ firstOutsideEnds (a .low) (a .high) (a .image .now)
+    c .first-outside .result ≡ firstOutsideRange (a .low) (a .high) (a .image .now)
 found c =
     let s = c .before in
     c .first-outside .ensures
-    ∙ ap₂ (λ (a b : ℤ). firstOutsideEnds a b (s .args .image .now)) (toZ-ofZ w32 _ (s .fits .low)) (toZ-ofZ w32 _ (s .fits .high))
+    ∙ ap₂ (λ (a b : ℤ). firstOutsideRange a b (s .args .image .now)) (toZ-ofZ w32 _ (s .fits .low)) (toZ-ofZ w32 _ (s .fits .high))
 
 returns : tie.Need-returns
 returns c =
