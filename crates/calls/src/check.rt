@@ -25,9 +25,9 @@ pub fn check(t: Terms, samples: &[u8], flow: &[i32], image: &mut [i32]) -> Answe
     }
     let w = t.width as usize;
     let h = t.height as usize;
-    let low = pixel::low_end(t.low);
-    let high = pixel::high_end(t.high);
-    fill_image(image, samples, flow, w, h, low, high);
+    let lower = pixel::low_end(t.low);
+    let upper = pixel::high_end(t.high);
+    fill_image(image, samples, flow, w, h, lower, upper);
     let f = figures::of_flow(t, samples, flow, image);
     Answer::Checked {
         price: f.price,

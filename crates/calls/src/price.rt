@@ -15,9 +15,9 @@ pub fn price(t: Terms, samples: &[u8], image: &[i32]) -> Answer
     ensures { λ r. ⌜ answerOf r ≡ priceAnswer t (now (samples .entry)) (now (image .entry)) ⌝ }
     ensures { λ r. ⌜ ((answerOf r .number ≡ 0) ↔ PriceAllowed t (now (samples .entry)) (now (image .entry))) ⌝ }
 {
-    let low = pixel::low_end(t.low);
-    let high = pixel::high_end(t.high);
-    let verdict = judges::judge_price(t, low, high, samples.len(), image);
+    let lower = pixel::low_end(t.low);
+    let upper = pixel::high_end(t.high);
+    let verdict = judges::judge_price(t, lower, upper, samples.len(), image);
     if let Verdict::Refuse { number, place } = verdict {
         return Answer::Refused { number, place };
     }

@@ -42,11 +42,11 @@ pub fn run(
     if let Verdict::Refuse { number, place } = verdict {
         return Answer::Refused { number, place };
     }
-    let low = pixel::low_end(t.low);
-    let high = pixel::high_end(t.high);
-    quick_rounds(t, low, high, r.quick, samples, flow, image, work);
+    let lower = pixel::low_end(t.low);
+    let upper = pixel::high_end(t.high);
+    quick_rounds(t, lower, upper, r.quick, samples, flow, image, work);
     buffers::clear(work);
-    let end = steady_rounds(t, low, high, r.allowance, samples, flow, image);
+    let end = steady_rounds(t, lower, upper, r.allowance, samples, flow, image);
     let f = figures::of_flow(t, samples, flow, image);
     if end.settled {
         Answer::Settled {

@@ -15,13 +15,13 @@ ghost use Rattle.judges.specs.Lengths.{pixelsDue, pairsDue, lengthRows};
 ghost use Rattle.judges.specs.Outside.{outsideRow};
 
 // The first of two verdicts that refuses.
-fn first(upper: Verdict, lower: Verdict) -> Verdict
-    ensures { λ r. ⌜ r ≡ decided upper lower Verdict.Refuse ⌝ }
+fn first(above: Verdict, below: Verdict) -> Verdict
+    ensures { λ r. ⌜ r ≡ decided above below Verdict.Refuse ⌝ }
 {
-    let Verdict::Accept = upper else {
-        return upper;
+    let Verdict::Accept = above else {
+        return above;
     };
-    lower
+    below
 }
 
 // A lent length, which must be exact.
@@ -86,21 +86,21 @@ fn judge_flow(flow: &[i32], weight: u32) -> Verdict
 pub fn judge_check(t: Terms, samples: usize, flow: &[i32], image: usize) -> Verdict
     ensures { λ r. ⌜ r ≡ firstRefusal (sizeRow t 0 ∷ weightRow t 0 ∷ boxRow t 0 ∷ row (not (eqb samples (pixelsOf t))) 4 0 ∷ row (not (eqb (length (now (flow .entry))) (pairsOf t))) 5 0 ∷ row (not (eqb image (pixelsOf t))) 6 0 ∷ flowRow (t .weight) (now (flow .entry)) ∷ []) ⌝ }
 {
-    let upper = first(
+    let above = first(
         terms::judge_terms(t),
         judge_lengths(t, samples, flow.len(), image),
     );
-    let Verdict::Accept = upper else {
-        return upper;
+    let Verdict::Accept = above else {
+        return above;
     };
     judge_flow(flow, t.weight)
 }
 
 // 9: an image value outside a range, which is the box for a price, at the first index.
-fn judge_image(image: &[i32], low: i32, high: i32) -> Verdict
-    ensures { λ r. ⌜ r ≡ firstRefusal (outsideRow low high (now (image .entry)) ∷ []) ⌝ }
+fn judge_image(image: &[i32], lower: i32, upper: i32) -> Verdict
+    ensures { λ r. ⌜ r ≡ firstRefusal (outsideRow lower upper (now (image .entry)) ∷ []) ⌝ }
 {
-    let place = first_outside(image, low, high);
+    let place = first_outside(image, lower, upper);
     if place < image.len() {
         Verdict::Refuse { number: 9, place }
     } else {
@@ -109,16 +109,16 @@ fn judge_image(image: &[i32], low: i32, high: i32) -> Verdict
 }
 
 // Price: 1, 2, 3; 4, 6; 9, by the ends that it is handed. The image is read only where terms and lengths have passed.
-pub fn judge_price(t: Terms, low: i32, high: i32, samples: usize, image: &[i32]) -> Verdict
-    ensures { λ r. ⌜ r ≡ firstRefusal (sizeRow t 0 ∷ weightRow t 0 ∷ boxRow t 0 ∷ row (not (eqb samples (pixelsOf t))) 4 0 ∷ row (not (eqb (length (now (image .entry))) (pixelsOf t))) 6 0 ∷ outsideRow low high (now (image .entry)) ∷ []) ⌝ }
+pub fn judge_price(t: Terms, lower: i32, upper: i32, samples: usize, image: &[i32]) -> Verdict
+    ensures { λ r. ⌜ r ≡ firstRefusal (sizeRow t 0 ∷ weightRow t 0 ∷ boxRow t 0 ∷ row (not (eqb samples (pixelsOf t))) 4 0 ∷ row (not (eqb (length (now (image .entry))) (pixelsOf t))) 6 0 ∷ outsideRow lower upper (now (image .entry)) ∷ []) ⌝ }
 {
     let n = lengths_due(t).pixels;
     let lengths = first(exact(samples, n, 4), exact(image.len(), n, 6));
-    let upper = first(terms::judge_terms(t), lengths);
-    let Verdict::Accept = upper else {
-        return upper;
+    let above = first(terms::judge_terms(t), lengths);
+    let Verdict::Accept = above else {
+        return above;
     };
-    judge_image(image, low, high)
+    judge_image(image, lower, upper)
 }
 
 // 10: quick rounds over 4,096.

@@ -21,15 +21,15 @@ ghost use Rattle.rounds.specs.Left.{quickWork, quickImage};
 // Gives the next T.
 fn advance_round(
     t: Terms,
-    low: i32,
-    high: i32,
+    lower: i32,
+    upper: i32,
     samples: &[u8],
     flow: &mut [i32],
     ahead: &mut [i32],
     image: &mut [i32],
     momentum: u64,
 ) -> u64
-    requires { ⌜ BoxEnds t low high × QuickReady t (now samples) (now flow) (now ahead) (now image) momentum ⌝ }
+    requires { ⌜ BoxEnds t lower upper × QuickReady t (now samples) (now flow) (now ahead) (now image) momentum ⌝ }
     ensures { λ _. ⌜ now (flow .exit) ≡ quickRound eighth (grid t (now (samples .entry))) (held (now (flow .entry)) (now (ahead .entry)) momentum) .iterate ⌝ }
     ensures { λ _. ⌜ now (ahead .exit) ≡ quickRound eighth (grid t (now (samples .entry))) (held (now (flow .entry)) (now (ahead .entry)) momentum) .extrapolated ⌝ }
     ensures { λ r. ⌜ r ≡ quickRound eighth (grid t (now (samples .entry))) (held (now (flow .entry)) (now (ahead .entry)) momentum) .momentum ⌝ }
@@ -37,7 +37,7 @@ fn advance_round(
 {
     let w = t.width as usize;
     let h = t.height as usize;
-    fill_image(image, samples, ahead, w, h, low, high);
+    fill_image(image, samples, ahead, w, h, lower, upper);
     let next = momentum::next_momentum(momentum);
     let factor = momentum::reciprocal(momentum - 65536, next);
     advance_grid(flow, ahead, image, w, h, signed::natural(t.weight), factor);
@@ -48,15 +48,15 @@ fn advance_round(
 // its second half, from the pair count on, holds the numbers ahead.
 fn quick_round(
     t: Terms,
-    low: i32,
-    high: i32,
+    lower: i32,
+    upper: i32,
     samples: &[u8],
     flow: &mut [i32],
     image: &mut [i32],
     work: &mut [i32],
     momentum: u64,
 ) -> u64
-    requires { ⌜ BoxEnds t low high × (length (now work) ≡ 2 * length (now flow)) × QuickReady t (now samples) (now flow) (drop (length (now flow)) (now work)) (now image) momentum ⌝ }
+    requires { ⌜ BoxEnds t lower upper × (length (now work) ≡ 2 * length (now flow)) × QuickReady t (now samples) (now flow) (drop (length (now flow)) (now work)) (now image) momentum ⌝ }
     ensures { λ _. ⌜ now (flow .exit) ≡ quickRound eighth (grid t (now (samples .entry))) (held (now (flow .entry)) (drop (length (now (flow .entry))) (now (work .entry))) momentum) .iterate ⌝ }
     ensures { λ _. ⌜ now (work .exit) ≡ now (flow .entry) ++ quickRound eighth (grid t (now (samples .entry))) (held (now (flow .entry)) (drop (length (now (flow .entry))) (now (work .entry))) momentum) .extrapolated ⌝ }
     ensures { λ r. ⌜ r ≡ quickRound eighth (grid t (now (samples .entry))) (held (now (flow .entry)) (drop (length (now (flow .entry))) (now (work .entry))) momentum) .momentum ⌝ }
@@ -64,22 +64,31 @@ fn quick_round(
 {
     let m = flow.len();
     buffers::copy(&mut work[..m], flow);
-    advance_round(t, low, high, samples, flow, &mut work[m..], image, momentum)
+    advance_round(
+        t,
+        lower,
+        upper,
+        samples,
+        flow,
+        &mut work[m..],
+        image,
+        momentum,
+    )
 }
 
 // Quick rounds from the start, P = R = 0 and T = 65,536: the flow gets P, the work buffer the earlier P
 // and the R ahead.
 pub fn quick_rounds(
     t: Terms,
-    low: i32,
-    high: i32,
+    lower: i32,
+    upper: i32,
     quick: u32,
     samples: &[u8],
     flow: &mut [i32],
     image: &mut [i32],
     work: &mut [i32],
 )
-    requires { ⌜ BoxEnds t low high × QuickJob t quick (now samples) (now flow) (now image) (now work) ⌝ }
+    requires { ⌜ BoxEnds t lower upper × QuickJob t quick (now samples) (now flow) (now image) (now work) ⌝ }
     ensures { λ _. ⌜ now (flow .exit) ≡ quickRounds eighth (grid t (now (samples .entry))) quick .iterate ⌝ }
     ensures { λ _. ⌜ now (image .exit) ≡ quickImage t (now (samples .entry)) quick (now (image .entry)) ⌝ }
     ensures { λ _. ⌜ now (work .exit) ≡ quickWork (grid t (now (samples .entry))) quick ⌝ }
@@ -89,7 +98,7 @@ pub fn quick_rounds(
     let mut momentum = 65536;
     let mut k = 0;
     while k < quick {
-        momentum = quick_round(t, low, high, samples, flow, image, work, momentum);
+        momentum = quick_round(t, lower, upper, samples, flow, image, work, momentum);
         k += 1;
     }
 }

@@ -24,19 +24,19 @@ pub struct Steady {
 // The test before a round, on the image of the flow: whether some pair would move.
 fn some_moves(
     t: Terms,
-    low: i32,
-    high: i32,
+    lower: i32,
+    upper: i32,
     samples: &[u8],
     flow: &[i32],
     image: &mut [i32],
 ) -> bool
-    requires { ⌜ BoxEnds t low high × SteadyReady t (now samples) (now flow) (now image) ⌝ }
+    requires { ⌜ BoxEnds t lower upper × SteadyReady t (now samples) (now flow) (now image) ⌝ }
     ensures { λ _. ⌜ now (image .exit) ≡ imageOf t (now (samples .entry)) (now (flow .entry)) ⌝ }
     ensures { λ r. ⌜ r ≡ ltb (firstMoving nearestEighth (theGrid t (now (samples .entry))) (at (now (flow .entry)))) (pairCount (theGrid t (now (samples .entry)))) ⌝ }
 {
     let w = t.width as usize;
     let h = t.height as usize;
-    fill_image(image, samples, flow, w, h, low, high);
+    fill_image(image, samples, flow, w, h, lower, upper);
     let first = grid::first_moving_grid(flow, image, w, h, signed::natural(t.weight));
     match first {
         Moving::At(_) => true,
@@ -47,14 +47,14 @@ fn some_moves(
 // Steady rounds on the flow, and the image of the flow that they leave.
 pub fn steady_rounds(
     t: Terms,
-    low: i32,
-    high: i32,
+    lower: i32,
+    upper: i32,
     allowance: u16,
     samples: &[u8],
     flow: &mut [i32],
     image: &mut [i32],
 ) -> Steady
-    requires { ⌜ BoxEnds t low high × SteadyReady t (now samples) (now flow) (now image) ⌝ }
+    requires { ⌜ BoxEnds t lower upper × SteadyReady t (now samples) (now flow) (now image) ⌝ }
     ensures { λ _. ⌜ now (flow .exit) ≡ steadyRounds nearestEighth (theGrid t (now (samples .entry))) allowance (now (flow .entry)) .flow ⌝ }
     ensures { λ _. ⌜ now (image .exit) ≡ imageOf t (now (samples .entry)) (now (flow .exit)) ⌝ }
     ensures { λ r. ⌜ r .moved ≡ steadyRounds nearestEighth (theGrid t (now (samples .entry))) allowance (now (flow .entry)) .moved ⌝ }
@@ -66,7 +66,7 @@ pub fn steady_rounds(
     let most = allowance as u32;
     let mut moved: u32 = 0;
     loop {
-        let moving = some_moves(t, low, high, samples, flow, image);
+        let moving = some_moves(t, lower, upper, samples, flow, image);
         if !moving || most <= moved {
             return Steady {
                 moved: moved,

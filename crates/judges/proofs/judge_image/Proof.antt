@@ -19,11 +19,11 @@ first-outside-requires c κs = search needs
 
 -- the search is for the ends that were handed
 found : (c : tie.After-first-outside) → let a = c .before .args in
-    c .first-outside .result ≡ firstOutsideRange (a .low) (a .high) (a .image .now)
+    c .first-outside .result ≡ firstOutsideRange (a .lower) (a .upper) (a .image .now)
 found c =
     let s = c .before in
     c .first-outside .ensures
-    ∙ ap₂ (λ (a b : ℤ). firstOutsideRange a b (s .args .image .now)) (toZ-ofZ w32 _ (s .fits .low)) (toZ-ofZ w32 _ (s .fits .high))
+    ∙ ap₂ (λ (a b : ℤ). firstOutsideRange a b (s .args .image .now)) (toZ-ofZ w32 _ (s .fits .lower)) (toZ-ofZ w32 _ (s .fits .upper))
 
 returns : tie.Need-returns
 returns c =

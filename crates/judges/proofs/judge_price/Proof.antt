@@ -67,7 +67,7 @@ returns : tie.Need-returns
 returns c =
     let first = c .before .before in
     let a = first .before .before .before .before .before .before .args in
-    stopped (rows (a .t) (a .samples) (length (a .image .now))) (outsideRow (a .low) (a .high) (a .image .now) ∷ []) (judged first) (c .enum-told2 .given .1)
+    stopped (rows (a .t) (a .samples) (length (a .image .now))) (outsideRow (a .lower) (a .upper) (a .image .now) ∷ []) (judged first) (c .enum-told2 .given .1)
 
 judge-image-requires : tie.Need-judge-image-requires
 judge-image-requires c κs = search needs
@@ -77,10 +77,10 @@ returns-2 c =
     let first = c .before .before .before in
     let s = first .before .before .before .before .before .before in
     let a = s .args in
-    went-on (rows (a .t) (a .samples) (length (a .image .now))) (outsideRow (a .low) (a .high) (a .image .now) ∷ []) (judged first)
+    went-on (rows (a .t) (a .samples) (length (a .image .now))) (outsideRow (a .lower) (a .upper) (a .image .now) ∷ []) (judged first)
     (c .before .enum-told .given .1)
     (c .judge-image .ensures
-    ∙ ap₂ (λ (x y : ℤ). firstRefusal (outsideRow x y (a .image .now) ∷ [])) (toZ-ofZ w32 _ (s .fits .low)) (toZ-ofZ w32 _ (s .fits .high)))
+    ∙ ap₂ (λ (x y : ℤ). firstRefusal (outsideRow x y (a .image .now) ∷ [])) (toZ-ofZ w32 _ (s .fits .lower)) (toZ-ofZ w32 _ (s .fits .upper)))
 
 pub judge-price-spec : {M : Type 1} → statement M
 judge-price-spec =

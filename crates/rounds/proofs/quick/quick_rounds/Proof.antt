@@ -10,10 +10,10 @@ use Rattle.rounds.proofs.quick.quick_rounds.Statement.{statement}
 use Rattle.rounds.proofs.quick.quick_rounds.Tie as tie
 
 abbrev Inv-loop : tie.InvT-loop
-Inv-loop t low high quick samples flow₀ image₀ work₀ momentum₀ k₀ flow image work momentum k = Turned t quick samples image₀ k flow image work momentum
+Inv-loop t lower upper quick samples flow₀ image₀ work₀ momentum₀ k₀ flow image work momentum k = Turned t quick samples image₀ k flow image work momentum
 
 abbrev μ-loop : tie.MeasureT-loop
-μ-loop t low high quick samples flow₀ image₀ work₀ momentum₀ k₀ flow image work momentum k = quick - k
+μ-loop t lower upper quick samples flow₀ image₀ work₀ momentum₀ k₀ flow image work momentum k = quick - k
 
 clear-requires : tie.Need-clear-requires Inv-loop μ-loop
 clear-requires c κs = search needs
@@ -30,7 +30,7 @@ quick-round-requires : tie.Need-quick-round-requires Inv-loop μ-loop
 quick-round-requires c κs =
     let i = c .before .before .before .before in
     let s = i .before .before .before .before .before .before .before .before in
-    (rw (toZ-ofZ w32 _ (s .fits .low), toZ-ofZ w32 _ (s .fits .high)) (s .pre .0), turned-work (i .loop .inv), turned-ready (i .loop .inv) (s .pre .1) (omega arith))
+    (rw (toZ-ofZ w32 _ (s .fits .lower), toZ-ofZ w32 _ (s .fits .upper)) (s .pre .0), turned-work (i .loop .inv), turned-ready (i .loop .inv) (s .pre .1) (omega arith))
 
 add-k : tie.Need-add-k Inv-loop μ-loop
 add-k c = search needs

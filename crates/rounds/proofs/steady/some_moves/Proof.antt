@@ -39,7 +39,7 @@ image-filled : (c : tie.After-fill-image) → let s = c .before .before .before 
     c .fill-image .last .0 ≡ imageOf (s .args .t) (s .args .samples .now) (s .args .flow .now)
 image-filled c =
     let s = c .before .before .before .before .before in
-    rw (toZ-ofZ w32 _ (s .fits .low), toZ-ofZ w32 _ (s .fits .high)) at (c .fill-image .ensures)
+    rw (toZ-ofZ w32 _ (s .fits .lower), toZ-ofZ w32 _ (s .fits .upper)) at (c .fill-image .ensures)
     ∙ image-is (s .args .t) (s .args .samples .now) (s .args .flow .now) (s .pre .0)
 
 natural-requires : tie.Need-natural-requires

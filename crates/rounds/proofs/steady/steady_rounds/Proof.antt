@@ -22,11 +22,11 @@ use Rattle.rounds.proofs.steady.steady_rounds.Statement.{statement}
 use Rattle.rounds.proofs.steady.steady_rounds.Tie as tie
 
 abbrev Inv-loop : tie.InvT-loop
-Inv-loop t low high allowance samples flow₀ image₀ w h weight most moved₀ flow image moved =
+Inv-loop t lower upper allowance samples flow₀ image₀ w h weight most moved₀ flow image moved =
     SteadyReady t samples flow image × Rested nearestEighth (grid t samples) allowance flow₀ moved flow
 
 abbrev μ-loop : tie.MeasureT-loop
-μ-loop t low high allowance samples flow₀ image₀ w h weight most moved₀ flow image moved = allowance - moved
+μ-loop t lower upper allowance samples flow₀ image₀ w h weight most moved₀ flow image moved = allowance - moved
 
 cast-w : tie.Need-cast-w Inv-loop μ-loop
 cast-w c = search needs
@@ -49,7 +49,7 @@ some-moves-requires : tie.Need-some-moves-requires Inv-loop μ-loop
 some-moves-requires c κs =
     let i = c .before .before in
     let s = i .before .before .before .before .before in
-    (rw (toZ-ofZ w32 _ (s .fits .low), toZ-ofZ w32 _ (s .fits .high)) (s .pre .0), i .loop .inv .0)
+    (rw (toZ-ofZ w32 _ (s .fits .lower), toZ-ofZ w32 _ (s .fits .upper)) (s .pre .0), i .loop .inv .0)
 
 same-length : tie.Need-same-length Inv-loop μ-loop
 same-length c =
