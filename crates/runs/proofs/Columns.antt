@@ -30,7 +30,7 @@ module _ {row : List ℤ} {samples : List ℕ} {below above across : List ℤ} (
         left-most = within-cons across (l .across-most) c;
       }
 
--- clamped values lie between the two ends, whichever these are
+-- clamped values lie between the two ends, whichever these are, in order
 pub clamped-between : {low high : ℤ} → low ≤ℤ high → (n : ℕ) (g : ℕ → ℤ) → Between low high (table n (λ c. clamp low high (g c)))
 clamped-between {low} {high} o n g i h =
     let l : i < n = rw (length-table n (λ c. clamp low high (g c))) at h in
