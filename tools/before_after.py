@@ -45,7 +45,7 @@ def run(program):
 
 def main():
     arguments = sys.argv[1:]
-    if len(arguments) not in (1, 2) or not all(re.fullmatch("[1-9][0-9]*", runs) for runs in arguments[1:]):
+    if len(arguments) not in (1, 2) or not all(re.fullmatch("[1-9][0-9]*", count) for count in arguments[1:]):
         sys.exit(__doc__.strip())
     runs = int(arguments[1]) if arguments[1:] else 5
     programs = [build(tree) for tree in (pathlib.Path(arguments[0]).resolve(), AFTER)]
@@ -61,7 +61,7 @@ def main():
     print(f"{'':38}{'before':>16}{'after':>16}{'ratio':>8}")
     for timed in ("library", "reference"):
         for row in rows:
-            times = [[float(run[row][timed]) for run in side] for side in taken]
+            times = [[float(lines[row][timed]) for lines in side] for side in taken]
             medians = [statistics.median(side) for side in times]
             shown = "".join(f"{f'{median:.2f} ({min(side):.2f})':>16}" for median, side in zip(medians, times))
             print(f"{timed:12}{row}{shown}{medians[1] / medians[0]:8.2f}")

@@ -11,15 +11,15 @@ use Rattle.model.specs.declared.Terms.{Terms}
 use Rattle.model.specs.Lists.{at, firstWhere}
 use Rattle.model.specs.Grid.{lowEnd, highEnd}
 
--- two numbers are the ends of a job's box
+-- Two numbers are the ends of a job's box (the bounds of the box constraint) (SPECIFICATION 1.6)
 pub record BoxEnds (t : Terms) (low high : ℤ) : Type 0 where
   pub low-is : low ≡ lowEnd (t .low)
   pub high-is : high ≡ highEnd (t .high)
 
--- every value lies between the two ends
+-- Every value lies between the two ends (in the interval), as those of an image of the box do (SPECIFICATION 2.8)
 abbrev pub Between : ℤ → ℤ → List ℤ → Type 0
 Between low high values = (i : ℕ) → i < length values → (low ≤ℤ at values i) × (at values i ≤ℤ high)
 
--- the first value outside the range, or the number of values where there is none
+-- The first value outside the range, or the number of values where there is none (SPECIFICATION 6.3)
 abbrev pub firstOutsideRange : ℤ → ℤ → List ℤ → ℕ
 firstOutsideRange low high values = firstWhere (length values) (λ i. ltZ (at values i) low || ltZ high (at values i))
