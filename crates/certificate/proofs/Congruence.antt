@@ -30,9 +30,9 @@ module _ (p : Problem) (sound : Sound p) {x y : ℕ → ℤ} (same : Agree (p .p
       ap₂ (λ (a b : ℤ). a +ℤ pos 2 *ℤ b) misfit-cong
       (total-cong (pairCount p) (λ j l. ap (λ (d : ℤ). pos (p .weight j) *ℤ abs d) (fall-cong j l)))
 
-  pub distance-cong : (z : ℕ → ℤ) → distance p x z ≡ distance p y z
-  unfolding distance
-  distance-cong z = total-cong (p .pixels) (λ i l. ap (λ (v : ℤ). square (v -ℤ z i)) (same i l))
+pub distance-cong : (p : Problem) {x y v w : ℕ → ℤ} → Agree (p .pixels) x v → Agree (p .pixels) y w → distance p x y ≡ distance p v w
+unfolding distance
+distance-cong p same also = total-cong (p .pixels) (λ i l. ap₂ (λ (a b : ℤ). square (a -ℤ b)) (same i l) (also i l))
 
 module _ (p : Problem) {f g : ℕ → ℤ} (same : Agree (pairCount p) f g) where
   pub pull-cong : (i : ℕ) → pull p f i ≡ pull p g i

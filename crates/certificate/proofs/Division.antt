@@ -18,10 +18,10 @@ use Rattle.integers.proofs.Clamp.{clamp-scale}
 use Rattle.integers.proofs.Total.{total-cong, total-*ℤ}
 use Rattle.model.specs.Lists.{at}
 use Rattle.model.specs.Calls.{Answer}
-use Rattle.model.specs.Problem.{Problem, pairCount, firstOf, secondOf, fall, misfit, price, Feasible, pull, image, floor, slack, divided, times}
-use Rattle.certificate.specs.Demand.{Figures, Certificate}
+use Rattle.model.specs.Problem.{Problem, pairCount, firstOf, secondOf, fall, misfit, price, Feasible, pull, image, floor, slack, distance, divided, times}
+use Rattle.certificate.specs.Demand.{Figures, Certificate, TwoFlows}
 use Rattle.certificate.proofs.Lagrangian.{Sound}
-use Rattle.certificate.proofs.Distance.{certified-figures}
+use Rattle.certificate.proofs.Certified.{certified-figures, certified-both}
 
 -- a common factor comes out of a sum of two terms, the second doubled
 factored : (c a b : ℤ) → c *ℤ a +ℤ pos 2 *ℤ (c *ℤ b) ≡ c *ℤ (a +ℤ pos 2 *ℤ b)
@@ -60,12 +60,16 @@ module _ (k : ℕ) (p : Problem) where
   image-times : (f : ℕ → ℤ) → image (divided k p) (times k f) ≡ times k (image p f)
   image-times f = fun-ext (image-scale f)
 
+  pub distance-scale : (x y : ℕ → ℤ) → distance (divided k p) (times k x) (times k y) ≡ pos (k * k) *ℤ distance p x y
+  unfolding distance
+  distance-scale x y =
+      total-cong (p .pixels) (λ i _. ap square (sym (*ℤ--ℤ (pos k) (x i) (y i))) ∙ square-*ℤ (pos k) (x i -ℤ y i))
+      ∙ total-*ℤ (p .pixels) (pos (k * k)) (λ i. square (x i -ℤ y i))
+
+  -- the data term is the squared distance to the readings
   pub misfit-scale : (x : ℕ → ℤ) → misfit (divided k p) (times k x) ≡ pos (k * k) *ℤ misfit p x
-  unfolding misfit
-  misfit-scale x =
-      total-cong (p .pixels) (λ i _.
-      ap square (sym (*ℤ--ℤ (pos k) (x i) (p .reading i))) ∙ square-*ℤ (pos k) (x i -ℤ p .reading i))
-      ∙ total-*ℤ (p .pixels) (pos (k * k)) (λ i. square (x i -ℤ p .reading i))
+  unfolding misfit distance
+  misfit-scale x = distance-scale x (p .reading)
 
   pub price-scale : (x : ℕ → ℤ) → price (divided k p) (times k x) ≡ pos (k * k) *ℤ price p x
   unfolding price
@@ -128,10 +132,22 @@ pub certificate : (p : Problem) → Sound p → (flow values : List ℤ) (a : An
     Figures p (at flow) (at values) (a .price) (a .floor) (a .slack) → Certificate p flow values a
 certificate p sound flow values a within g =
     record {
+      within = within;
       figures = g;
       here = certified-figures p sound (at flow) within g;
       scaled = λ k _. figures-scale k p g;
       divisions =
           λ k _.
           certified-figures (divided k p) (sound-scale k p sound) (times k (at flow)) (feasible-scale k p (at flow) within) (figures-scale k p g);
+    }
+
+-- Two images with their certificates: nothing more is asked
+pub two-flows : (p : Problem) {f g x y : List ℤ} {a b : Answer} → Certificate p f x a → Certificate p g y b → TwoFlows p x y a b
+two-flows p {f} {g} {x} {y} c d =
+    record {
+      here = certified-both p (at g) (c .here) (d .within) (d .figures);
+      grown = λ k _. distance-scale k p (at x) (at y);
+      divisions =
+          λ k l.
+          certified-both (divided k p) (times k (at g)) (c .divisions k l) (feasible-scale k p (at g) (d .within)) (d .scaled k l);
     }

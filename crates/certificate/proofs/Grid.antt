@@ -22,10 +22,10 @@ use Rattle.model.proofs.Pairs.{neighbours, first-inside, second-inside}
 use Rattle.model.proofs.Degree.{degree, degree-at-most-4}
 use Rattle.model.proofs.Answers.{check-answer, check-image, runFigures, run-answer, run-flow, run-image, held-image}
 use Rattle.model.proofs.Accepted.{told, check-feasible, check-accepted, check-number, run-accepted, run-number}
-use Rattle.certificate.specs.Demand.{Figures, CheckDemand, RunDemand}
+use Rattle.certificate.specs.Demand.{Figures, TwoFlows, CheckDemand, RunDemand}
 use Rattle.certificate.proofs.Lagrangian.{Sound}
 use Rattle.certificate.proofs.Congruence.{price-cong}
-use Rattle.certificate.proofs.Division.{certificate}
+use Rattle.certificate.proofs.Division.{certificate, two-flows}
 use Rattle.certificate.proofs.Rounding.{nearest-eighth-rounding}
 use Rattle.certificate.proofs.Steady.{step-feasible, steady-ends, moved-bound, settled-bound, settles}
 
@@ -61,6 +61,14 @@ check-demand t samples flow former {values} {a} e g none =
     let box = allowed .terms .box in
     certificate (grid t samples) (grid-sound t samples box) flow values a (check-feasible t samples flow former allowed)
     (held t samples box flow checked 0 (g ∙ check-image t samples flow former yes) (e ∙ check-answer t samples flow former yes))
+
+-- Two accepted checks of one job, the same terms and samples, whatever the two flows are: request F-5, to be cited
+pub two-checks : (t : Terms) (samples : List ℕ) (f g formerX formerY : List ℤ) →
+    checkAnswer t samples f formerX .number ≡ 0 → checkAnswer t samples g formerY .number ≡ 0 →
+    TwoFlows (grid t samples) (checkImage t samples f formerX) (checkImage t samples g formerY) (checkAnswer t samples f formerX)
+    (checkAnswer t samples g formerY)
+two-checks t samples f g formerX formerY accepted also =
+    two-flows (grid t samples) (check-demand t samples f formerX refl refl accepted) (check-demand t samples g formerY refl refl also)
 
 -- the flow that quick rounds leave is P, never R: its numbers are within the weights
 pub quick-feasible : (share : ℤ → ℤ) (p : Problem) (k : ℕ) → Feasible p (at (quickRounds share p k .iterate))

@@ -1,11 +1,11 @@
--- Demand 3 altered: each row of the table has one of its statements at a job and, beside it, the statement altered. One
--- theorem, `counterexamples` of proofs/Counterexamples.antt, says that in every row the first holds and the second fails,
--- and that the bounds listed last are met exactly.
+-- Demand 3 and request F-5 altered: each row of the table has one of their statements at a job and, beside it, the
+-- statement altered. One theorem, `counterexamples` of proofs/Counterexamples.antt, says that in every row the first holds
+-- and the second fails, and that the bounds listed last are met exactly.
 --
--- What holds, and so has no row: 17 for 16; in the distance law, the slack taken before the clamp (a fall is no larger
--- after the clamp, so neither is the slack); and 3 to 8 for 2: a round raises the floor by at least 10 − 2 where it moves one
--- pair, 20 − 6 for two, 30 − 12 for three, and 2 for each of four or more (by hand, not proved here). So 2 × moved meets the
--- starting slack only where both are 0, and 2 × (allowance + 1) of a spent run never does.
+-- What holds, and so has no row: 17 for 16; in the distance law and of two flows, the slack taken before the clamp (a fall
+-- is no larger after the clamp, so neither is the slack); and 3 to 8 for 2: a round raises the floor by at least 10 − 2 where
+-- it moves one pair, 20 − 6 for two, 30 − 12 for three, and 2 for each of four or more (by hand, not proved here). So
+-- 2 × moved meets the starting slack only where both are 0, and 2 × (allowance + 1) of a spent run never does.
 use mathlib.Core.Bool.{Bool, not, _&&_, _||_}
 use mathlib.Core.List.{List, [], _∷_, _++_}
 use Prim.Native.Nat.{ℕ, _+_, _*_}
@@ -50,7 +50,7 @@ eighthDown d = shrZ d 8
 abbrev pub eighthAway : ℤ → ℤ
 eighthAway d = quotient (d +ℤ pos 7 *ℤ sign d) (pos 8)
 
--- ---- Demand 3's statements as tests
+-- ---- The statements as tests
 
 -- The distance law for an image x against y, s standing for the slack: price + squared distance ≤ other price + slack
 unfoldable pub close : ℤ → Problem → (ℕ → ℤ) → (ℕ → ℤ) → Bool
@@ -70,6 +70,19 @@ alike p f y =
 -- .. where the slack is 0
 unfoldable pub alikeAtZero : Problem → (ℕ → ℤ) → (ℕ → ℤ) → Bool
 alikeAtZero p f y = not (sameZ (slack p f) (pos 0)) || alike p f y
+
+-- Two images x and y, s standing for the sum of their slacks: r × squared distance ≤ sum, with 2 for r as request F-5 has it
+unfoldable pub near : ℕ → ℤ → Problem → (ℕ → ℤ) → (ℕ → ℤ) → Bool
+near r s p x y = leZ (pos r *ℤ distance p x y) s
+
+-- .. for the images of two flows, of one problem or of two, with the slack of each
+unfoldable pub withinSlacks : Problem → (ℕ → ℤ) → Problem → (ℕ → ℤ) → Bool
+withinSlacks p f q g = near 2 (slack p f +ℤ slack q g) p (image p f) (image q g)
+
+-- .. and equal images where s and r, standing for the slacks, are 0
+unfoldable pub equalAtZero : ℤ → ℤ → Problem → (ℕ → ℤ) → (ℕ → ℤ) → Bool
+equalAtZero s r p f g =
+    not (sameZ s (pos 0) && sameZ r (pos 0)) || sameZ (distance p (image p f) (image p g)) (pos 0)
 
 -- A number on a whole division is c times the one on the grid
 abbrev pub timesAsLarge : ℕ → ℤ → ℤ → Bool
@@ -100,9 +113,10 @@ abbrev pub scanTwoByTwo : ℕ → Problem
 scanTwoByTwo weight =
     grid (record { width = 2; height = 2; weight = weight; low = 0; high = 255 }) (0 ∷ 2 ∷ 0 ∷ 2 ∷ [])
 
--- A row with samples, weight 1
-abbrev pub scanRow : ℕ → List ℕ → Problem
-scanRow width samples = grid (record { width = width; height = 1; weight = 1; low = 0; high = 255 }) samples
+-- A row with a weight and samples
+abbrev pub scanRow : ℕ → ℕ → List ℕ → Problem
+scanRow weight width samples =
+    grid (record { width = width; height = 1; weight = weight; low = 0; high = 255 }) samples
 
 -- 3 by 3, samples 0 2 0, 2 1 2 and 0 1 0, weight 1
 abbrev pub scanThreeByThree : Problem
@@ -122,9 +136,16 @@ readingsFourByOne =
       weight = λ _. 1;
     }
 
--- the flow of a 2 by 1 job, and the other image
+-- 3 by 1, samples 0 2 4, weight 256
+abbrev pub scanThreeByOne : Problem
+scanThreeByOne = scanRow 256 3 (0 ∷ 2 ∷ 4 ∷ [])
+
+-- the flow of a 2 by 1 job, that of a 3 by 1 job, and the other image
 abbrev pub flow : ℤ → ℕ → ℤ
 flow f = at (one f)
+
+abbrev pub flows : ℤ → ℤ → ℕ → ℤ
+flows f g = at (f ∷ g ∷ [])
 
 abbrev pub other : ℕ → ℕ → ℕ → ℤ
 other a b = at (pair a b)
@@ -153,6 +174,42 @@ distanceRows =
     ∷ beside (alikeAtZero p f (other 128 128)) (alike p f (other 128 128))
     ∷ []
 
+-- Two flows of one job. The 3 by 1 job has the images 128 896 896 and 384 384 1152 of squared distance 393216, with slack
+-- 393216 each; the 2 by 1 job 384 384 with slack 0, and 128 640 with slack 262144
+unfoldable pub twoFlowsRows : List Alteration
+twoFlowsRows =
+    let three : Problem = scanThreeByOne in
+    let f : ℕ → ℤ = flows (pos 0) (negℤ (pos 256)) in
+    let g : ℕ → ℤ = flows (negℤ (pos 256)) (pos 0) in
+    let p : Problem = scanTwoByOne 256 0 255 in
+    let best : ℕ → ℤ = flow (negℤ (pos 256)) in
+    let none : ℕ → ℤ = flow (pos 0) in
+    let narrow : Problem = scanTwoByOne 7 3 3 in
+    let down : ℕ → ℤ = flow (pos 7) in
+    let up : ℕ → ℤ = flow (negℤ (pos 7)) in
+    let light : Problem = scanTwoByOne 70 0 255 in
+    let behind : ℕ → ℤ = flow (negℤ (pos 69)) in
+    -- 3 × the distance
+    beside (withinSlacks three f three g) (near 3 (slack three f +ℤ slack three g) three (image three f) (image three g))
+    -- one slack only, whichever
+    ∷ beside (withinSlacks three f three g) (near 2 (slack three f) three (image three f) (image three g))
+    ∷ beside (withinSlacks three f three g) (near 2 (slack three g) three (image three f) (image three g))
+    -- the sum halved
+    ∷ beside (withinSlacks p best p none)
+    (near 2 (quotient (slack p best +ℤ slack p none) (pos 2)) p (image p best) (image p none))
+    -- two flows of two jobs, both with slack 0: another scan, image 384 896; another weight, 128 640; another box, 768 768
+    ∷ beside (withinSlacks p best p none) (withinSlacks p best (scanRow 256 2 (0 ∷ 4 ∷ [])) best)
+    ∷ beside (withinSlacks p best p none) (withinSlacks p best (scanTwoByOne 0 0 255) none)
+    ∷ beside (withinSlacks p best p none) (withinSlacks p best (scanTwoByOne 256 3 3) none)
+    -- equal images said to follow from one slack of 0
+    ∷ beside (equalAtZero (slack p best) (slack p none) p best none) (equalAtZero (slack p best) (slack p best) p best none)
+    -- the images before the clamp: 121 647 and 135 633, as in the wider box, for 768 768 with slack 0 both
+    ∷ beside (withinSlacks narrow down narrow up)
+    (near 2 (slack narrow down +ℤ slack narrow up) narrow (image p down) (image p up))
+    -- R for P, which are −71 and −70 as above: 4 ≤ 0 + 748, but not 16 ≤ −740 + 748
+    ∷ beside (withinSlacks light (start light 2) light behind) (withinSlacks light (ahead light 2) light behind)
+    ∷ []
+
 -- On division 3, the flow −252 with price 131104, floor 131040 and slack 64
 unfoldable pub divisionRows : List Alteration
 divisionRows =
@@ -160,6 +217,9 @@ divisionRows =
     let q : Problem = divided 3 p in
     let f : ℕ → ℤ = flow (negℤ (pos 252)) in
     let g : ℕ → ℤ = times 3 f in
+    let best : ℕ → ℤ = flow (negℤ (pos 256)) in
+    let x : ℕ → ℤ = image q g in
+    let y : ℕ → ℤ = image q (times 3 best) in
     -- k for k²
     beside (timesAsLarge 9 (price q (image q g)) (price p (image p f)))
     (timesAsLarge 3 (price q (image q g)) (price p (image p f)))
@@ -167,6 +227,10 @@ divisionRows =
     ∷ beside (timesAsLarge 9 (slack q g) (slack p f)) (timesAsLarge 3 (slack q g) (slack p f))
     -- the slack of the grid itself, against the image 1152 1152
     ∷ beside (certified q g (other 1152 1152)) (close (slack p f) q (image q g) (other 1152 1152))
+    -- of two flows, 2 × squared distance and the sum of the slacks, 64 on the grid and 576 there
+    ∷ beside (timesAsLarge 9 (distance q x y) (distance p (image p f) (image p best)))
+    (timesAsLarge 3 (distance q x y) (distance p (image p f) (image p best)))
+    ∷ beside (withinSlacks q g q (times 3 best)) (near 2 (slack p f +ℤ slack p best) q x y)
     ∷ []
 
 -- A settled slack is at most 16 × weight × pairs
@@ -204,8 +268,8 @@ movedRows =
 -- A run settles whenever 2 × (allowance + 1) exceeds that slack
 unfoldable pub settlesRows : List Alteration
 settlesRows =
-    let p : Problem = scanRow 3 (0 ∷ 0 ∷ 2 ∷ []) in
-    let four : Problem = scanRow 4 (0 ∷ 0 ∷ 0 ∷ 2 ∷ []) in
+    let p : Problem = scanRow 1 3 (0 ∷ 0 ∷ 2 ∷ []) in
+    let four : Problem = scanRow 1 4 (0 ∷ 0 ∷ 0 ∷ 2 ∷ []) in
     let q : Problem = scanThreeByThree in
     let r : Problem = readingsFourByOne in
     -- d / 8 rounded away from zero in steady rounds: one quick round leaves the flow 0 −1, with slack 2 and a fall of −1,
@@ -219,21 +283,29 @@ settlesRows =
     ∷ []
 
 unfoldable pub rows : List Alteration
-rows = distanceRows ++ divisionRows ++ settledRows ++ movedRows ++ settlesRows
+rows = distanceRows ++ twoFlowsRows ++ divisionRows ++ settledRows ++ movedRows ++ settlesRows
 
 -- Bounds met exactly
 unfoldable pub metExactly : List Bool
 metExactly =
     let p : Problem = scanTwoByOne 256 0 255 in
     let q : Problem = scanTwoByOne 258 0 255 in
+    let three : Problem = scanThreeByOne in
     let f : ℕ → ℤ = flow (pos 0) in
     let g : ℕ → ℤ = flow (negℤ (pos 256)) in
+    let h : ℕ → ℤ = at (run p 0 100 .flow) in
+    let u : ℕ → ℤ = flows (pos 0) (negℤ (pos 256)) in
+    let v : ℕ → ℤ = flows (negℤ (pos 256)) (pos 0) in
     -- price + squared distance = other price + slack, 393216
     sameZ (price p (image p f) +ℤ distance p (image p f) (other 384 384)) (price p (other 384 384) +ℤ slack p f)
     -- slack 0, equal prices and equal images
     ∷ sameZ (slack p g) (pos 0)
     ∷ sameZ (price p (image p g)) (price p (other 384 384))
     ∷ sameZ (distance p (image p g) (other 384 384)) (pos 0)
+    -- 2 × squared distance = sum of the slacks: 16 + 0, with the flow that the 2 by 1 job settles at; and 393216 + 393216,
+    -- where neither is 0
+    ∷ sameZ (pos 2 *ℤ distance p (image p h) (image p g)) (slack p h +ℤ slack p g)
+    ∷ sameZ (pos 2 *ℤ distance three (image three u) (image three v)) (slack three u +ℤ slack three v)
     -- the slack of a settled run = 16 × weight × pairs, 4128
     ∷ sameZ (slack q (at (run q 7 0 .flow))) (pos (16 * (258 * 1)))
     ∷ []

@@ -9,7 +9,7 @@ use Rattle.model.specs.declared.Terms.{Terms}
 use Rattle.model.specs.declared.Rounds.{Rounds}
 use Rattle.model.specs.Lists.{at}
 use Rattle.model.specs.Problem as Model
-use Rattle.model.specs.Problem.{Problem, InBox, distance, divided, times}
+use Rattle.model.specs.Problem.{Problem, Feasible, InBox, distance, divided, times}
 use Rattle.model.specs.Grid.{grid}
 use Rattle.model.specs.Calls as Calls
 use Rattle.model.specs.Calls.{Answer, pairsOf, quickFlow}
@@ -21,17 +21,27 @@ pub record Figures (p : Problem) (f x : ℕ → ℤ) (price floor slack : ℤ) :
   pub floors : floor ≡ Model.floor p f
   pub slacks : slack ≡ Model.slack p f
 
+-- Images x and y of slack s and r: 2 × squared distance ≤ sum of the slacks, and where both slacks are 0 the images are equal
+-- (a primal distance bounded by two duality gaps) (SPECIFICATION 8.10)
+pub record WithinSlacks (p : Problem) (x y : ℕ → ℤ) (s r : ℤ) : Type 0 where
+  pub near : (pos 2 *ℤ distance p x y) ≤ℤ (s +ℤ r)
+  pub equal : s ≡ pos 0 → r ≡ pos 0 → (i : ℕ) → i < p .pixels → x i ≡ y i
+
 -- Image x, of this price, against every image y of the box: returned price + squared distance ≤ other price + slack; and
--- at slack 0 the two are equal exactly when their prices are (an optimality certificate) (SPECIFICATION 8.4, 8.5)
+-- at slack 0 the two are equal exactly when their prices are (an optimality certificate) (SPECIFICATION 8.4, 8.5). And
+-- against the image of every other flow g within the weights, with the slack of g (SPECIFICATION 8.10)
 pub record Certified (p : Problem) (x : ℕ → ℤ) (price slack : ℤ) : Type 0 where
   pub close : (y : ℕ → ℤ) → InBox p y → (price +ℤ distance p x y) ≤ℤ (Model.price p y +ℤ slack)
   pub exact :
       (y : ℕ → ℤ) → InBox p y → slack ≡ pos 0 →
       (price ≡ Model.price p y) ↔ ((i : ℕ) → i < p .pixels → x i ≡ y i)
+  pub others : (g : ℕ → ℤ) → Feasible p g → WithinSlacks p x (Model.image p g) slack (Model.slack p g)
 
--- The certificate of an answer, of the flow and the image in the buffers: on the grid itself, and on every whole division
--- k of it, where the image is k times as large, and price, floor and slack are k² times as large (SPECIFICATION 8.6)
+-- The certificate of an answer, of the flow and the image in the buffers: the flow is within the weights, and the image is
+-- certified on the grid itself, and on every whole division k of it, where the image is k times as large, and price, floor
+-- and slack are k² times as large (SPECIFICATION 8.6)
 pub record Certificate (p : Problem) (flow image : List ℤ) (a : Answer) : Type 0 where
+  pub within : Feasible p (at flow)
   pub figures : Figures p (at flow) (at image) (a .price) (a .floor) (a .slack)
   pub here : Certified p (at image) (a .price) (a .slack)
   pub scaled :
@@ -56,3 +66,16 @@ pub record RunDemand (t : Terms) (r : Rounds) (samples : List ℕ) (flow image :
       Model.slack (grid t samples) (at (quickFlow t r samples)) <ℤ pos (2 * (r .allowance + 1)) →
       a .outcome ≡ Calls.settled
   pub settled : a .outcome ≡ Calls.settled → a .slack ≤ℤ pos (16 * (t .weight * pairsOf t))
+
+-- Two accepted calls for one problem, with images x and y in their buffers and answers a and b: the images are within their
+-- slacks, on the grid and on every whole division k, where the squared distance, as each slack, is k² times as large
+-- (SPECIFICATION 8.10)
+pub record TwoFlows (p : Problem) (x y : List ℤ) (a b : Answer) : Type 0 where
+  pub here : WithinSlacks p (at x) (at y) (a .slack) (b .slack)
+  pub grown :
+      (k : ℕ) → 1 ≤ k →
+      distance (divided k p) (times k (at x)) (times k (at y)) ≡ pos (k * k) *ℤ distance p (at x) (at y)
+  pub divisions :
+      (k : ℕ) → 1 ≤ k →
+      WithinSlacks (divided k p) (times k (at x)) (times k (at y)) (pos (k * k) *ℤ a .slack)
+      (pos (k * k) *ℤ b .slack)

@@ -119,6 +119,19 @@ impl Random {
             .collect()
     }
 
+    /// Another flow within the weight: any, one near this, or the opposite of this.
+    pub fn other_flow(&mut self, flow: &[i32], weight: u32) -> Vec<i32> {
+        let largest = weight as i32;
+        match self.below(4) {
+            0 => flow
+                .iter()
+                .map(|value| (value + self.between(-2, 2) as i32).clamp(-largest, largest))
+                .collect(),
+            1 => flow.iter().map(|value| -value).collect(),
+            _ => self.flow(flow.len(), weight),
+        }
+    }
+
     /// An image with values from `lower` to `upper`, the ends of a box: everywhere, in the first
     /// level or in the last one, or at the ends of these.
     pub fn image(&mut self, count: usize, lower: i32, upper: i32) -> Vec<i32> {

@@ -121,6 +121,13 @@ pub fn squared_distance(one: &[i64], other: &[i64]) -> i128 {
         .sum()
 }
 
+/// Request F-5, of the images of two flows of one problem and their duality gaps: twice the squared
+/// distance is at most the sum of the gaps, and where both gaps are 0 the images are equal.
+pub fn within_gaps(images: [&[i64]; 2], gaps: [i128; 2]) -> bool {
+    let [one, other] = images;
+    2 * squared_distance(one, other) <= gaps.iter().sum() && (gaps != [0, 0] || one == other)
+}
+
 /// A lent flow or image in the 64 bits of the definitions here.
 pub fn widened(values: &[i32]) -> Vec<i64> {
     values.iter().copied().map(i64::from).collect()

@@ -1,8 +1,9 @@
 //! What every answer promises, tried on thousands of random jobs: the distance
-//! guarantee on the grid and its whole divisions, and the bounds of a run.
+//! guarantee, and that of two flows of one job, on the grid and its whole divisions, and
+//! the bounds of a run.
 
 use relief_inputs::{two_by_one, Case, Random};
-use relief_reference::problem::{squared_distance, widened};
+use relief_reference::problem::{squared_distance, widened, within_gaps};
 use relief_reference::rounds::{quick_rounds, steady_step};
 use relief_reference::{Outcome, Problem};
 
@@ -197,4 +198,105 @@ fn every_image_of_a_small_box() {
     }
     assert_eq!(problem.duality_gap(&[-256]), 0);
     assert!(problem.duality_gap(&[40]) > 0);
+}
+
+/// Request F-5 for two answers of one job, on the grid and on whole divisions of it, where both
+/// sides are k² times as large.
+fn assert_within_slacks(case: &Case, answers: [&Answer; 2]) {
+    let problem = case.problem();
+    let flows = answers.map(|answer| widened(&answer.flow));
+    let images = answers.map(|answer| widened(&answer.image));
+    let slacks = answers.map(|answer| i128::from(answer.figures.slack));
+    let distance = squared_distance(&images[0], &images[1]);
+    for k in 1..=5 {
+        let problem = problem.divided(k);
+        let area = i128::from(k * k);
+        let images = flows
+            .each_ref()
+            .map(|flow| problem.image_of(&multiplied(k, flow)));
+        let gaps = flows
+            .each_ref()
+            .map(|flow| problem.duality_gap(&multiplied(k, flow)));
+        assert_eq!(gaps, slacks.map(|slack| area * slack));
+        assert_eq!(squared_distance(&images[0], &images[1]), area * distance);
+        assert!(within_gaps(images.each_ref().map(Vec::as_slice), gaps));
+    }
+}
+
+/// Whether a sample is read outside the box.
+fn reads_outside(case: &Case) -> bool {
+    let levels = case.terms.low..=case.terms.high;
+    case.samples.iter().any(|sample| !levels.contains(sample))
+}
+
+#[test]
+fn two_flows_of_one_job_are_within_their_slacks() {
+    let mut random = Random::new(0xF50);
+    let (mut narrow, mut wide, mut outside, mut exact, mut gapless) = (0, 0, 0, 0, 0);
+    for _ in 0..JOBS {
+        let case = Case::small(&mut random);
+        let run = case.run().unwrap();
+        let any = case.flow(&mut random);
+        let first = random.pick(&[&any, &run.flow]);
+        let second = random.other_flow(first, case.terms.weight);
+        let [first, second] = [first, &second].map(|flow| case.check(flow).unwrap());
+        for answers in [[&first, &second], [&first, &run], [&run, &second]] {
+            assert_within_slacks(&case, answers);
+        }
+
+        let sum = first.figures.slack + second.figures.slack;
+        let distance = squared_distance(&widened(&first.image), &widened(&second.image));
+        narrow += usize::from(case.terms.low == case.terms.high);
+        wide += usize::from((case.terms.low, case.terms.high) == (0, 255));
+        outside += usize::from(reads_outside(&case));
+        exact += usize::from(distance > 0 && 2 * distance == i128::from(sum));
+        gapless += usize::from(first.flow != second.flow && sum == 0);
+    }
+    for count in [narrow, wide, outside, gapless] {
+        assert!(count > JOBS / 20);
+    }
+    assert!(exact > 0);
+}
+
+/// The bound met exactly: by the flow that the 2 by 1 job settles at and its best flow, and in
+/// a 3 by 1 job by two flows neither of which is best.
+#[test]
+fn twice_the_squared_distance_may_be_the_sum() {
+    let case = two_by_one();
+    let (settled, best) = (case.run().unwrap(), case.check(&[-256]).unwrap());
+    assert_eq!(
+        (&settled.image[..], &best.image[..]),
+        (&[382, 386][..], &[384, 384][..])
+    );
+    assert_eq!((settled.figures.slack, best.figures.slack), (2 * 8, 0));
+    assert_within_slacks(&case, [&settled, &best]);
+
+    let mut case = two_by_one();
+    case.terms.width = 3;
+    case.samples = vec![0, 2, 4];
+    let flows = [[0, -256], [-256, 0]];
+    let [one, other] = flows.map(|flow| case.check(&flow).unwrap());
+    assert_eq!(one.image, [128, 896, 896]);
+    assert_eq!(other.image, [384, 384, 1_152]);
+    assert_eq!([one.figures.slack, other.figures.slack], [393_216; 2]);
+    assert_eq!(
+        squared_distance(&widened(&one.image), &widened(&other.image)),
+        393_216
+    );
+    assert_within_slacks(&case, [&one, &other]);
+}
+
+/// It is said of one job: with another scan, weight or box two slacks of 0 bound nothing.
+#[test]
+fn two_jobs_may_be_further_apart() {
+    let best = two_by_one().check(&[-256]).unwrap();
+    let [mut scan, mut weight, mut levels] = [(); 3].map(|()| two_by_one());
+    scan.samples = vec![0, 4];
+    weight.terms.weight = 0;
+    (levels.terms.low, levels.terms.high) = (3, 3);
+    for (case, flow) in [(scan, -256), (weight, 0), (levels, 0)] {
+        let other = case.check(&[flow]).unwrap();
+        assert_eq!([best.figures.slack, other.figures.slack], [0, 0]);
+        assert_ne!(best.image, other.image);
+    }
 }
