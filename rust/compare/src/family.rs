@@ -34,8 +34,9 @@ pub struct Call<I, T> {
 }
 
 impl<I: Input, T: Debug + PartialEq> Call<I, T> {
-    /// Makes both calls, each on a copy of `input`, and gives the answer if the two agree.
-    fn compare(&self, input: &I) -> Result<Answer<T>, Difference> {
+    /// Makes both calls, each on a copy of `input`, and gives the answer and what the library leaves,
+    /// if the two agree.
+    pub fn compare(&self, input: &I) -> Result<(Answer<T>, I), Difference> {
         let (mut ours, mut theirs) = (input.clone(), input.clone());
         let expected = (self.reference)(&mut theirs);
         // A refused call leaves what it was lent.
@@ -49,7 +50,7 @@ impl<I: Input, T: Debug + PartialEq> Call<I, T> {
         };
         match differs {
             Some(differs) => Err(self.difference(&differs, input)),
-            None => Ok(expected),
+            None => Ok((expected, ours)),
         }
     }
 
@@ -62,11 +63,9 @@ impl<I: Input, T: Debug + PartialEq> Call<I, T> {
         inputs: impl Iterator<Item = I>,
     ) -> Result<(), Difference> {
         let title = format!("{}, {title}", self.name);
-        compare_family(
-            &title,
-            inputs,
-            |input| Ok(self.worded(self.compare(input)?)),
-        )?
+        compare_family(&title, inputs, |input| {
+            Ok(self.worded(self.compare(input)?.0))
+        })?
         .met(&[], numbers)
     }
 
@@ -77,7 +76,7 @@ impl<I: Input, T: Debug + PartialEq> Call<I, T> {
     ) -> Result<(), Difference> {
         let title = format!("{}, document 01's limits", self.name);
         compare_family(&title, values, |(input, expected)| {
-            let answer = self.compare(input)?;
+            let (answer, _) = self.compare(input)?;
             if answer.as_ref().map(drop) != expected.as_ref().copied() {
                 let differs = format!("both answer {answer:?}, document 01 {expected:?}");
                 return Err(self.difference(&differs, input));

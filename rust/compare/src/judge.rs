@@ -1,6 +1,9 @@
 //! Price and check.
 
-use relief_inputs::{chessboard, chessboard_flow, two_by_one, Answer, Difference, Random};
+use relief_inputs::{
+    beside_the_bound, chessboard, chessboard_flow, compare_family, two_by_one, Answer, Difference,
+    Random,
+};
 use relief_reference::terms::{reading, WEIGHT_LIMIT};
 use relief_reference::{Figures, Refusal, Terms};
 
@@ -53,7 +56,49 @@ pub fn compare(step: usize) -> Result<(), Difference> {
     CHECK.compare_family(title, &[1, 2, 3, 4, 5, 6, 8], small(step))?;
     let title = "1,048,576 pixels";
     PRICE.compare_family(title, &[], large(step))?;
-    CHECK.compare_family(title, &[], large(step))
+    CHECK.compare_family(title, &[], large(step))?;
+    compare_two_flows(step)
+}
+
+/// Compares two checks of one job, and sees to it that the images that the library leaves are within
+/// the slacks that it gives (request F-5).
+fn compare_two_flows(step: usize) -> Result<(), Difference> {
+    let words = [
+        "equal with slack 0",
+        "equal with slack above 0",
+        "nearer than the bound",
+    ];
+    compare_family(
+        "check, two flows of one job",
+        two_flows(step),
+        |[one, other]| {
+            let (first, one) = CHECK.compare(one)?;
+            let (second, other) = CHECK.compare(other)?;
+            match (first, second) {
+                (Ok(first), Ok(second)) => {
+                    beside_the_bound([&one.image, &other.image], [first.slack, second.slack])
+                        .map(Ok)
+                }
+                (Err(refusal), _) | (_, Err(refusal)) => Ok(Err(refusal)),
+            }
+        },
+    )?
+    .met(&words, &[])
+}
+
+/// A job with two flows: small ones and, one in a thousand, the most pixels.
+fn two_flows(step: usize) -> impl Iterator<Item = [JobInput; 2]> {
+    let mut random = Random::new(0xF5);
+    (0..20_000).step_by(step).map(move |turn| {
+        let size = match turn % 1_000 {
+            0 => LARGEST[turn / 1_000 % LARGEST.len()],
+            _ => random.size(300),
+        };
+        let input = JobInput::accepted(&mut random, size);
+        let mut other = input.clone();
+        other.flow = random.other_flow(&input.flow, input.terms.weight);
+        [input, other]
+    })
 }
 
 /// Images of two values, one of them at the lower end of a box, the other at its ends, in its last

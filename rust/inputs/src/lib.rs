@@ -1,5 +1,6 @@
 //! What tests, comparisons and benchmark share: jobs, their tapes and seasons of them, random,
-//! extreme and damaged, and the counts of what a family of them was answered.
+//! extreme and damaged, the counts of what a family of them was answered, and two images of one
+//! job beside the bound of their slacks.
 
 mod case;
 mod chessboard;
@@ -7,6 +8,7 @@ mod family;
 mod random;
 mod season;
 mod tape;
+mod two_flows;
 
 pub use case::{about_the_box, flat, narrow_box, two_by_one, two_by_two, Case, TWO_BY_ONE_TEXT};
 pub use chessboard::{chessboard, chessboard_flow};
@@ -14,3 +16,4 @@ pub use family::{compare_family, status, Answer, Difference, Tally};
 pub use random::Random;
 pub use season::{filler, season_job, TWO_BY_ONE_SEASON};
 pub use tape::{changes_of, prefixes_of, small_tapes, tape_length, Tape};
+pub use two_flows::beside_the_bound;

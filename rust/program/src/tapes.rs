@@ -1,15 +1,15 @@
 //! Tapes of accepted jobs, and damaged ones.
 
 use relief_inputs::{
-    chessboard, chessboard_flow, compare_family, flat, small_tapes, tape_length, two_by_one, Case,
-    Difference, Random, Tally, Tape,
+    beside_the_bound, chessboard, chessboard_flow, compare_family, flat, small_tapes, tape_length,
+    two_by_one, Case, Difference, Random, Tally, Tape,
 };
-use relief_reference::program::{FLOW_TABLE, SAMPLE_TABLE};
+use relief_reference::program::{clean, FLOW_TABLE, SAMPLE_TABLE};
 use relief_reference::terms::WEIGHT_LIMIT;
 use relief_reference::Rounds;
 
 use crate::child::Program;
-use crate::compare::compare as compare_tape;
+use crate::compare::{compare as compare_tape, compare_text};
 
 /// Sizes with the most pixels that the program takes.
 const LARGEST: [(u32, u32); 3] = [(64, 64), (4_096, 1), (1, 4_096)];
@@ -20,6 +20,7 @@ pub fn compare(program: &Program, step: usize) -> Result<(), Difference> {
         .met(&["checked with floor below 0", "settled", "spent"], &[])?;
     let words = ["checked", "checked with slack 0", "settled", "spent"];
     family(program, "1 to 4,096 pixels", jobs(step))?.met(&words, &[])?;
+    compare_two_flows(program, step)?;
     family(program, "the most rounds", long_runs(step))?.met(&["settled"], &[])?;
     family(program, "every prefix", prefixes(step))?.met(&["checked with slack 0"], &[13])?;
     family(program, "changed bytes", changes(step))?.met(&[], &[8, 10, 12, 14])?;
@@ -34,6 +35,42 @@ fn family(
 ) -> Result<Tally, Difference> {
     compare_family(title, tapes.map(Into::into), |input| {
         compare_tape(program, input)
+    })
+}
+
+/// Compares two tapes of one job, each with a flow, and sees to it that the images printed are within
+/// the slacks printed (request F-5).
+fn compare_two_flows(program: &Program, step: usize) -> Result<(), Difference> {
+    compare_family("two flows of one job", two_flows(step), |tapes| {
+        let texts = tapes.each_ref().map(|tape| clean(tape));
+        for (tape, text) in tapes.iter().zip(&texts) {
+            compare_text(program, &tape.clone().into(), text)?;
+        }
+        let [(slack, image), (other_slack, other)] = texts.each_ref().map(|text| printed(text));
+        beside_the_bound([&image, &other], [slack, other_slack]).map(Ok)
+    })?
+    .met(&["nearer than the bound"], &[])
+}
+
+/// The slack and the image that a text of the cleaning program tells.
+fn printed(text: &str) -> (u64, Vec<i32>) {
+    let mut words = text.split_whitespace().skip(9);
+    let slack = words.next().and_then(|word| word.parse().ok());
+    let image = words
+        .map(|word| word.parse().expect("an image value"))
+        .collect();
+    (slack.expect("a slack"), image)
+}
+
+/// Two tapes of a job, each with a flow.
+fn two_flows(step: usize) -> impl Iterator<Item = [Vec<u8>; 2]> {
+    let mut random = Random::new(0x2F5);
+    (0..500).step_by(step).map(move |_| {
+        let (width, height) = random.size(4_096);
+        let case = Case::sized(&mut random, width, height);
+        let flow = case.flow(&mut random);
+        let other = random.other_flow(&flow, case.terms.weight);
+        [case.tape(&flow), case.tape(&other)]
     })
 }
 
