@@ -72,6 +72,24 @@
  * - Refused: *place says where, every other number is 0, and every buffer is as it was.
  *
  * A call tests its input in the order in which each lists its refusals, and the first one wins.
+ *
+ * TWO FLOWS OF ONE JOB
+ *
+ * Check two flows for the same samples, size, weight and box (relief_run's flow and answer may stand
+ * for one of them). Then
+ *
+ *   2 * squared distance of the two images <= slack + other slack
+ *
+ * the squared distance being the sum over pixels of the square of the difference of their values; and
+ * where both slacks are 0, the images are equal. On the grid divided k times as finely (samples'
+ * readings, weight, box and flows times k), both sides are k * k times as large.
+ *
+ * Example: samples 0 and 2, width 2, height 1, weight 256, low 0, high 255. Flow -254 has the image
+ * 382 386 and slack 16, flow -256 the image 384 384 and slack 0: the squared distance is 8, and
+ * 2 * 8 <= 16 + 0.
+ *
+ * It says nothing of two jobs, with another scan, weight or box, however small the slacks; nor that
+ * the images are near the best one, which each slack says by itself (relief_check).
  */
 #ifndef RELIEF_H
 #define RELIEF_H
@@ -244,7 +262,7 @@ uint32_t relief_price(
  * *floor   the sum of (value - reading)^2 over pixels of that image, plus 2 * the sum of
  *          flow * fall over pairs. No image of the box has a lower price. It may be negative
  * *slack   price minus floor. For every image of the box, *price plus the squared distance of the
- *          two images is at most the other image's price plus *slack
+ *          two images is at most the other image's price plus *slack. Two flows of one job: see above
  *
  * Refusals: 1, 2, 3; 4, 5, 6; 8.
  */

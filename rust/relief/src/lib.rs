@@ -107,7 +107,8 @@ pub struct Figures {
     pub price: u64,
     /// The floor of the flow; 0 for `price`.
     pub floor: i64,
-    /// Price minus floor; 0 for `price`.
+    /// Price minus floor; 0 for `price`. It bounds the distance from every other image of the box
+    /// (`include/relief.h`), and with another flow's slack that of the two flows' images.
     pub slack: u64,
 }
 

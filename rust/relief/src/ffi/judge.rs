@@ -83,6 +83,22 @@ pub fn price(terms: &Terms, samples: &[u8], image: &[i32]) -> Result<Figures, Re
 
 /// Judges a given flow and fills `image` with its image.
 ///
+/// Two flows that are accepted for the same terms and samples have images whose squared distance,
+/// times 2, is at most the sum of the two slacks; where both are 0 the images are equal.
+///
+/// ```
+/// # let terms = relief::Terms { width: 2, height: 1, weight: 256, low: 0, high: 255 };
+/// let samples = [0, 2];
+/// let (mut image, mut other_image) = ([0; 2], [0; 2]);
+/// let figures = relief::check(&terms, &samples, &[-254], &mut image)?;
+/// let other = relief::check(&terms, &samples, &[-256], &mut other_image)?;
+/// assert_eq!((image, figures.slack), ([382, 386], 16));
+/// assert_eq!((other_image, other.slack), ([384, 384], 0));
+/// let squares = image.iter().zip(&other_image).map(|(a, b)| u64::from(a.abs_diff(*b)).pow(2));
+/// assert!(2 * squares.sum::<u64>() <= figures.slack + other.slack);
+/// # Ok::<(), relief::Refusal>(())
+/// ```
+///
 /// # Lengths
 ///
 /// - `samples`: [`Terms::pixel_count`].
