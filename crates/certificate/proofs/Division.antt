@@ -142,9 +142,11 @@ certificate p sound flow values a within g =
     }
 
 -- Two images with their certificates: nothing more is asked
-pub two-flows : (p : Problem) {f g x y : List ℤ} {a b : Answer} → Certificate p f x a → Certificate p g y b → TwoFlows p x y a b
+pub two-flows : (p : Problem) {f g x y : List ℤ} {a b : Answer} → Certificate p f x a → Certificate p g y b → TwoFlows p f g x y a b
 two-flows p {f} {g} {x} {y} c d =
     record {
+      one = c;
+      other = d;
       here = certified-both p (at g) (c .here) (d .within) (d .figures);
       grown = λ k _. distance-scale k p (at x) (at y);
       divisions =

@@ -65,7 +65,7 @@ check-demand t samples flow former {values} {a} e g none =
 -- Two accepted checks of one job, the same terms and samples, whatever the two flows are: request F-5, to be cited
 pub two-checks : (t : Terms) (samples : List ℕ) (f g formerX formerY : List ℤ) →
     checkAnswer t samples f formerX .number ≡ 0 → checkAnswer t samples g formerY .number ≡ 0 →
-    TwoFlows (grid t samples) (checkImage t samples f formerX) (checkImage t samples g formerY) (checkAnswer t samples f formerX)
+    TwoFlows (grid t samples) f g (checkImage t samples f formerX) (checkImage t samples g formerY) (checkAnswer t samples f formerX)
     (checkAnswer t samples g formerY)
 two-checks t samples f g formerX formerY accepted also =
     two-flows (grid t samples) (check-demand t samples f formerX refl refl accepted) (check-demand t samples g formerY refl refl also)

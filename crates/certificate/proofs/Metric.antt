@@ -1,7 +1,7 @@
 -- The squared distance of two images: never negative, the same from either side, and 0 only where they are equal. Assumes
 -- nothing.
 use mathlib.Core.Path.{_≡_, ap, _∙_, sym}
-use Prim.Native.Nat.{ℕ, _<_}
+use Prim.Native.Nat.{ℕ}
 use lib.IntN.{ℤ, pos, _-ℤ_}
 use lib.Signed.{_≤ℤ_}
 use Rattle.integers.specs.Whole.{square}

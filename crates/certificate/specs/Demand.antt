@@ -1,4 +1,5 @@
--- Demand 3, said of the numbers that a call gives and of what the lent buffers hold when it returns (SPECIFICATION 8.4 to 8.8).
+-- Demand 3 and request F-5, said of the numbers that a call gives and of what the lent buffers hold when it returns
+-- (SPECIFICATION 8.4 to 8.8, 8.10).
 use mathlib.Core.List.{List}
 use mathlib.Core.Logic.{_↔_}
 use mathlib.Core.Path.{_≡_}
@@ -67,10 +68,12 @@ pub record RunDemand (t : Terms) (r : Rounds) (samples : List ℕ) (flow image :
       a .outcome ≡ Calls.settled
   pub settled : a .outcome ≡ Calls.settled → a .slack ≤ℤ pos (16 * (t .weight * pairsOf t))
 
--- Two accepted calls for one problem, with images x and y in their buffers and answers a and b: the images are within their
--- slacks, on the grid and on every whole division k, where the squared distance, as each slack, is k² times as large
--- (SPECIFICATION 8.10)
-pub record TwoFlows (p : Problem) (x y : List ℤ) (a b : Answer) : Type 0 where
+-- Two accepted calls for one problem, each a check or a run, with flows f and g, images x and y in the buffers and answers a
+-- and b: the images are within their slacks, on the grid and on every whole division k, where the squared distance, as each
+-- slack (by its certificate), is k² times as large (SPECIFICATION 8.10)
+pub record TwoFlows (p : Problem) (f g x y : List ℤ) (a b : Answer) : Type 0 where
+  pub one : Certificate p f x a
+  pub other : Certificate p g y b
   pub here : WithinSlacks p (at x) (at y) (a .slack) (b .slack)
   pub grown :
       (k : ℕ) → 1 ≤ k →
