@@ -75,14 +75,14 @@
  *
  * TWO FLOWS OF ONE JOB
  *
- * Check two flows for the same samples, size, weight and box (relief_run's flow and answer may stand
- * for one of them). Then
+ * Of two accepted calls with the same samples, size, weight and box, each a relief_check or a
+ * relief_run (whatever its rounds), with the images that they fill and the slacks that they give:
  *
  *   2 * squared distance of the two images <= slack + other slack
  *
  * the squared distance being the sum over pixels of the square of the difference of their values; and
- * where both slacks are 0, the images are equal. On the grid divided k times as finely (samples'
- * readings, weight, box and flows times k), both sides are k * k times as large.
+ * where both slacks are 0, the images are equal. On a grid divided k times as finely (readings,
+ * weight, box and flows times k), both sides are k * k times as large.
  *
  * Example: samples 0 and 2, width 2, height 1, weight 256, low 0, high 255. Flow -254 has the image
  * 382 386 and slack 16, flow -256 the image 384 384 and slack 0: the squared distance is 8, and

@@ -1,6 +1,6 @@
 -- The definitions see an image only at the pixels and a flow only at the pairs, so what agrees there may stand for one
 -- another: a buffer's list for the function that it was filled from. Assumes nothing.
-use mathlib.Core.Path.{_≡_, ap, ap₂, fun-ext}
+use mathlib.Core.Path.{_≡_, refl, ap, ap₂, fun-ext}
 use mathlib.Core.Bool.{cond}
 use Prim.Native.Nat.{ℕ, _<_}
 use lib.Dec.{eqb}
@@ -15,24 +15,25 @@ use Rattle.certificate.proofs.Lagrangian.{Sound}
 abbrev pub Agree : ℕ → (ℕ → ℤ) → (ℕ → ℤ) → Type 0
 Agree n x y = (i : ℕ) → i < n → x i ≡ y i
 
+pub distance-cong : (p : Problem) {x y v w : ℕ → ℤ} → Agree (p .pixels) x v → Agree (p .pixels) y w → distance p x y ≡ distance p v w
+unfolding distance
+distance-cong p same also = total-cong (p .pixels) (λ i l. ap₂ (λ (a b : ℤ). square (a -ℤ b)) (same i l) (also i l))
+
 module _ (p : Problem) (sound : Sound p) {x y : ℕ → ℤ} (same : Agree (p .pixels) x y) where
   pub fall-cong : (j : ℕ) → j < pairCount p → fall p x j ≡ fall p y j
   unfolding fall
   fall-cong j l = ap₂ (λ (a b : ℤ). a -ℤ b) (same (firstOf p j) (sound .first-in j l)) (same (secondOf p j) (sound .second-in j l))
 
-  pub misfit-cong : misfit p x ≡ misfit p y
-  unfolding misfit
-  misfit-cong = total-cong (p .pixels) (λ i l. ap (λ (v : ℤ). square (v -ℤ p .reading i)) (same i l))
+  -- the data term is the squared distance to the readings
+  misfit-cong : misfit p x ≡ misfit p y
+  unfolding misfit distance
+  misfit-cong = distance-cong p {y = p .reading} {w = p .reading} same (λ i l. refl)
 
   pub price-cong : price p x ≡ price p y
   unfolding price
   price-cong =
       ap₂ (λ (a b : ℤ). a +ℤ pos 2 *ℤ b) misfit-cong
       (total-cong (pairCount p) (λ j l. ap (λ (d : ℤ). pos (p .weight j) *ℤ abs d) (fall-cong j l)))
-
-pub distance-cong : (p : Problem) {x y v w : ℕ → ℤ} → Agree (p .pixels) x v → Agree (p .pixels) y w → distance p x y ≡ distance p v w
-unfolding distance
-distance-cong p same also = total-cong (p .pixels) (λ i l. ap₂ (λ (a b : ℤ). square (a -ℤ b)) (same i l) (also i l))
 
 module _ (p : Problem) {f g : ℕ → ℤ} (same : Agree (pairCount p) f g) where
   pub pull-cong : (i : ℕ) → pull p f i ≡ pull p g i

@@ -1,5 +1,6 @@
--- Whole divisions: on division k the flow's image is k times its image, price, floor and slack are k² times as large, and
--- the certificate holds there too, against every image of the multiplied box. Assumes nothing.
+-- Whole divisions: on division k the flow's image is k times its image, price, floor, slack and the squared distance of two
+-- images are k² times as large, and the certificate holds there too, against every image of the multiplied box. So does
+-- what two certificates say of their images. Assumes nothing.
 use mathlib.Core.Path.{_≡_, refl, sym, ap, ap₂, _∙_, subst, fun-ext}
 use mathlib.Core.Bool.{Bool, true, false, cond}
 use mathlib.Core.List.{List}
@@ -141,7 +142,7 @@ certificate p sound flow values a within g =
           certified-figures (divided k p) (sound-scale k p sound) (times k (at flow)) (feasible-scale k p (at flow) within) (figures-scale k p g);
     }
 
--- Two images with their certificates: nothing more is asked
+-- Request F-5 of two images, from their certificates alone
 pub two-flows : (p : Problem) {f g x y : List ℤ} {a b : Answer} → Certificate p f x a → Certificate p g y b → TwoFlows p f g x y a b
 two-flows p {f} {g} {x} {y} c d =
     record {

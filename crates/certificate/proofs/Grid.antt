@@ -1,4 +1,4 @@
--- Demand 3 at document 01's grid. Assumes nothing.
+-- Demand 3 and request F-5 at document 01's grid. Assumes nothing.
 use mathlib.Core.Path.{_≡_, refl, sym, ap, _∙_, subst}
 use mathlib.Core.Bool.{Bool, true, false, cond}
 use mathlib.Core.List.{List}

@@ -40,7 +40,7 @@ pub record Certified (p : Problem) (x : ℕ → ℤ) (price slack : ℤ) : Type 
 
 -- The certificate of an answer, of the flow and the image in the buffers: the flow is within the weights, and the image is
 -- certified on the grid itself, and on every whole division k of it, where the image is k times as large, and price, floor
--- and slack are k² times as large (SPECIFICATION 8.6)
+-- and slack are k² times as large (SPECIFICATION 8.4, 8.6, 8.10)
 pub record Certificate (p : Problem) (flow image : List ℤ) (a : Answer) : Type 0 where
   pub within : Feasible p (at flow)
   pub figures : Figures p (at flow) (at image) (a .price) (a .floor) (a .slack)

@@ -90,7 +90,8 @@ impl<I: Input, T: Debug + PartialEq> Call<I, T> {
         answer.map(|accepted| (self.word)(&accepted))
     }
 
-    fn difference(&self, differs: &str, input: &I) -> Difference {
+    /// What differs, with the whole input.
+    pub fn difference(&self, differs: &str, input: &impl Debug) -> Difference {
         Difference(format!("{} DIFFERS: {differs}\n{input:?}", self.name))
     }
 }

@@ -68,21 +68,19 @@ fn compare_two_flows(step: usize) -> Result<(), Difference> {
         "equal with slack above 0",
         "nearer than the bound",
     ];
-    compare_family(
-        "check, two flows of one job",
-        two_flows(step),
-        |[one, other]| {
-            let (first, one) = CHECK.compare(one)?;
-            let (second, other) = CHECK.compare(other)?;
-            match (first, second) {
-                (Ok(first), Ok(second)) => {
-                    beside_the_bound([&one.image, &other.image], [first.slack, second.slack])
-                        .map(Ok)
-                }
-                (Err(refusal), _) | (_, Err(refusal)) => Ok(Err(refusal)),
+    compare_family("check, two flows of one job", two_flows(step), |inputs| {
+        let [one, other] = inputs;
+        let (first, one) = CHECK.compare(one)?;
+        let (second, other) = CHECK.compare(other)?;
+        match (first, second) {
+            (Ok(first), Ok(second)) => {
+                beside_the_bound([&one.image, &other.image], [first.slack, second.slack])
+                    .map(Ok)
+                    .map_err(|apart| CHECK.difference(&apart, inputs))
             }
-        },
-    )?
+            (Err(refusal), _) | (_, Err(refusal)) => Ok(Err(refusal)),
+        }
+    })?
     .met(&words, &[])
 }
 

@@ -2,18 +2,16 @@
 
 use relief_reference::problem::{squared_distance, widened, within_gaps};
 
-use crate::Difference;
-
-/// The images of two flows of one job beside the bound of their slacks, in a word. A difference
-/// where they are further apart.
-pub fn beside_the_bound(images: [&[i32]; 2], slacks: [u64; 2]) -> Result<String, Difference> {
+/// The images of two flows of one job beside the bound of their slacks, in a word. An error where
+/// they are further apart.
+pub fn beside_the_bound(images: [&[i32]; 2], slacks: [u64; 2]) -> Result<String, String> {
     let [one, other] = images.map(widened);
     let gaps = slacks.map(i128::from);
     let (distance, sum) = (squared_distance(&one, &other), gaps.iter().sum());
     if !within_gaps([&one, &other], gaps) {
-        return Err(Difference(format!(
-            "two flows of one job DIFFER: slacks {slacks:?}, squared distance {distance}\n{images:?}"
-        )));
+        return Err(format!(
+            "the images of two flows have squared distance {distance}, with slacks {slacks:?}"
+        ));
     }
     Ok(match (distance, sum) {
         (0, 0) => "equal with slack 0",

@@ -9,7 +9,7 @@ use relief_reference::terms::WEIGHT_LIMIT;
 use relief_reference::Rounds;
 
 use crate::child::Program;
-use crate::compare::{compare as compare_tape, compare_text};
+use crate::compare::{compare as compare_tape, compare_text, report};
 
 /// Sizes with the most pixels that the program takes.
 const LARGEST: [(u32, u32); 3] = [(64, 64), (4_096, 1), (1, 4_096)];
@@ -47,7 +47,9 @@ fn compare_two_flows(program: &Program, step: usize) -> Result<(), Difference> {
             compare_text(program, &tape.clone().into(), text)?;
         }
         let [(slack, image), (other_slack, other)] = texts.each_ref().map(|text| printed(text));
-        beside_the_bound([&image, &other], [slack, other_slack]).map(Ok)
+        beside_the_bound([&image, &other], [slack, other_slack])
+            .map(Ok)
+            .map_err(|apart| report(&apart, &tapes.concat().into()))
     })?
     .met(&["nearer than the bound"], &[])
 }

@@ -2,7 +2,7 @@
 //! guarantee, and that of two flows of one job, on the grid and its whole divisions, and
 //! the bounds of a run.
 
-use relief_inputs::{two_by_one, Case, Random};
+use relief_inputs::{beside_the_bound, two_by_one, Case, Random};
 use relief_reference::problem::{squared_distance, widened, within_gaps};
 use relief_reference::rounds::{quick_rounds, steady_step};
 use relief_reference::{Outcome, Problem};
@@ -200,26 +200,36 @@ fn every_image_of_a_small_box() {
     assert!(problem.duality_gap(&[40]) > 0);
 }
 
-/// Request F-5 for two answers of one job, on the grid and on whole divisions of it, where both
-/// sides are k² times as large.
+/// Request F-5 for two flows of a problem. Gives the squared distance of their images and both gaps.
+fn assert_within_gaps(problem: &Problem, flows: [&[i64]; 2]) -> (i128, [i128; 2]) {
+    let [image, other] = flows.map(|flow| problem.image_of(flow));
+    let gaps = flows.map(|flow| problem.duality_gap(flow));
+    assert!(within_gaps([&image, &other], gaps));
+    (squared_distance(&image, &other), gaps)
+}
+
+/// The same for two answers of one job, on the grid and on whole divisions of it, where both sides
+/// are k² times as large.
 fn assert_within_slacks(case: &Case, answers: [&Answer; 2]) {
-    let problem = case.problem();
-    let flows = answers.map(|answer| widened(&answer.flow));
-    let images = answers.map(|answer| widened(&answer.image));
+    let [flow, other_flow] = answers.map(|answer| widened(&answer.flow));
+    let [image, other_image] = answers.map(|answer| widened(&answer.image));
     let slacks = answers.map(|answer| i128::from(answer.figures.slack));
-    let distance = squared_distance(&images[0], &images[1]);
+    let distance = squared_distance(&image, &other_image);
     for k in 1..=5 {
-        let problem = problem.divided(k);
+        let flows = [&multiplied(k, &flow)[..], &multiplied(k, &other_flow)];
+        let found = assert_within_gaps(&case.problem().divided(k), flows);
         let area = i128::from(k * k);
-        let images = flows
-            .each_ref()
-            .map(|flow| problem.image_of(&multiplied(k, flow)));
-        let gaps = flows
-            .each_ref()
-            .map(|flow| problem.duality_gap(&multiplied(k, flow)));
-        assert_eq!(gaps, slacks.map(|slack| area * slack));
-        assert_eq!(squared_distance(&images[0], &images[1]), area * distance);
-        assert!(within_gaps(images.each_ref().map(Vec::as_slice), gaps));
+        assert_eq!(found, (area * distance, slacks.map(|slack| area * slack)));
+    }
+}
+
+/// An answer beside a flow of a division that need not be k times one of the grid.
+fn assert_within_finer_slacks(random: &mut Random, case: &Case, answer: &Answer) {
+    for k in 2..=5 {
+        let weight = k as u32 * case.terms.weight;
+        let finer = widened(&random.flow(answer.flow.len(), weight));
+        let flow = multiplied(k, &widened(&answer.flow));
+        assert_within_gaps(&case.problem().divided(k), [&flow, &finer]);
     }
 }
 
@@ -243,6 +253,7 @@ fn two_flows_of_one_job_are_within_their_slacks() {
         for answers in [[&first, &second], [&first, &run], [&run, &second]] {
             assert_within_slacks(&case, answers);
         }
+        assert_within_finer_slacks(&mut random, &case, &first);
 
         let sum = first.figures.slack + second.figures.slack;
         let distance = squared_distance(&widened(&first.image), &widened(&second.image));
@@ -286,7 +297,7 @@ fn twice_the_squared_distance_may_be_the_sum() {
     assert_within_slacks(&case, [&one, &other]);
 }
 
-/// It is said of one job: with another scan, weight or box two slacks of 0 bound nothing.
+/// It is said of one job: with another scan, weight or box it fails, even where both slacks are 0.
 #[test]
 fn two_jobs_may_be_further_apart() {
     let best = two_by_one().check(&[-256]).unwrap();
@@ -296,7 +307,8 @@ fn two_jobs_may_be_further_apart() {
     (levels.terms.low, levels.terms.high) = (3, 3);
     for (case, flow) in [(scan, -256), (weight, 0), (levels, 0)] {
         let other = case.check(&[flow]).unwrap();
-        assert_eq!([best.figures.slack, other.figures.slack], [0, 0]);
-        assert_ne!(best.image, other.image);
+        let slacks = [best.figures.slack, other.figures.slack];
+        assert_eq!(slacks, [0, 0]);
+        assert!(beside_the_bound([&best.image, &other.image], slacks).is_err());
     }
 }
