@@ -14,7 +14,8 @@ use Rattle.model.specs.Grid.{readingOf, lowEnd, highEnd, verticalPairs, horizon
 use Rattle.model.specs.Root.{rootBy, root}
 use Rattle.model.specs.Rounds.{eighth, nearestEighth, stepped, step, nextMomentum, extrapolate, quickStart, quickRound, quickRounds, wouldMove, firstMoving, steadyRounds}
 use Rattle.certificate.specs.Demand.{WithinSlacks, Certified}
-use Rattle.certificate.specs.Counterexamples.{Alteration, close, certified, alike, alikeAtZero, near, withinSlacks, equalAtZero, settledWithin, movedWithin, settlesWhen, distanceRows, twoFlowsRows, divisionRows, settledRows, movedRows, settlesRows, rows, metExactly}
+use Rattle.certificate.specs.Statements.{close, certified, alike, alikeAtZero, near, withinSlacks, equalAtZero, settledWithin, movedWithin, settlesWhen}
+use Rattle.certificate.specs.Counterexamples.{Alteration, distanceRows, twoFlowsRows, divisionRows, settledRows, movedRows, settlesRows, rows, metExactly}
 
 pub counterexamples : (map (λ (r : Alteration). r .statement) rows ≡ map (λ _. true) rows)
     × (map (λ (r : Alteration). r .altered) rows ≡ map (λ _. false) rows)

@@ -6,18 +6,16 @@
 -- is no larger after the clamp, so neither is the slack); and 3 to 8 for 2: a round raises the floor by at least 10 − 2 where
 -- it moves one pair, 20 − 6 for two, 30 − 12 for three, and 2 for each of four or more (by hand, not proved here). So
 -- 2 × moved meets the starting slack only where both are 0, and 2 × (allowance + 1) of a spent run never does.
-use mathlib.Core.Bool.{Bool, not, _&&_, _||_}
+use mathlib.Core.Bool.{Bool}
 use mathlib.Core.List.{List, [], _∷_, _++_}
-use Prim.Native.Nat.{ℕ, _+_, _*_}
+use Prim.Native.Nat.{ℕ, _*_}
 use lib.IntN.{ℤ, pos, negℤ, _+ℤ_, _*ℤ_}
-use lib.ListN.{getD}
-use lib.Signed.{leZ, ltZ, shrZ}
-use Rattle.integers.specs.Whole.{quotient, sign, sameZ}
+use Rattle.integers.specs.Whole.{quotient, sameZ}
 use Rattle.model.specs.Lists.{at}
 use Rattle.model.specs.Problem.{Problem, price, image, floor, slack, distance, divided, times}
-use Rattle.model.specs.Grid.{lowEnd, highEnd, gridPairs, grid}
-use Rattle.model.specs.Rounds.{eighth, nearestEighth, quickRounds, Steady, steadyRounds}
-use Rattle.model.specs.Values.{one, pair}
+use Rattle.model.specs.Rounds.{nearestEighth}
+use Rattle.certificate.specs.Statements.{start, ahead, run, eighthDown, eighthAway, close, certified, alike, alikeAtZero, near, withinSlacks, equalAtZero, timesAsLarge, settledWithin, movedWithin, settlesWhen}
+use Rattle.certificate.specs.Jobs.{scanTwoByOne, scanTwoByTwo, scanRow, scanThreeByThree, readingsFourByOne, scanThreeByOne, flow, flows, other}
 
 -- A statement and the same altered, each as a test that computes
 pub record Alteration : Type 0 where
@@ -27,131 +25,7 @@ pub record Alteration : Type 0 where
 abbrev pub beside : Bool → Bool → Alteration
 beside s a = record { statement = s; altered = a }
 
--- ---- Runs
-
--- The flow P that quick rounds leave, the R ahead of it, and how a run ends whose steady rounds add this share of a fall
-abbrev pub start : Problem → ℕ → ℕ → ℤ
-start p quick = at (quickRounds eighth p quick .iterate)
-
-abbrev pub ahead : Problem → ℕ → ℕ → ℤ
-ahead p quick = at (quickRounds eighth p quick .extrapolated)
-
-abbrev pub ends : (ℤ → ℤ) → Problem → ℕ → ℕ → Steady
-ends share p quick allowance = steadyRounds share p allowance (quickRounds eighth p quick .iterate)
-
--- .. and how document 01's run ends, as request F-1 has it
-abbrev pub run : Problem → ℕ → ℕ → Steady
-run = ends nearestEighth
-
--- d / 8 rounded down, and away from zero
-abbrev pub eighthDown : ℤ → ℤ
-eighthDown d = shrZ d 8
-
-abbrev pub eighthAway : ℤ → ℤ
-eighthAway d = quotient (d +ℤ pos 7 *ℤ sign d) (pos 8)
-
--- ---- The statements as tests
-
--- The distance law for an image x against y, s standing for the slack: price + squared distance ≤ other price + slack
-unfoldable pub close : ℤ → Problem → (ℕ → ℤ) → (ℕ → ℤ) → Bool
-close s p x y = leZ (price p x +ℤ distance p x y) (price p y +ℤ s)
-
--- .. for a flow's image, with the slack of the flow
-unfoldable pub certified : Problem → (ℕ → ℤ) → (ℕ → ℤ) → Bool
-certified p f y = close (slack p f) p (image p f) y
-
--- The flow's image equals y exactly when their prices are equal ..
-unfoldable pub alike : Problem → (ℕ → ℤ) → (ℕ → ℤ) → Bool
-alike p f y =
-    let prices : Bool = sameZ (price p (image p f)) (price p y) in
-    let images : Bool = sameZ (distance p (image p f) y) (pos 0) in
-    prices && images || not prices && not images
-
--- .. where the slack is 0
-unfoldable pub alikeAtZero : Problem → (ℕ → ℤ) → (ℕ → ℤ) → Bool
-alikeAtZero p f y = not (sameZ (slack p f) (pos 0)) || alike p f y
-
--- Two images x and y, s standing for the sum of their slacks: r × squared distance ≤ sum, with 2 for r as request F-5 has it
-unfoldable pub near : ℕ → ℤ → Problem → (ℕ → ℤ) → (ℕ → ℤ) → Bool
-near r s p x y = leZ (pos r *ℤ distance p x y) s
-
--- .. for the images of two flows, of one problem or of two, with the slack of each
-unfoldable pub withinSlacks : Problem → (ℕ → ℤ) → Problem → (ℕ → ℤ) → Bool
-withinSlacks p f q g = near 2 (slack p f +ℤ slack q g) p (image p f) (image q g)
-
--- .. and equal images where s and r, standing for the slacks, are 0
-unfoldable pub equalAtZero : ℤ → ℤ → Problem → (ℕ → ℤ) → (ℕ → ℤ) → Bool
-equalAtZero s r p f g =
-    not (sameZ s (pos 0) && sameZ r (pos 0)) || sameZ (distance p (image p f) (image p g)) (pos 0)
-
--- A number on a whole division is c times the one on the grid
-abbrev pub timesAsLarge : ℕ → ℤ → ℤ → Bool
-timesAsLarge c there here = sameZ there (pos c *ℤ here)
-
--- The slack of a settled run is at most the bound
-unfoldable pub settledWithin : ℕ → Problem → Steady → Bool
-settledWithin bound p e = not (e .settled) || leZ (slack p (at (e .flow))) (pos bound)
-
--- r × moved is at most the slack of the flow f
-unfoldable pub movedWithin : ℕ → Problem → (ℕ → ℤ) → Steady → Bool
-movedWithin r p f e = leZ (pos (r * e .moved)) (slack p f)
-
--- A run settles whenever r × (allowance + 1) exceeds the slack of the flow that its quick rounds leave
-unfoldable pub settlesWhen : ℕ → (ℤ → ℤ) → Problem → ℕ → ℕ → Bool
-settlesWhen r share p quick allowance =
-    not (ltZ (slack p (start p quick)) (pos (r * (allowance + 1)))) || ends share p quick allowance .settled
-
--- ---- Jobs, flows and images
-
--- 2 by 1, samples 0 and 2, with a weight and a box
-abbrev pub scanTwoByOne : ℕ → ℕ → ℕ → Problem
-scanTwoByOne weight low high =
-    grid (record { width = 2; height = 1; weight = weight; low = low; high = high }) (0 ∷ 2 ∷ [])
-
--- 2 by 2, samples 0 2 in both rows, with a weight
-abbrev pub scanTwoByTwo : ℕ → Problem
-scanTwoByTwo weight =
-    grid (record { width = 2; height = 2; weight = weight; low = 0; high = 255 }) (0 ∷ 2 ∷ 0 ∷ 2 ∷ [])
-
--- A row with a weight and samples
-abbrev pub scanRow : ℕ → ℕ → List ℕ → Problem
-scanRow weight width samples =
-    grid (record { width = width; height = 1; weight = weight; low = 0; high = 255 }) samples
-
--- 3 by 3, samples 0 2 0, 2 1 2 and 0 1 0, weight 1
-abbrev pub scanThreeByThree : Problem
-scanThreeByThree =
-    grid (record { width = 3; height = 3; weight = 1; low = 0; high = 255 })
-    (0 ∷ 2 ∷ 0 ∷ 2 ∷ 1 ∷ 2 ∷ 0 ∷ 1 ∷ 0 ∷ [])
-
--- 4 by 1, weight 1, readings 0, 5, 9 and 13: no sample stands for these, but the laws are of any readings
-abbrev pub readingsFourByOne : Problem
-readingsFourByOne =
-    record {
-      pixels = 4;
-      reading = λ i. pos (getD (0 ∷ 5 ∷ 9 ∷ 13 ∷ []) i 0);
-      low = lowEnd 0;
-      high = highEnd 255;
-      pairs = gridPairs 4 1;
-      weight = λ _. 1;
-    }
-
--- 3 by 1, samples 0 2 4, weight 256
-abbrev pub scanThreeByOne : Problem
-scanThreeByOne = scanRow 256 3 (0 ∷ 2 ∷ 4 ∷ [])
-
--- the flow of a 2 by 1 job, that of a 3 by 1 job, and the other image
-abbrev pub flow : ℤ → ℕ → ℤ
-flow f = at (one f)
-
-abbrev pub flows : ℤ → ℤ → ℕ → ℤ
-flows f g = at (f ∷ g ∷ [])
-
-abbrev pub other : ℕ → ℕ → ℕ → ℤ
-other a b = at (pair a b)
-
--- ---- The table
-
+-- The distance law, and equal prices at slack 0
 unfoldable pub distanceRows : List Alteration
 distanceRows =
     let p : Problem = scanTwoByOne 256 0 255 in
