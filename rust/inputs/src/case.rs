@@ -59,6 +59,15 @@ pub fn about_the_box() -> Case {
     case
 }
 
+/// The terms of the 2 by 1 job on 3 by 1 pixels, which has two flows with slacks above 0 whose
+/// images are as far apart as these allow.
+pub fn three_by_one() -> Case {
+    let mut case = two_by_one();
+    case.terms.width = 3;
+    case.samples = vec![0, 2, 4];
+    case
+}
+
 /// The terms of the 2 by 1 job on 2 by 2 pixels.
 pub fn two_by_two() -> Case {
     let mut case = two_by_one();

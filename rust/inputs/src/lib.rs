@@ -10,7 +10,9 @@ mod season;
 mod tape;
 mod two_flows;
 
-pub use case::{about_the_box, flat, narrow_box, two_by_one, two_by_two, Case, TWO_BY_ONE_TEXT};
+pub use case::{
+    about_the_box, flat, narrow_box, three_by_one, two_by_one, two_by_two, Case, TWO_BY_ONE_TEXT,
+};
 pub use chessboard::{chessboard, chessboard_flow};
 pub use family::{compare_family, status, Answer, Difference, Tally};
 pub use random::Random;

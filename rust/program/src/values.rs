@@ -1,8 +1,8 @@
 //! The documents' values, each with its text.
 
 use relief_inputs::{
-    about_the_box, compare_family, flat, narrow_box, two_by_one, two_by_two, Case, Difference,
-    Tape, TWO_BY_ONE_TEXT,
+    about_the_box, compare_family, flat, narrow_box, three_by_one, two_by_one, two_by_two, Case,
+    Difference, Tape, TWO_BY_ONE_TEXT,
 };
 use relief_reference::program::clean;
 
@@ -47,6 +47,7 @@ fn values() -> Vec<(Vec<u8>, String)> {
         check(&job, 0, "checked 0 262144 0 262144", "128 640"),
         check(&job, -256, "checked 0 131072 131072 0", "384 384"),
         check(&job, 256, "checked 0 540672 -376832 917504", "0 896"),
+        check(&job, -254, "checked 0 131080 131064 16", "382 386"),
         (changed(|tape| tape.set_flow(0, 257)), refused(8, 0)),
         (run(0, 16), text("spent 16 131090 131054 36", "381 387")),
         (run(0, 17), TWO_BY_ONE_TEXT.to_string()),
@@ -69,6 +70,14 @@ fn values() -> Vec<(Vec<u8>, String)> {
                 "settled 0 3857769986 3857769986 0",
                 "2048 2048 2176 2688 3200 3327 3327",
             ),
+        ),
+        (
+            three_by_one().tape(&[0, -256]),
+            text("checked 0 524288 131072 393216", "128 896 896"),
+        ),
+        (
+            three_by_one().tape(&[-256, 0]),
+            text("checked 0 524288 131072 393216", "384 384 1152"),
         ),
         (
             two_by_two().tape(&[1, 2, 4, 8]),

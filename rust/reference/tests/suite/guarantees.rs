@@ -2,7 +2,7 @@
 //! guarantee, and that of two flows of one job, on the grid and its whole divisions, and
 //! the bounds of a run.
 
-use relief_inputs::{beside_the_bound, two_by_one, Case, Random};
+use relief_inputs::{beside_the_bound, three_by_one, two_by_one, Case, Random};
 use relief_reference::problem::{squared_distance, widened, within_gaps};
 use relief_reference::rounds::{quick_rounds, steady_step};
 use relief_reference::{Outcome, Problem};
@@ -282,9 +282,7 @@ fn twice_the_squared_distance_may_be_the_sum() {
     assert_eq!((settled.figures.slack, best.figures.slack), (2 * 8, 0));
     assert_within_slacks(&case, [&settled, &best]);
 
-    let mut case = two_by_one();
-    case.terms.width = 3;
-    case.samples = vec![0, 2, 4];
+    let case = three_by_one();
     let flows = [[0, -256], [-256, 0]];
     let [one, other] = flows.map(|flow| case.check(&flow).unwrap());
     assert_eq!(one.image, [128, 896, 896]);
