@@ -107,8 +107,8 @@ pub struct Figures {
     pub price: u64,
     /// The floor of the flow; 0 for `price`.
     pub floor: i64,
-    /// Price minus floor; 0 for `price`. For every image of the box, this image's price plus the
-    /// squared distance of the two is at most the other's price plus this. With the slack of
+    /// Price minus floor; 0 for `price`. Of check and run: for every image of the box, `price` plus
+    /// the squared distance of the two is at most the other's price plus this. With the slack of
     /// another flow of the same job it bounds the distance of the two flows' images (`check`).
     pub slack: u64,
 }
