@@ -103,9 +103,9 @@ extern "C" {
 
 /* The version. Before 1.0.0 a change that callers must follow raises MINOR. */
 #define RELIEF_VERSION_MAJOR 0
-#define RELIEF_VERSION_MINOR 2
+#define RELIEF_VERSION_MINOR 3
 #define RELIEF_VERSION_PATCH 0
-#define RELIEF_VERSION_STRING "0.2.0"
+#define RELIEF_VERSION_STRING "0.3.0"
 
 /* The limits: the largest number of each kind that is allowed. */
 #define RELIEF_MAX_SIDE 4096           /* width and height; the smallest is 1 */
@@ -176,12 +176,14 @@ enum relief_refusal {
     RELIEF_REFUSED_IMAGE_VALUE = 9,      /* image value outside the box; place: the first index */
     RELIEF_REFUSED_QUICK_ROUNDS = 10,    /* more than 4,096 quick rounds */
     RELIEF_REFUSED_UNKNOWN_KIND = 12,    /* unknown kind of record; place: the record's offset */
-    RELIEF_REFUSED_INPUT_ENDS = 13,      /* the tape ends before the record does, or where one is
-                                            due; place: the tape's length */
+    RELIEF_REFUSED_TAPE_CUT = 13,        /* the tape ends inside a record; place: that record's
+                                            offset */
     RELIEF_REFUSED_KIND_NOT_ALLOWED = 14, /* kind not allowed here; place: the record's offset */
     RELIEF_REFUSED_BYTE_AFTER_END = 15,  /* a byte after the end record; place: its offset */
-    RELIEF_REFUSED_BUFFER_TOO_SHORT = 16 /* a buffer that a tape is read into or written to is too
+    RELIEF_REFUSED_BUFFER_TOO_SHORT = 16, /* a buffer that a tape is read into or written to is too
                                             short */
+    RELIEF_REFUSED_TAPE_UNFINISHED = 18  /* the tape ends where a record is due; place: the tape's
+                                            length */
 };
 
 /* What a call returned, in words: one line without an end, never null. */
@@ -212,14 +214,16 @@ static inline const char *relief_refusal_text(uint32_t refusal)
         return "there are over 4,096 quick rounds";
     case RELIEF_REFUSED_UNKNOWN_KIND:
         return "the record's kind is unknown";
-    case RELIEF_REFUSED_INPUT_ENDS:
-        return "the tape ends inside a record, or where one is due";
+    case RELIEF_REFUSED_TAPE_CUT:
+        return "the tape ends inside a record";
     case RELIEF_REFUSED_KIND_NOT_ALLOWED:
         return "the record's kind is not allowed here";
     case RELIEF_REFUSED_BYTE_AFTER_END:
         return "a byte follows the end record";
     case RELIEF_REFUSED_BUFFER_TOO_SHORT:
         return "a buffer that the tape is read into or written to is too short";
+    case RELIEF_REFUSED_TAPE_UNFINISHED:
+        return "the tape ends where a record is due";
     default:
         return "not a refusal of this library";
     }
@@ -323,11 +327,12 @@ uint32_t relief_run(
  *
  * Lengths before the tape is read: RELIEF_READ_SAMPLES(tape_len) and RELIEF_READ_FLOW(tape_len). A
  * tape that is refused in these with 16 is accepted in none: it names a size with more samples than
- * its bytes can hold, and longer buffers get it another number, such as 13. In buffers of
+ * its bytes can hold, and longer buffers get it another number, such as 13 or 18. In buffers of
  * RELIEF_MAX_PIXELS and RELIEF_MAX_PAIRS no tape is refused with 16.
  *
- * Refusals: at each record 12, 14, 13, then its terms (1, 2, 3 or 10; place: the record's offset),
- * and 16 right after 1; then 15; then 8. The first faulty record wins.
+ * Refusals: at each record 18, 12, 14, 13, then its terms (1, 2, 3 or 10; place: the record's
+ * offset), and 16 right after 1; then 15; then 8. The first faulty record wins. With 13 the tape was
+ * cut: fetch it again. With 18 it was never finished: send it back to who made it.
  */
 uint32_t relief_read(
     const uint8_t *tape, size_t tape_len,

@@ -365,6 +365,16 @@ static void expect_job(const struct job *j, const char *input, bool flowed)
 static const uint8_t TAPE[] = {
     1, 2, 0, 1, 0, 2, 0, 1, 0, 255, 3, 0, 0, 100, 0, 4, 0, 4, 2, 5, 0, 255, 255, 255, 0};
 
+/* Where the last of its records begins that does so at an offset or before it. */
+static size_t record_start(size_t offset)
+{
+    static const size_t starts[] = {0, 5, 10, 15, 17, 19, 24};
+    size_t start = 0;
+    for (size_t r = 0; r < sizeof starts / sizeof *starts && starts[r] <= offset; r++)
+        start = starts[r];
+    return start;
+}
+
 /* That tape cut to a length, or with zeros behind it, and buffers of these lengths. */
 static struct job taped(size_t tape_len, size_t samples_len, size_t flow_len)
 {
@@ -404,9 +414,11 @@ static const struct damage {
 static void refused_read(void)
 {
     for (size_t length = 0; length < sizeof TAPE; length++) {
+        size_t start = record_start(length);
+        uint32_t number = start == length ? RELIEF_REFUSED_TAPE_UNFINISHED : RELIEF_REFUSED_TAPE_CUT;
         char input[50];
         snprintf(input, sizeof input, "a tape cut to %zu bytes", length);
-        expect_unread(taped(length, 2, 1), input, RELIEF_REFUSED_INPUT_ENDS, length);
+        expect_unread(taped(length, 2, 1), input, number, start);
     }
     for (size_t d = 0; d < sizeof DAMAGES / sizeof *DAMAGES; d++) {
         const struct damage *damage = &DAMAGES[d];

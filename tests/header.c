@@ -67,7 +67,8 @@ static void expect_texts(void)
     const char *unknown = relief_refusal_text(UINT32_MAX);
     for (uint32_t number = 0; number <= 20; number++) {
         const char *text = relief_refusal_text(number);
-        int named = number <= RELIEF_REFUSED_BUFFER_TOO_SHORT && number != 11;
+        /* there is no 11, and 17 is the programs' */
+        int named = number <= RELIEF_REFUSED_TAPE_UNFINISHED && number != 11 && number != 17;
         expect((strcmp(text, unknown) != 0) == named, "named", number, number);
         for (uint32_t other = 0; named && other < number; other++)
             expect(strcmp(text, relief_refusal_text(other)) != 0, "same text", other, number);

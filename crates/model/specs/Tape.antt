@@ -161,22 +161,27 @@ absorbed p (Flow f) =
 
 -- ---- Where reading turns back (SPECIFICATION 6.5)
 
--- Per record at offset o, where `may` tells which kinds are allowed: 12 unknown kind; 14 kind not allowed here; 13 the
--- input ends before the record does; 15 a byte after the end, unless more may follow it. Where the input ends and a record
--- is due there is no kind to judge: that 13 stands first
+-- Per record of a known kind at offset o of an input of this length, allowed here or not: 14 kind not allowed here; 13 the
+-- input ends inside the record; 15 a byte after the end, unless more may follow it
+abbrev pub bodyRows : Bool → ℕ → ℕ → ℕ → Bool → List Row
+bodyRows followed len o kind ok =
+    row (not ok) 14 o
+    ∷ row (ltb len (o + 1 + bodyLength kind)) 13 o
+    ∷ row (not followed && (eqb kind 0 && ltb (o + 1) len)) 15 (o + 1)
+    ∷ []
+
+-- Per record at offset o, where `may` tells which kinds are allowed: 18 the input ends where the record is due; 12 unknown
+-- kind; then the rows of a known one
 unfoldable pub recordRows : Bool → List ℕ → ℕ → (ℕ → Bool) → List Row
 recordRows followed tape o may =
     let kind : ℕ = getD tape o 0 in
-    row (leb (length tape) o) 13 (length tape)
+    row (leb (length tape) o) 18 (length tape)
     ∷ row (not (known kind)) 12 o
-    ∷ row (not (may kind)) 14 o
-    ∷ row (ltb (length tape) (o + 1 + bodyLength kind)) 13 (length tape)
-    ∷ row (not followed && (eqb kind 0 && ltb (o + 1) (length tape))) 15 (o + 1)
-    ∷ []
+    ∷ bodyRows followed (length tape) o kind (may kind)
 
 -- the numbers that say that the input ends too early
 abbrev pub tooShort : ℕ → Bool
-tooShort number = eqb number 13
+tooShort number = eqb number 13 || eqb number 18
 
 -- Terms are judged at their record, whose offset is the place; 16 right after 1, for all samples and all pairs, at place 0
 abbrev pub entryRows : ℕ → Lent → Entry → List Row
@@ -204,7 +209,7 @@ unless (Refuse number place) r = turned number place
 
 -- Records from offset o on; every record takes a byte at least, so as many records as bytes are enough
 unfoldable pub parseFrom : ℕ → List ℕ → Lent → ℕ → Progress → Parse
-parseFrom zero tape lent o p = turned 13 (length tape)
+parseFrom zero tape lent o p = turned 18 (length tape)
 parseFrom (suc k) tape lent o p =
     let kind : ℕ = getD tape o 0 in
     let entry : Entry = decoded kind (λ i. getD tape (o + 1 + i) 0) in

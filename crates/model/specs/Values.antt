@@ -1,11 +1,12 @@
 -- The values that document 01 marks to be proved (●), in its order, with the steady rounds of request F-1 and the centres
--- of request F-3: what is asked, and what is to be given; after them the text that it prints for the 2 by 1 job, the
--- report's text for three seasons of that job (request F-2), a 2 by 2 job of our own, worked by hand, in which the order of
--- the pairs tells, and falls whose eighth is a half or just beyond. One theorem, `values` of proofs/Values.antt, says that
--- the definitions give it in every case (docs/SPECIFICATION.md, section 9).
+-- of request F-3: what is asked, and what is to be given; after them the text that it prints for the 2 by 1 job and for
+-- tapes that end too early (request F-6), the report's text for seasons of that job (request F-2), a 2 by 2 job of our own,
+-- worked by hand, in which the order of the pairs tells, and falls whose eighth is a half or just beyond. One theorem,
+-- `values` of proofs/Values.antt, says that the definitions give it in every case (docs/SPECIFICATION.md, section 9).
 use mathlib.Core.List.{List, [], _∷_, _++_}
 use Prim.Native.Nat.{ℕ, _*_}
 use lib.IntN.{ℤ, pos, negℤ}
+use lib.ListN.{take}
 use Rattle.model.specs.Lists.{zeros, chain}
 use Rattle.model.specs.Grid.{Terms, grid}
 use Rattle.model.specs.Rounds.{eighth, nearestEighth, quickRounds}
@@ -16,13 +17,14 @@ use Rattle.model.specs.Program.{programText}
 use Rattle.model.specs.Season.{seasonText}
 
 -- A check of a flow; a run with these rounds; the T that k quick rounds leave, Tₖ₊₁; the program's text for the job's tape
--- with these rounds and no flow; the season report's text for so many such tapes and more bytes behind them; or what a
--- quick and a steady round's step add for a fall
+-- with these rounds and no flow; its text for so many bytes of that tape and others behind them; the season report's text
+-- for so many such tapes and more bytes behind them; or what a quick and a steady round's step add for a fall
 pub data Asked : Type 0 where
   checking : List ℤ → Asked
   running : ℕ → ℕ → Asked
   momentum : ℕ → Asked
   printing : ℕ → ℕ → Asked
+  cutting : ℕ → ℕ → ℕ → List ℕ → Asked
   reporting : ℕ → ℕ → ℕ → List ℕ → Asked
   sharing : ℤ → Asked
 
@@ -54,12 +56,15 @@ ask t samples (running quick allowance) =
 ask t samples (momentum k) = number (quickRounds eighth (grid t samples) k .momentum)
 ask t samples (printing quick allowance) =
     text (programText (tapeOf t (record { quick = quick; allowance = allowance }) samples []))
+ask t samples (cutting quick allowance count behind) =
+    text (programText (take count (tapeOf t (record { quick = quick; allowance = allowance }) samples []) ++ behind))
 ask t samples (reporting quick allowance times behind) =
     text
     (seasonText (chain times (λ _. tapeOf t (record { quick = quick; allowance = allowance }) samples []) ++ behind))
 ask t samples (sharing d) = shares (eighth d) (nearestEighth d)
 
--- The 2 by 1 job: samples 0 and 2, weight 256, box 0 to 255 (SPECIFICATION 9.1, 9.2, 9.9, 9.12); a share does not depend on it (9.11)
+-- The 2 by 1 job: samples 0 and 2, weight 256, box 0 to 255 (SPECIFICATION 9.1, 9.2, 9.9, 9.12, 9.13); a share
+-- does not depend on it (9.11)
 abbrev pub twoByOne : Asked → Given → Case
 twoByOne a g =
     record {
@@ -129,12 +134,22 @@ cases =
     (call (figures checked 0 (pos 10650881) (pos 10650881) (pos 0)) (one (negℤ (pos 1280))) (pair 2048 3327))
     ∷ onePixel (running 0 100) (call (figures settled 0 (pos 0) (pos 0) (pos 0)) [] (pos 1920 ∷ []))
     ∷ twoByOne (printing 0 100) (text (ascii "outcome moved price floor slack\nsettled 17 131080 131064 16\n382 386\n"))
+    ∷ twoByOne (cutting 0 100 0 []) (text (ascii "refused 18 at 0\n"))
+    ∷ twoByOne (cutting 0 100 4 []) (text (ascii "refused 13 at 0\n"))
+    ∷ twoByOne (cutting 0 100 5 []) (text (ascii "refused 18 at 5\n"))
+    ∷ twoByOne (cutting 0 100 6 []) (text (ascii "refused 13 at 5\n"))
+    ∷ twoByOne (cutting 0 100 18 []) (text (ascii "refused 13 at 17\n"))
+    ∷ twoByOne (cutting 0 100 19 []) (text (ascii "refused 18 at 19\n"))
+    ∷ twoByOne (cutting 0 100 5 (6 ∷ [])) (text (ascii "refused 12 at 5\n"))
+    ∷ twoByOne (cutting 0 100 5 (1 ∷ [])) (text (ascii "refused 14 at 5\n"))
     ∷ twoByOne (reporting 0 100 1 [])
     (text (ascii "jobs 1\npixels 2\nsettled 1\nspent 0\nchecked 0\ntotal 16\nlargest 16 1\nmean 8 0\n"))
     ∷ twoByOne (reporting 0 100 0 [])
     (text (ascii "jobs 0\npixels 0\nsettled 0\nspent 0\nchecked 0\ntotal 0\nlargest 0 0\nmean 0 0\n"))
     ∷ twoByOne (reporting 0 16 2 (1 ∷ 2 ∷ []))
-    (text (ascii "jobs 2\npixels 4\nsettled 0\nspent 2\nchecked 0\ntotal 72\nlargest 36 1\nmean 18 0\njob 3 refused 13 at 2\n"))
+    (text (ascii "jobs 2\npixels 4\nsettled 0\nspent 2\nchecked 0\ntotal 72\nlargest 36 1\nmean 18 0\njob 3 refused 13 at 0\n"))
+    ∷ twoByOne (reporting 0 16 2 (1 ∷ 2 ∷ 0 ∷ 1 ∷ 0 ∷ []))
+    (text (ascii "jobs 2\npixels 4\nsettled 0\nspent 2\nchecked 0\ntotal 72\nlargest 36 1\nmean 18 0\njob 3 refused 18 at 5\n"))
     ∷ twoByTwo (checking (pos 1 ∷ pos 2 ∷ pos 4 ∷ pos 8 ∷ []))
     (call (figures checked 0 (pos 10501298) (negℤ (pos 143538)) (pos 10644836)) (pos 1 ∷ pos 2 ∷ pos 4 ∷ pos 8 ∷ [])
     (pos 123 ∷ pos 2690 ∷ pos 5241 ∷ pos 10378 ∷ []))

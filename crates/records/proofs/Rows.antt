@@ -2,15 +2,14 @@
 use mathlib.Core.Path.{_≡_, refl, ap, _∙_}
 use mathlib.Core.Bool.{Bool, true, false, not, cond}
 use mathlib.Core.List.{List}
-use Prim.Native.Nat.{ℕ, _≤_, _<_}
+use Prim.Native.Nat.{ℕ, _<_}
 use lib.ListN.{length, getD}
-use borrow.Author.Tests.{le-leb, lt-leb}
-use Rattle.model.specs.declared.Verdict.{Verdict}
+use borrow.Author.Tests.{lt-leb}
 use Rattle.model.specs.Verdict.{firstRefusal}
-use Rattle.model.specs.Tape.{known, bodyLength, recordRows}
-use Rattle.model.proofs.Refusals.{refused, passed}
+use Rattle.model.specs.Tape.{known, bodyLength, bodyRows, recordRows}
+use Rattle.model.proofs.Refusals.{passed}
 use Rattle.records.specs.declared.record.Form.{Form}
-use Rattle.records.specs.Record.{formOf, bodyRows}
+use Rattle.records.specs.Record.{formOf}
 
 -- what a form says of its kind
 pub form-unknown : (kind : ℕ) (ok : Bool) → formOf kind ok ≡ Form.Unknown → known kind ≡ false
@@ -30,18 +29,9 @@ form-known kind ok {b} {a} h = go (known kind) h
     go false e = (cc, cc, cc)
 
 module _ (followed : Bool) (tape : List ℕ) (o : ℕ) (may : ℕ → Bool) where
-  -- the input ends where a record is due
-  pub ended : length tape ≤ o → firstRefusal (recordRows followed tape o may) ≡ Verdict.Refuse 13 (length tape)
+  -- the record is there, and its kind is known: the rows of a known kind decide
+  pub known-kind : o < length tape → known (getD tape o 0) ≡ true →
+      firstRefusal (recordRows followed tape o may)
+      ≡ firstRefusal (bodyRows followed (length tape) o (getD tape o 0) (may (getD tape o 0)))
   unfolding recordRows
-  ended h = refused _ _ (le-leb (length tape) o h)
-
-  module _ (h : o < length tape) where
-    pub unknown-kind : known (getD tape o 0) ≡ false → firstRefusal (recordRows followed tape o may) ≡ Verdict.Refuse 12 o
-    unfolding recordRows
-    unknown-kind k = passed _ _ (lt-leb (length tape) o h) ∙ refused _ _ (ap not k)
-
-    pub known-kind : known (getD tape o 0) ≡ true →
-        firstRefusal (recordRows followed tape o may)
-        ≡ firstRefusal (bodyRows followed (length tape) o (getD tape o 0) (bodyLength (getD tape o 0)) (may (getD tape o 0)))
-    unfolding recordRows
-    known-kind k = passed _ _ (lt-leb (length tape) o h) ∙ passed _ _ (ap not k)
+  known-kind h k = passed _ _ (lt-leb (length tape) o h) ∙ passed _ _ (ap not k)

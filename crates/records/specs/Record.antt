@@ -1,11 +1,10 @@
 -- One record at an offset.
-use mathlib.Core.Bool.{Bool, not, _&&_, cond}
-use mathlib.Core.List.{List, [], _∷_}
+use mathlib.Core.Bool.{Bool, cond}
+use mathlib.Core.List.{List}
 use Prim.Native.Nat.{ℕ, _+_}
-use lib.Dec.{eqb, ltb}
 use lib.ListN.{length, getD}
-use Rattle.model.specs.Verdict.{Row, row, firstRefusal, decided}
-use Rattle.model.specs.Tape.{known, bodyLength, decoded, recordRows}
+use Rattle.model.specs.Verdict.{firstRefusal, decided}
+use Rattle.model.specs.Tape.{known, bodyLength, decoded, bodyRows, recordRows}
 use Rattle.records.specs.declared.tally.Tally.{Tally}
 use Rattle.records.specs.declared.record.Form.{Form}
 use Rattle.records.specs.declared.record.Got.{Got}
@@ -15,14 +14,6 @@ use Rattle.records.specs.Tally.{may}
 abbrev pub formOf : ℕ → Bool → Form
 formOf kind ok = cond (known kind) (Form.Body (bodyLength kind) ok) Form.Unknown
 
--- the rows of a record at offset o whose kind is known: 14, 13, 15
-abbrev pub bodyRows : Bool → ℕ → ℕ → ℕ → ℕ → Bool → List Row
-bodyRows followed len o kind body ok =
-    row (not ok) 14 o
-    ∷ row (ltb len (o + 1 + body)) 13 len
-    ∷ row (not followed && (eqb kind 0 && ltb (o + 1) len)) 15 (o + 1)
-    ∷ []
-
 -- the record at offset o with the offset of the next
 abbrev pub recordAt : List ℕ → ℕ → Got
 recordAt tape o =
@@ -31,8 +22,7 @@ recordAt tape o =
 -- that record where its kind is known, or the refusal of the first row that applies
 abbrev pub wholeAt : Bool → List ℕ → ℕ → Bool → Got
 wholeAt followed tape o ok =
-    decided (firstRefusal (bodyRows followed (length tape) o (getD tape o 0) (bodyLength (getD tape o 0)) ok)) (recordAt tape o)
-    Got.Refused
+    decided (firstRefusal (bodyRows followed (length tape) o (getD tape o 0) ok)) (recordAt tape o) Got.Refused
 
 -- the same of any kind, by the model's rows
 unfoldable pub gotAt : Bool → List ℕ → ℕ → Tally → Got

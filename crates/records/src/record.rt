@@ -9,9 +9,9 @@ ghost use mathlib.Core.Path.{_≡_};
 ghost use Prim.Native.Nat.{_+_, _≤_, _<_};
 ghost use lib.ListN.{length, getD};
 ghost use Rattle.model.specs.Verdict.{firstRefusal};
-ghost use Rattle.model.specs.Tape.{bodyLength, decoded, tooShort};
+ghost use Rattle.model.specs.Tape.{bodyLength, decoded, bodyRows, tooShort};
 ghost use Rattle.records.specs.Tally.{may};
-ghost use Rattle.records.specs.Record.{formOf, bodyRows, wholeAt, gotAt};
+ghost use Rattle.records.specs.Record.{formOf, wholeAt, gotAt};
 
 // What a kind byte gives: the length of the body, and whether the record is allowed here.
 pub enum Form {
@@ -53,7 +53,7 @@ pub fn form_of(kind: u8, t: Tally) -> Form
     }
 }
 
-// The rows of a record whose kind is known: 14, 13, 15 (unless more may follow the end).
+// The rows of a record whose kind is known: 14; 13 at its kind byte; 15 (unless more may follow the end).
 fn judge_body(
     len: usize,
     at: usize,
@@ -62,8 +62,8 @@ fn judge_body(
     allowed: bool,
     followed: bool,
 ) -> Verdict
-    requires { ⌜ at < len ⌝ }
-    ensures { λ r. ⌜ r ≡ firstRefusal (bodyRows followed len at kind body allowed) ⌝ }
+    requires { ⌜ (at < len) × (body ≡ bodyLength kind) ⌝ }
+    ensures { λ r. ⌜ r ≡ firstRefusal (bodyRows followed len at kind allowed) ⌝ }
 {
     let next = at + 1;
     if !allowed {
@@ -75,7 +75,7 @@ fn judge_body(
     if len - next < body {
         return Verdict::Refuse {
             number: 13,
-            place: len,
+            place: at,
         };
     }
     let refused = !followed & ((kind == 0) & (next < len));
@@ -92,7 +92,7 @@ fn judge_body(
 pub fn too_short(number: u32) -> bool
     ensures { λ r. ⌜ r ≡ tooShort number ⌝ }
 {
-    number == 13
+    (number == 13) | (number == 18)
 }
 
 // The numbers of the record at an offset, whose body is whole.
@@ -156,7 +156,7 @@ pub fn next_record(tape: &[u8], at: usize, t: Tally, followed: bool) -> Got
     ensures { λ r. ⌜ r ≡ gotAt followed (now (tape .entry)) at t ⌝ }
 {
     if tape.len() <= at {
-        return Got::Refused(13, tape.len());
+        return Got::Refused(18, tape.len());
     }
     let f = form_of(tape[at], t);
     match f {

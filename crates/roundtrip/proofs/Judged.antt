@@ -54,7 +54,7 @@ module _ (tape : List ℕ) (samples : List ℕ) (flow : List ℤ) where
 turned-number : (tape : List ℕ) (lent : Lent) (k o : ℕ) (p : Progress) {n q : ℕ} →
     parseFrom k tape lent o p ≡ turned n q → 0 < n
 unfolding parseFrom
-turned-number tape lent zero o p {n} e = let z : _≡_ {A = ℕ} 13 n = cc in omega arith
+turned-number tape lent zero o p e = let number = ap (λ (r : Parse). readOf r .number) e in omega (arith, number)
 turned-number tape lent (suc k) o p {n} {q} e = go (turn tape lent k o p) e (λ o p. turned-number tape lent k o p)
   where
     go : {s : Step} {r : Parse} → Turn tape lent k o p s r → r ≡ turned n q →

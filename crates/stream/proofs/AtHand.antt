@@ -9,7 +9,7 @@ use lib.Seq.{take-all, drop-append-le}
 use Rattle.model.specs.declared.Lent.{Lent}
 use Rattle.model.specs.declared.Totals.{Totals}
 use Rattle.model.specs.declared.Verdict.{Verdict}
-use Rattle.model.specs.Tape.{turned, parse, tooShort}
+use Rattle.model.specs.Tape.{turned, parse}
 use Rattle.model.specs.Season.{bytesOf}
 use Rattle.records.specs.declared.tally.Tally.{Tally}
 use Rattle.tape_read.specs.Scan.{Reached}
@@ -55,9 +55,8 @@ module _ (bytes : List ℕ) (lent : Lent) (t : Totals) (few : t .jobs < 65535) w
       some : length (bytes ++ rest) ≡ 0 → ⊥
       some z =
           let none : take 65536 bytes ++ [] ≡ [] = append-nil (take 65536 bytes) ∙ ap (take 65536) (empty bytes (omega (arith, length-append bytes rest))) in
-          let x : turned 13 0 ≡ turned n q = sym (ap (λ (l : List ℕ). parse l lent) none ∙ no-bytes lent) ∙ r .refused [] in
-          let is : 13 ≡ n = cc in
-          true≢false (subst (λ (m : ℕ). tooShort m ≡ false) (sym is) (r .faulty))
+          let nothing-read : parse [] lent ≡ turned n q = sym (ap (λ (l : List ℕ). parse l lent) none) ∙ r .refused [] in
+          true≢false (sym (no-bytes lent nothing-read) ∙ r .faulty)
 
   module _ {n q : ℕ} {u : Tally} {o : ℕ} (s : Short front lent n q u o) where
     pub next-past : {ended : Bool} → 65536 < length bytes → Reports bytes ended lent t (ends t 17 0)

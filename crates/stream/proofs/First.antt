@@ -10,15 +10,15 @@ use lib.ListN.{length, take, length-append}
 use lib.Seq.{take-all, take-append-le, take-append-add}
 use borrow.Author.Tests.{ltb-true, ltb-false, lt-ltb, le-ltb}
 use Rattle.model.specs.declared.Lent.{Lent}
-use Rattle.model.specs.Tape.{Progress, Parse, turned, whole, recordRows, parseFrom, parse, tooShort}
+use Rattle.model.specs.Tape.{Progress, Parse, turned, whole, recordRows, parseFrom, parse, readOf, tooShort}
 use Rattle.model.specs.Verdict.{firstRefusal}
 use Rattle.model.specs.Season.{cut, firstJob}
 
 module _ (lent : Lent) where
   -- no bytes are too few
-  pub no-bytes : parse [] lent ≡ turned 13 0
+  pub no-bytes : {n q : ℕ} → parse [] lent ≡ turned n q → tooShort n ≡ true
   unfolding parse parseFrom recordRows firstRefusal
-  no-bytes = refl
+  no-bytes e = sym (ap (λ (r : Parse). tooShort (readOf r .number)) e)
 
   module _ (input : List ℕ) where
     -- what is read of the first bytes

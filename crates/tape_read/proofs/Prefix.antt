@@ -1,6 +1,6 @@
 -- A record is read alike on every tape that has its bytes: where it is whole, and where it is refused for another reason than
 -- that the input ends. Assumes nothing.
-use mathlib.Core.Path.{_≡_, refl, sym, ap, ap₂, _∙_, subst}
+use mathlib.Core.Path.{_≡_, refl, sym, ap, ap₂, _∙_}
 use mathlib.Core.Bool.{Bool, true, false, not, true≢false}
 use mathlib.Core.List.{List, _++_}
 use Prim.Native.Nat.{ℕ, zero, suc, _+_, _≤_, _<_}
@@ -8,19 +8,19 @@ use native.Mathlib.Omega.{arith}
 use lib.Dec.{leb, ltb}
 use lib.ListN.{length, getD, take, length-append, List·getD-append}
 use lib.Seq.{getD-take, take-append-le}
-use borrow.Author.Tests.{leb-true, leb-false}
+use borrow.Author.Tests.{leb-false, lt-leb}
 use Rattle.model.specs.declared.Verdict.{Verdict}
 use Rattle.model.specs.declared.Entry.{Entry}
 use Rattle.model.specs.declared.Entry.the-variants.{End, Size, WeightBox, RoundLimits, Sample, Flow}
 use Rattle.model.specs.Verdict.{firstRefusal, decided}
 use Rattle.model.specs.declared.Lent.{Lent}
-use Rattle.model.specs.Tape.{known, bodyLength, decoded, recordRows, entryRows, tooShort}
+use Rattle.model.specs.Tape.{known, bodyLength, decoded, bodyRows, recordRows, entryRows, tooShort}
 use Rattle.model.proofs.Refusals.{accepted, refused, passed}
 use Rattle.records.specs.declared.tally.Tally.{Tally}
 use Rattle.records.specs.declared.record.Got.{Got}
 use Rattle.records.specs.Tally.{may}
-use Rattle.records.specs.Record.{bodyRows, recordAt, gotAt}
-use Rattle.records.proofs.Rows.{ended, unknown-kind, known-kind}
+use Rattle.records.specs.Record.{recordAt, gotAt}
+use Rattle.records.proofs.Rows.{known-kind}
 use Rattle.steps.proofs.Turns.{entryAt, nextAt, termsVerdict, Passed, passed-record}
 use Rattle.roundtrip.proofs.Walk.{record-passes}
 use Rattle.tape_read.specs.Scan.{lentFor}
@@ -90,11 +90,11 @@ module _ (tape behind : List ℕ) (o : ℕ) (may : ℕ → Bool) where
   rows l = firstRefusal (recordRows true l o may)
 
   module _ {n q : ℕ} (e : rows tape ≡ Verdict.Refuse n q) (enough : tooShort n ≡ false) where
-    short : rows tape ≡ Verdict.Refuse 13 (length tape) → rows longer ≡ Verdict.Refuse n q
-    short h =
-        let x : Verdict.Refuse 13 (length tape) ≡ Verdict.Refuse n q = sym h ∙ e in
-        let z : 13 ≡ n = cc in
-        absurd (true≢false (subst (λ (m : ℕ). tooShort m ≡ false) (sym z) enough))
+    short : {m l : ℕ} → rows tape ≡ Verdict.Refuse m l → tooShort m ≡ true → rows longer ≡ Verdict.Refuse n q
+    short {m} {l} h s =
+        let x : Verdict.Refuse m l ≡ Verdict.Refuse n q = sym h ∙ e in
+        let z : m ≡ n = cc in
+        absurd (true≢false (sym s ∙ ap tooShort z ∙ enough))
 
     module _ (h : o < length tape) where
       abbrev kind : ℕ
@@ -107,13 +107,13 @@ module _ (tape behind : List ℕ) (o : ℕ) (may : ℕ → Bool) where
       inside = omega (arith, length-append tape behind)
 
       body-at : (l : List ℕ) → o < length l → getD l o 0 ≡ kind → known kind ≡ true →
-          rows l ≡ firstRefusal (bodyRows true (length l) o kind (bodyLength kind) (may kind))
+          rows l ≡ firstRefusal (bodyRows true (length l) o kind (may kind))
       body-at l long s k =
           known-kind true l o may long (ap known s ∙ k)
-          ∙ ap (λ (m : ℕ). firstRefusal (bodyRows true (length l) o m (bodyLength m) (may m))) s
+          ∙ ap (λ (m : ℕ). firstRefusal (bodyRows true (length l) o m (may m))) s
 
       by-fit : known kind ≡ true → may kind ≡ true → (b : Bool) → ltb (length tape) (o + 1 + bodyLength kind) ≡ b → rows longer ≡ Verdict.Refuse n q
-      by-fit k m true f = short (body-at tape h refl k ∙ passed _ _ (ap not m) ∙ refused _ _ f)
+      by-fit k m true f = short (body-at tape h refl k ∙ passed _ _ (ap not m) ∙ refused _ _ f) refl
       by-fit k m false f =
           let x : Verdict.Accept ≡ Verdict.Refuse n q =
           sym (body-at tape h refl k ∙ passed _ _ (ap not m) ∙ passed _ _ f ∙ passed _ _ refl ∙ accepted) ∙ e in
@@ -129,15 +129,20 @@ module _ (tape behind : List ℕ) (o : ℕ) (may : ℕ → Bool) where
           ∙ e
 
       by-kind : (b : Bool) → known kind ≡ b → rows longer ≡ Verdict.Refuse n q
+      unfolding recordRows
       by-kind true k = by-order k (may kind) refl
       by-kind false k =
-          unknown-kind true longer o may inside (ap known kind-longer ∙ k) ∙ sym (unknown-kind true tape o may h k) ∙ e
+          passed _ _ (lt-leb _ _ inside)
+          ∙ refused _ _ (ap not (ap known kind-longer ∙ k))
+          ∙ sym (passed _ _ (lt-leb _ _ h) ∙ refused _ _ (ap not k))
+          ∙ e
 
     rows-alike : rows longer ≡ Verdict.Refuse n q
+    unfolding recordRows
     rows-alike = by-length (leb (length tape) o) refl
       where
         by-length : (b : Bool) → leb (length tape) o ≡ b → rows longer ≡ Verdict.Refuse n q
-        by-length true l = short (ended true tape o may (leb-true (length tape) o l))
+        by-length true l = short (refused _ _ l) refl
         by-length false l =
             let h : o < length tape = leb-false (length tape) o l in by-kind h (known (getD tape o 0)) refl
 

@@ -69,21 +69,23 @@ impl<I: Input, T: Debug + PartialEq> Call<I, T> {
         .met(&[], numbers)
     }
 
-    /// Compares the call on inputs that come with document 01's answer: taken or refused.
+    /// Compares the call on inputs that come with the documents' answer: taken or refused.
     pub fn compare_values(
         &self,
+        title: &str,
+        numbers: &[u32],
         values: impl Iterator<Item = (I, Answer<()>)>,
     ) -> Result<(), Difference> {
-        let title = format!("{}, document 01's limits", self.name);
+        let title = format!("{}, {title}", self.name);
         compare_family(&title, values, |(input, expected)| {
             let (answer, _) = self.compare(input)?;
             if answer.as_ref().map(drop) != expected.as_ref().copied() {
-                let differs = format!("both answer {answer:?}, document 01 {expected:?}");
+                let differs = format!("both answer {answer:?}, the documents {expected:?}");
                 return Err(self.difference(&differs, input));
             }
             Ok(self.worded(answer))
-        })
-        .map(drop)
+        })?
+        .met(&[], numbers)
     }
 
     fn worded(&self, answer: Answer<T>) -> Answer<String> {

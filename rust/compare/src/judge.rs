@@ -49,8 +49,12 @@ const CHECK: Call<JobInput, Figures> = Call {
 
 /// Compares both calls on the same inputs.
 pub fn compare(step: usize) -> Result<(), Difference> {
-    PRICE.compare_values(limits().chain(ends_of_boxes()))?;
-    CHECK.compare_values(limits())?;
+    PRICE.compare_values(
+        "document 01's limits",
+        &[1, 2],
+        limits().chain(ends_of_boxes()),
+    )?;
+    CHECK.compare_values("document 01's limits", &[1, 2], limits())?;
     let title = "1 to 300 pixels";
     PRICE.compare_family(title, &[1, 2, 3, 4, 6, 9], small(step))?;
     CHECK.compare_family(title, &[1, 2, 3, 4, 5, 6, 8], small(step))?;

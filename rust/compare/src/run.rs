@@ -36,7 +36,7 @@ const RUN: Call<JobInput, Figures> = Call {
 
 /// Compares runs of few rounds, of the most rounds, and of the most pixels.
 pub fn compare(step: usize) -> Result<(), Difference> {
-    RUN.compare_values(limits())?;
+    RUN.compare_values("document 01's limits", &[1, 2], limits())?;
     let numbers = [1, 2, 3, 4, 5, 6, 7, 10];
     RUN.compare_family("1 to 120 pixels", &numbers, small(step))?;
     RUN.compare_family("the most rounds", &[], long(step))?;

@@ -98,12 +98,12 @@ fn pair_count(terms: &Terms) -> usize {
 
 /// Compares reads of cut, changed, damaged and random tapes, then writes.
 pub fn compare(step: usize) -> Result<(), Difference> {
-    READ.compare_values(empty_tape())?;
-    WRITE.compare_values(limits())?;
-    WRITE_AND_READ.compare_values(limits())?;
-    READ.compare_family("every prefix", &[13], prefixes(step))?;
+    WRITE.compare_values("document 01's limits", &[1, 2], limits())?;
+    WRITE_AND_READ.compare_values("document 01's limits", &[1, 2], limits())?;
+    READ.compare_values("no bytes", &[18], [no_bytes()].into_iter())?;
+    READ.compare_values("every prefix", &[13, 18], prefixes())?;
     READ.compare_family("every changed byte", &[], changes(step))?;
-    let numbers = [1, 2, 3, 8, 10, 12, 13, 14, 15, 16];
+    let numbers = [1, 2, 3, 8, 10, 12, 13, 14, 15, 16, 18];
     READ.compare_family("damaged and random tapes", &numbers, damages(step))?;
     let numbers = [1, 2, 3, 4, 5, 8, 10, 16];
     WRITE.compare_family("1 to 40 pixels", &numbers, jobs(step))?;
@@ -111,27 +111,26 @@ pub fn compare(step: usize) -> Result<(), Difference> {
     WRITE_AND_READ.compare_family("1,048,576 pixels", &[], large_jobs(step))
 }
 
-/// The empty tape, with document 01's answer.
-fn empty_tape() -> impl Iterator<Item = (TapeInput, Answer<()>)> {
+/// The empty tape, with document 02's answer.
+fn no_bytes() -> (TapeInput, Answer<()>) {
     let input = TapeInput {
         tape: Vec::new(),
         samples: vec![255; 2],
         flow: vec![-1],
     };
     let refusal = Refusal {
-        number: 13,
+        number: 18,
         place: 0,
     };
-    [(input, Err(refusal))].into_iter()
+    (input, Err(refusal))
 }
 
-/// Every prefix of small tapes, the whole ones among them.
-fn prefixes(step: usize) -> impl Iterator<Item = TapeInput> {
-    let all = small_tapes(40).flat_map(|(mut random, tape)| {
+/// Every prefix of small tapes, the whole ones among them, with the answer that is due.
+fn prefixes() -> impl Iterator<Item = (TapeInput, Answer<()>)> {
+    small_tapes(40).flat_map(|(mut random, tape)| {
         let prefixes = tape.clone().prefixes();
-        prefixes.map(move |bytes| lent(&mut random, &tape, bytes))
-    });
-    all.step_by(step)
+        prefixes.map(move |(bytes, answer)| (lent(&mut random, &tape, bytes), answer))
+    })
 }
 
 /// Small tapes with each byte changed to each other.

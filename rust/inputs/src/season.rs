@@ -2,7 +2,7 @@
 
 use relief_reference::Rounds;
 
-use crate::{flat, two_by_one, Case, Random, Tape};
+use crate::{flat, prefixes_of, two_by_one, Answer, Case, Random, Tape};
 
 /// The season report of the 2 by 1 job alone.
 pub const TWO_BY_ONE_SEASON: &str = "\
@@ -31,6 +31,23 @@ pub fn season_job(random: &mut Random, pixels: u32) -> Tape {
     };
     let flow = case.flow(random);
     Tape::new(&case, random.pick(&[&flow, &[]]))
+}
+
+/// Every prefix of a season, all of it among them, with the answer that is due: that of the job in
+/// which it ends. Before any byte and right behind a job there is no refusal.
+pub fn season_prefixes(jobs: &[Tape]) -> impl Iterator<Item = (Vec<u8>, Answer<()>)> {
+    let answers = jobs
+        .iter()
+        .flat_map(|job| (1..=job.bytes.len()).map(|length| job.prefix_answer(length)));
+    let answers: Vec<Answer<()>> = [Ok(())].into_iter().chain(answers).collect();
+    prefixes_of(concatenated(jobs)).zip(answers)
+}
+
+/// The season of these jobs.
+pub fn concatenated(jobs: &[Tape]) -> Vec<u8> {
+    jobs.iter()
+        .flat_map(|job| job.bytes.iter().copied())
+        .collect()
 }
 
 /// Jobs whose tapes take exactly so many bytes together: 0, or an even number from 18 or an odd

@@ -1,8 +1,9 @@
 //! Tapes of accepted jobs, whole and damaged.
 
 use relief_reference::terms::{QUICK_LIMIT, WEIGHT_LIMIT};
+use relief_reference::Refusal;
 
-use crate::{Case, Random};
+use crate::{Answer, Case, Random};
 
 /// Where the records before the samples start, and the first sample.
 const SIZE: usize = 0;
@@ -72,9 +73,28 @@ impl Tape {
         Tape::new(&case, &flow)
     }
 
-    /// Every prefix, the whole tape among them.
-    pub fn prefixes(self) -> impl Iterator<Item = Vec<u8>> {
-        prefixes_of(self.bytes)
+    /// Every prefix, the whole tape among them, with the answer that is due.
+    pub fn prefixes(self) -> impl Iterator<Item = (Vec<u8>, Answer<()>)> {
+        prefixes_of(self.bytes.clone()).map(move |bytes| {
+            let answer = self.prefix_answer(bytes.len());
+            (bytes, answer)
+        })
+    }
+
+    /// What the first `length` bytes are answered (request F-6): where a record starts behind them
+    /// it was due and is 18 at their end, and one that they cut is 13 at its start.
+    pub fn prefix_answer(&self, length: usize) -> Answer<()> {
+        if length == self.bytes.len() {
+            return Ok(());
+        }
+        let starts = self.records();
+        let last = starts.into_iter().filter(|&start| start <= length).last();
+        let place = last.expect("a record starts at offset 0");
+        let number = if place == length { 18 } else { 13 };
+        Err(Refusal {
+            number,
+            place: place as u64,
+        })
     }
 
     /// The tape with each byte set to each value.

@@ -29,6 +29,19 @@ pub fn compare_text(program: &Program, input: &Input, expected: &str) -> Result<
     }
 }
 
+/// The answer to the input, if it is the one that is due.
+pub fn due_answer(
+    answer: Answer<String>,
+    due: &Answer<()>,
+    input: &Input,
+) -> Result<Answer<String>, Difference> {
+    if answer.as_ref().map(drop) == due.as_ref().copied() {
+        return Ok(answer);
+    }
+    let differs = format!("both answer {answer:?}, and {due:?} is due");
+    Err(report(&differs, input))
+}
+
 /// What differs, with the whole input, unless it is very long.
 pub fn report(differs: &str, input: &Input) -> Difference {
     let length = input.bytes.len();

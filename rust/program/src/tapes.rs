@@ -2,14 +2,14 @@
 
 use relief_inputs::{
     beside_the_bound, chessboard, chessboard_flow, compare_family, flat, small_tapes, tape_length,
-    two_by_one, Case, Difference, Random, Tally, Tape,
+    two_by_one, Answer, Case, Difference, Random, Tally, Tape,
 };
 use relief_reference::program::{clean, FLOW_TABLE, SAMPLE_TABLE};
 use relief_reference::terms::WEIGHT_LIMIT;
 use relief_reference::Rounds;
 
 use crate::child::Program;
-use crate::compare::{compare as compare_tape, compare_text, report};
+use crate::compare::{compare as compare_tape, compare_text, due_answer, report};
 
 /// Sizes with the most pixels that the program takes.
 const LARGEST: [(u32, u32); 3] = [(64, 64), (4_096, 1), (1, 4_096)];
@@ -22,9 +22,9 @@ pub fn compare(program: &Program, step: usize) -> Result<(), Difference> {
     family(program, "1 to 4,096 pixels", jobs(step))?.met(&words, &[])?;
     compare_two_flows(program, step)?;
     family(program, "the most rounds", long_runs(step))?.met(&["settled"], &[])?;
-    family(program, "every prefix", prefixes(step))?.met(&["checked with slack 0"], &[13])?;
+    compare_prefixes(program, step)?;
     family(program, "changed bytes", changes(step))?.met(&[], &[8, 10, 12, 14])?;
-    let numbers = [1, 2, 3, 8, 10, 12, 13, 14, 15, 16];
+    let numbers = [1, 2, 3, 8, 10, 12, 13, 14, 15, 16, 18];
     family(program, "damaged tapes", damages(step))?.met(&[], &numbers)
 }
 
@@ -36,6 +36,15 @@ fn family(
     compare_family(title, tapes.map(Into::into), |input| {
         compare_tape(program, input)
     })
+}
+
+/// Compares prefixes of tapes, and sees to it that what both answer is what is due (request F-6).
+fn compare_prefixes(program: &Program, step: usize) -> Result<(), Difference> {
+    compare_family("every prefix", prefixes(step), |(tape, due)| {
+        let input = tape.clone().into();
+        due_answer(compare_tape(program, &input)?, due, &input)
+    })?
+    .met(&["checked with slack 0"], &[13, 18])
 }
 
 /// Compares two tapes of one job, each with a flow, and sees to it that the images printed are within
@@ -167,8 +176,8 @@ fn long_runs(step: usize) -> impl Iterator<Item = Vec<u8>> {
     })
 }
 
-/// Every prefix of the 2 by 1 job's tape with a flow, and of small tapes.
-fn prefixes(step: usize) -> impl Iterator<Item = Vec<u8>> {
+/// Every prefix of the 2 by 1 job's tape with a flow, and of small tapes, with the answer that is due.
+fn prefixes(step: usize) -> impl Iterator<Item = (Vec<u8>, Answer<()>)> {
     let first = Tape::new(&two_by_one(), &[-256]);
     let others = small_tapes(12).flat_map(|(_, tape)| tape.prefixes());
     first.prefixes().chain(others.step_by(step))

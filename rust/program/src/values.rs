@@ -20,7 +20,7 @@ pub fn compare(program: &Program) -> Result<(), Difference> {
         }
         compare_tape(program, &input)
     })?
-    .met(&[], &[1, 2, 8, 13, 16])
+    .met(&[], &[1, 2, 8, 12, 13, 14, 16, 18])
 }
 
 /// Each tape with what the program is to print.
@@ -42,6 +42,8 @@ fn values() -> Vec<(Vec<u8>, String)> {
         tape.bytes
     };
     let refused = |number, place| format!("refused {number} at {place}\n");
+    // The first bytes of the job's tape without a flow, and others behind them.
+    let cut = |length, behind: &[u8]| [&run(0, 100)[..length], behind].concat();
     vec![
         (job.tape(&[]), TWO_BY_ONE_TEXT.to_string()),
         check(&job, 0, "checked 0 262144 0 262144", "128 640"),
@@ -96,7 +98,14 @@ fn values() -> Vec<(Vec<u8>, String)> {
         unmoved(1, 4_096),
         unmoved(64, 64),
         (flat(64, 65).tape(&[]), refused(16, 0)),
-        (Vec::new(), refused(13, 0)),
+        (Vec::new(), refused(18, 0)),
+        (cut(4, &[]), refused(13, 0)),
+        (cut(5, &[]), refused(18, 5)),
+        (cut(6, &[]), refused(13, 5)),
+        (cut(18, &[]), refused(13, 17)),
+        (cut(19, &[]), refused(18, 19)),
+        (cut(5, &[6]), refused(12, 5)),
+        (cut(5, &[1]), refused(14, 5)),
     ]
 }
 

@@ -1,8 +1,8 @@
-//! Where a call turns back: document 01's numbers and places.
+//! Where a call turns back: the documents' numbers and places.
 
 use std::fmt;
 
-/// A condition that makes a call turn back, with document 01's number for it.
+/// A condition that makes a call turn back, with the documents' number for it.
 #[derive(Clone, Copy, Debug, PartialEq, Eq)]
 pub enum Fault {
     /// A side or the number of pixels is outside the limits.
@@ -27,8 +27,8 @@ pub enum Fault {
     QuickRounds = 10,
     /// No record has this kind.
     UnknownKind = 12,
-    /// The input ends inside a record, or where one is due.
-    InputEnds = 13,
+    /// The input ends inside a record.
+    TapeCut = 13,
     /// A record of this kind must not stand here.
     KindNotAllowed = 14,
     /// A byte follows the end record.
@@ -37,6 +37,8 @@ pub enum Fault {
     BufferTooShort = 16,
     /// The program's input is too long.
     InputTooLong = 17,
+    /// The input ends where a record is due.
+    TapeUnfinished = 18,
 }
 
 impl Fault {
@@ -69,10 +71,19 @@ impl Fault {
 /// The answer of a call that turned back. It prints as `refused 8 at 0`.
 #[derive(Clone, Copy, Debug, PartialEq, Eq)]
 pub struct Refusal {
-    /// Document 01's number of the condition.
+    /// The documents' number of the condition.
     pub number: u32,
-    /// A tape offset, an index or 0, as document 01 says for each number.
+    /// A tape offset, an index or 0, as the documents say for each number.
     pub place: u64,
+}
+
+impl Refusal {
+    /// Whether the input ends too early: with more bytes there might be another answer.
+    pub(crate) fn wants_more(self) -> bool {
+        [Fault::TapeCut, Fault::TapeUnfinished]
+            .map(|fault| fault as u32)
+            .contains(&self.number)
+    }
 }
 
 /// The place is 0 unless named.

@@ -59,10 +59,9 @@ fn add_jobs(totals: &mut Totals, limits: &Limits, input: &[u8]) -> Result<(), Re
 /// number of its own. Only its first bytes are read.
 fn read_job(limits: &Limits, rest: &[u8], job: &mut Contents) -> Result<usize, Refusal> {
     let front = &rest[..rest.len().min(limits.job_bytes)];
-    let unfinished = Fault::InputEnds.at(front.len());
     match job.read(front, AfterEnd::Anything, limits.tables) {
         // They hold neither a fault nor the end, and the input goes on behind them.
-        Err(refusal) if refusal == unfinished && front.len() < rest.len() => {
+        Err(refusal) if refusal.wants_more() && front.len() < rest.len() => {
             Err(Fault::InputTooLong.into())
         }
         answer => answer,

@@ -107,17 +107,20 @@ fn decode(kind: u8, body: &[u8]) -> Option<Record> {
     })
 }
 
-/// The record at `offset` and the offset after it, or refusal 12, 14 or 13.
+/// The record at `offset` and the offset after it, or refusal 18, 12, 14 or 13.
 fn record_at(tape: &[u8], offset: usize, due: Due) -> Result<(Record, usize), Refusal> {
-    let input_ends = Fault::InputEnds.at(tape.len());
-    let kind = *tape.get(offset).ok_or(input_ends)?;
+    let kind = *tape
+        .get(offset)
+        .ok_or(Fault::TapeUnfinished.at(tape.len()))?;
     let layout = layout(kind).ok_or(Fault::UnknownKind.at(offset))?;
     if !layout.allowed.contains(&due) {
         return Err(Fault::KindNotAllowed.at(offset));
     }
     let body_start = offset + 1;
     let next = body_start + layout.body_length;
-    let body = tape.get(body_start..next).ok_or(input_ends)?;
+    let body = tape
+        .get(body_start..next)
+        .ok_or(Fault::TapeCut.at(offset))?;
     let record = decode(kind, body).expect("the body has this length");
     Ok((record, next))
 }
@@ -177,7 +180,7 @@ impl Contents {
 
     /// Reads the job at the front of `tape` and gives the number of its bytes.
     ///
-    /// After refusal 13 it goes on with a tape that begins with this one, if it is called again.
+    /// After refusal 13 or 18 it goes on with a tape that begins with this one, if it is called again.
     pub(crate) fn read(
         &mut self,
         tape: &[u8],

@@ -31,19 +31,21 @@ pub enum Reason {
     QuickRounds = 10,
     /// No record has this kind. The place is the record's offset.
     UnknownKind = 12,
-    /// The tape ends inside a record, or where one is due. The place is the tape's length.
-    InputEnds = 13,
+    /// The tape ends inside a record: it was cut. The place is that record's offset.
+    TapeCut = 13,
     /// A record of this kind must not stand here. The place is the record's offset.
     KindNotAllowed = 14,
     /// A byte follows the end record. The place is its offset.
     ByteAfterEnd = 15,
     /// A buffer that the tape is read into or written to is too short.
     BufferTooShort = 16,
+    /// The tape ends where a record is due: it was never finished. The place is the tape's length.
+    TapeUnfinished = 18,
 }
 
 impl Reason {
     /// Every reason, by number.
-    pub const ALL: [Reason; 15] = [
+    pub const ALL: [Reason; 16] = [
         Reason::Size,
         Reason::Weight,
         Reason::Box,
@@ -55,10 +57,11 @@ impl Reason {
         Reason::ImageValue,
         Reason::QuickRounds,
         Reason::UnknownKind,
-        Reason::InputEnds,
+        Reason::TapeCut,
         Reason::KindNotAllowed,
         Reason::ByteAfterEnd,
         Reason::BufferTooShort,
+        Reason::TapeUnfinished,
     ];
 
     /// The library's number.
@@ -86,12 +89,13 @@ impl Reason {
             Reason::ImageValue => "an image value is outside the box",
             Reason::QuickRounds => "there are over 4,096 quick rounds",
             Reason::UnknownKind => "the record's kind is unknown",
-            Reason::InputEnds => "the tape ends inside a record, or where one is due",
+            Reason::TapeCut => "the tape ends inside a record",
             Reason::KindNotAllowed => "the record's kind is not allowed here",
             Reason::ByteAfterEnd => "a byte follows the end record",
             Reason::BufferTooShort => {
                 "a buffer that the tape is read into or written to is too short"
             }
+            Reason::TapeUnfinished => "the tape ends where a record is due",
         }
     }
 }

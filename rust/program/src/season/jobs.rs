@@ -1,11 +1,13 @@
 //! Seasons of random jobs: whole, cut, changed, and with a damaged job among them.
 
 use relief_inputs::{
-    changes_of, flat, prefixes_of, season_job, small_tapes, two_by_one, Difference, Random,
+    changes_of, compare_family, concatenated, flat, season_job, season_prefixes, small_tapes,
+    two_by_one, Answer, Difference, Random, Tape,
 };
 
-use super::family;
+use super::{compare as compare_season, family};
 use crate::child::Program;
+use crate::compare::due_answer;
 use crate::tapes::{full_tape, largest, slackest_tape};
 
 /// Compares seasons of all these kinds.
@@ -15,8 +17,17 @@ pub fn compare(program: &Program, step: usize) -> Result<(), Difference> {
     family(program, "jobs of the most pixels", of_the_most_pixels())?.met(&every, &[])?;
     let numbers = [1, 2, 3, 8, 10, 12, 13, 14, 16];
     family(program, "a damaged job among others", damages(step))?.met(&[], &numbers)?;
-    family(program, "every prefix", prefixes(step))?.met(&["no jobs"], &[13])?;
+    compare_prefixes(program, step)?;
     family(program, "changed bytes", changes(step))?.met(&[], &[8, 10, 12, 14])
+}
+
+/// Compares prefixes of seasons, and sees to it that what both answer is what is due (request F-6).
+fn compare_prefixes(program: &Program, step: usize) -> Result<(), Difference> {
+    compare_family("every prefix", prefixes(step), |(season, due)| {
+        let input = season.clone().into();
+        due_answer(compare_season(program, &input)?, due, &input)
+    })?
+    .met(&["no jobs"], &[13, 18])
 }
 
 fn seasons(step: usize) -> impl Iterator<Item = Vec<u8>> {
@@ -30,9 +41,11 @@ fn seasons(step: usize) -> impl Iterator<Item = Vec<u8>> {
 
 /// So many jobs of at most so many pixels.
 pub fn random_jobs(random: &mut Random, jobs: usize, pixels: u32) -> Vec<u8> {
-    (0..jobs)
-        .flat_map(|_| season_job(random, pixels).bytes)
-        .collect()
+    concatenated(&random_tapes(random, jobs, pixels))
+}
+
+fn random_tapes(random: &mut Random, jobs: usize, pixels: u32) -> Vec<Tape> {
+    (0..jobs).map(|_| season_job(random, pixels)).collect()
 }
 
 fn of_the_most_pixels() -> Vec<Vec<u8>> {
@@ -58,23 +71,28 @@ fn damages(step: usize) -> impl Iterator<Item = Vec<u8>> {
 }
 
 /// Two runs and two checks, one job of them with a single pixel.
-pub fn small_season() -> Vec<u8> {
+fn small_jobs() -> [Tape; 4] {
     [
-        two_by_one().tape(&[]),
-        two_by_one().tape(&[256]),
-        flat(1, 1).tape(&[]),
-        flat(2, 2).tape(&[1, -2, 256, -256]),
+        Tape::new(&two_by_one(), &[]),
+        Tape::new(&two_by_one(), &[256]),
+        Tape::new(&flat(1, 1), &[]),
+        Tape::new(&flat(2, 2), &[1, -2, 256, -256]),
     ]
-    .concat()
 }
 
-/// Every prefix of a season of four jobs, and of others of three.
-fn prefixes(step: usize) -> impl Iterator<Item = Vec<u8>> {
+/// The season of these four.
+pub fn small_season() -> Vec<u8> {
+    concatenated(&small_jobs())
+}
+
+/// Every prefix of a season of four jobs, and of others of three, with the answer that is due.
+fn prefixes(step: usize) -> impl Iterator<Item = (Vec<u8>, Answer<()>)> {
     let others = small_tapes(12).flat_map(|(mut random, tape)| {
-        let season = [tape.bytes, random_jobs(&mut random, 2, 6)].concat();
-        prefixes_of(season)
+        let mut jobs = vec![tape];
+        jobs.extend(random_tapes(&mut random, 2, 6));
+        season_prefixes(&jobs)
     });
-    prefixes_of(small_season()).chain(others.step_by(step))
+    season_prefixes(&small_jobs()).chain(others.step_by(step))
 }
 
 /// A season of four jobs with bytes changed, each of them at least once.

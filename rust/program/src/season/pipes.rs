@@ -11,7 +11,7 @@ use crate::tapes::full_tape;
 /// Compares seasons in pieces of many sizes, then with the pipe left open.
 pub fn compare(program: &Program) -> Result<(), Difference> {
     family(program, "in pieces", in_pieces())?
-        .met(&["settled and checked", "settled"], &[8, 12, 13])?;
+        .met(&["settled and checked", "settled"], &[8, 12, 13, 18])?;
     let numbers = [1, 2, 3, 8, 10, 12, 14, 16];
     family(program, "by a pipe that stays open", left_open())?.met(&["settled"], &numbers)
 }
@@ -24,13 +24,16 @@ fn in_pieces() -> Vec<Input> {
     let mut beyond = small.clone();
     // The flow number of the second job.
     beyond[40..44].copy_from_slice(&257_i32.to_le_bytes());
-    let cut = |season: &[u8]| season[..season.len() - 1].to_vec();
+    // Without the last record, and inside the one before it.
+    let [unfinished, cut] =
+        [1, 2].map(|fewer| move |season: &[u8]| season[..season.len() - fewer].to_vec());
     let faulty = |season: &[u8]| [season, &[9]].concat();
     let mut inputs: Vec<Input> = (1..=25)
         .map(|piece| Input::in_pieces(small.clone(), piece, 1))
         .collect();
     inputs.extend([
         Input::in_pieces(cut(&small), 1, 1),
+        Input::in_pieces(unfinished(&small), 1, 1),
         Input::in_pieces(faulty(&small), 1, 1),
         Input::in_pieces(faulty(&small), 7, 1),
         Input::in_pieces(beyond, 2, 1),
@@ -40,6 +43,7 @@ fn in_pieces() -> Vec<Input> {
         Input::in_pieces(long.clone(), 7, 0),
         Input::in_pieces(faulty(&long), 4_099, 1),
         Input::in_pieces(cut(&long), 65_535, 5),
+        Input::in_pieces(unfinished(&long), 65_535, 5),
         Input::in_pieces(long, 65_536, 5),
         Input::in_pieces(flat(1, 1).tape(&[]).repeat(MOST_JOBS + 9), 65_537, 1),
     ]);

@@ -18,7 +18,7 @@ pub fn compare(program: &Program) -> Result<(), Difference> {
         }
         compare_season(program, &input)
     })?
-    .met(&["no jobs", "settled"], &[1, 2, 8, 12, 13, 14, 16])
+    .met(&["no jobs", "settled"], &[1, 2, 8, 12, 13, 14, 16, 18])
 }
 
 /// Each season with what the program is to print.
@@ -44,6 +44,7 @@ fn values() -> Vec<(Vec<u8>, String)> {
         .map(Vec::as_slice)
         .concat();
     let mixed_text = text([6, 11, 2, 1, 3, 1_835_060], [917_504, 5], [166_823, 7]);
+    let spent_twice = text([2, 4, 0, 2, 0, 72], [36, 1], [18, 0]);
     let after_one = |last: &[u8]| [&run, last].concat();
     vec![
         (run.clone(), single.to_string()),
@@ -63,23 +64,24 @@ fn values() -> Vec<(Vec<u8>, String)> {
             after_one(&flat(64, 65).tape(&[])),
             refused(single, "job 2 refused 16 at 0"),
         ),
-        (after_one(&[1]), refused(single, "job 2 refused 13 at 1")),
+        (after_one(&[1]), refused(single, "job 2 refused 13 at 0")),
         (
             after_one(&run[..19]),
-            refused(single, "job 2 refused 13 at 19"),
+            refused(single, "job 2 refused 18 at 19"),
         ),
         (after_one(&[6]), refused(single, "job 2 refused 12 at 0")),
         // An end record is no job.
         (after_one(&[0]), refused(single, "job 2 refused 14 at 0")),
         (vec![0], refused(&none, "job 1 refused 14 at 0")),
         (run.repeat(3), text([3, 6, 3, 0, 0, 48], [16, 1], [8, 0])),
-        // The third season of the proved table.
+        // The third and the fourth season of the proved table.
         (
             [&spent[..], &spent, &[1, 2]].concat(),
-            refused(
-                &text([2, 4, 0, 2, 0, 72], [36, 1], [18, 0]),
-                "job 3 refused 13 at 2",
-            ),
+            refused(&spent_twice, "job 3 refused 13 at 0"),
+        ),
+        (
+            [&spent[..], &spent, &[1, 2, 0, 1, 0]].concat(),
+            refused(&spent_twice, "job 3 refused 18 at 5"),
         ),
         (
             [&one[..], &run].concat(),

@@ -6,7 +6,7 @@ use std::io::{self, ErrorKind, Read};
 use super::{read_job, Limits, Totals, LIMITS};
 use crate::plain::PLAIN;
 use crate::program::Workspace;
-use crate::refusal::{Fault, Refusal};
+use crate::refusal::Refusal;
 use crate::tape::Contents;
 
 /// Bytes that there is room for at each read of the stream.
@@ -81,14 +81,12 @@ impl<R: Read> Input<R> {
     fn read_job(&mut self, limits: &Limits, job: &mut Contents) -> io::Result<Result<(), Refusal>> {
         job.clear();
         loop {
-            let waiting = self.waiting();
-            let unfinished = Fault::InputEnds.at(waiting.len());
-            match read_job(limits, waiting, job) {
+            match read_job(limits, self.waiting(), job) {
                 Ok(length) => {
                     self.start += length;
                     return Ok(Ok(()));
                 }
-                Err(refusal) if refusal == unfinished && !self.ended => self.read_piece()?,
+                Err(refusal) if refusal.wants_more() && !self.ended => self.read_piece()?,
                 Err(refusal) => return Ok(Err(refusal)),
             }
         }

@@ -40,7 +40,7 @@ settled 0 0 0 0
 
 #[test]
 fn refusals_of_the_input() {
-    assert_eq!(clean(&[]), "refused 13 at 0\n");
+    assert_eq!(clean(&[]), "refused 18 at 0\n");
     assert_eq!(clean(&vec![0; INPUT_LIMIT]), "refused 14 at 0\n");
     assert_eq!(clean(&vec![0; INPUT_LIMIT + 1]), "refused 17 at 0\n");
     let mut tape = two_by_one().tape(&[]);
@@ -74,6 +74,6 @@ fn the_tables_hold_every_size_up_to_4096_pixels() {
 fn the_binary_prints_the_text() {
     let printed = |input: &[u8]| printed(env!("CARGO_BIN_EXE_relief-reference"), input);
     assert_eq!(printed(&two_by_one().tape(&[])), TWO_BY_ONE_TEXT);
-    assert_eq!(printed(&[]), "refused 13 at 0\n");
+    assert_eq!(printed(&[]), "refused 18 at 0\n");
     assert_eq!(printed(&vec![0; INPUT_LIMIT + 1]), "refused 17 at 0\n");
 }

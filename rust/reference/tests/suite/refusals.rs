@@ -294,11 +294,11 @@ fn faults_of_one_record() {
     assert_eq!(read_square(|tape| *tape = vec![2]), Err(refusal(14, 0)));
     assert_eq!(
         read_square(|tape| *tape = vec![1, 0, 0, 0]),
-        Err(refusal(13, 4))
+        Err(refusal(13, 0))
     );
     // A record cut short, and one that is due.
-    assert_eq!(read_square(|tape| tape.truncate(7)), Err(refusal(13, 7)));
-    assert_eq!(read_square(|tape| tape.truncate(5)), Err(refusal(13, 5)));
+    assert_eq!(read_square(|tape| tape.truncate(7)), Err(refusal(13, 5)));
+    assert_eq!(read_square(|tape| tape.truncate(5)), Err(refusal(18, 5)));
 }
 
 #[test]

@@ -4,7 +4,9 @@
 
 use std::io::{self, Read};
 
-use relief_inputs::{filler, flat, season_job, two_by_one, Case, Random, TWO_BY_ONE_SEASON};
+use relief_inputs::{
+    filler, flat, season_job, season_prefixes, two_by_one, Case, Random, Tape, TWO_BY_ONE_SEASON,
+};
 use relief_reference::program::{clean, TABLES};
 use relief_reference::season::{report, report_plain_within, report_within, Limits, LIMITS};
 use relief_reference::tape::Capacity;
@@ -208,15 +210,25 @@ fn jobs_of_one_pixel() {
 
 /// A job of 2 by 2 pixels with a flow. Its records stand at 0, 5, 10, 15 to 21, 23 to 38
 /// and 43.
-fn square() -> Vec<u8> {
+fn square_tape() -> Tape {
     let mut job = two_by_one();
     (job.terms.height, job.terms.weight) = (2, 257);
     (job.terms.low, job.terms.high) = (8, 12);
     job.samples = vec![0, 9, 255, 4];
-    job.tape(&[1, -2, 256, -257])
+    Tape::new(&job, &[1, -2, 256, -257])
 }
 
-/// Every kind of refusal that a season can have but 13 and 17: number and place, and the byte
+fn square() -> Vec<u8> {
+    square_tape().bytes
+}
+
+/// The report of the 2 by 1 job before the first bytes of a tape, which are not all of it.
+fn two_by_one_and_cut(tape: &Tape, length: usize) -> String {
+    let refusal = tape.prefix_answer(length).unwrap_err();
+    two_by_ones(1, Some((refusal.number, refusal.place as usize)))
+}
+
+/// Every kind of refusal that a season can have but 13, 17 and 18: number and place, and the byte
 /// that leads to it.
 const FLAWS: [(u32, usize, usize, u8); 21] = [
     (12, 0, 0, 6),
@@ -284,7 +296,7 @@ fn a_byte_behind_the_end_begins_another_job() {
     let job = two_by_one().tape(&[]);
     for byte in 0..=255 {
         let refused = match byte {
-            1 => (13, 1),
+            1 => (13, 0),
             0..=5 => (14, 0),
             _ => (12, 0),
         };
@@ -295,20 +307,37 @@ fn a_byte_behind_the_end_begins_another_job() {
 
 #[test]
 fn a_season_cut_at_every_byte() {
-    let jobs = [two_by_one().tape(&[]), square()];
-    let season = jobs.concat();
-    let first = jobs[0].len();
-    let whole = reported(&season);
-    assert!(whole.starts_with("jobs 2\n"));
-    assert_eq!(whole.lines().count(), 8);
-    for length in 0..season.len() {
-        let expected = match length {
-            0 => two_by_ones(0, None),
-            _ if length < first => two_by_ones(0, Some((13, length))),
-            _ if length == first => two_by_ones(1, None),
-            _ => two_by_ones(1, Some((13, length - first))),
-        };
-        assert_eq!(reported(&season[..length]), expected);
+    let jobs = [Tape::new(&two_by_one(), &[]), square_tape()];
+    let first = jobs[0].bytes.len();
+    for (season, due) in season_prefixes(&jobs) {
+        let text = reported(&season);
+        let refused = due
+            .err()
+            .map(|refusal| (refusal.number, refusal.place as usize));
+        match season.len() {
+            length if length < first => assert_eq!(text, two_by_ones(0, refused)),
+            length if length < first + 44 => assert_eq!(text, two_by_ones(1, refused)),
+            _ => assert!(text.starts_with("jobs 2\n") && text.lines().count() == 8),
+        }
+    }
+}
+
+/// A season that was never finished, and a cut one: places count from the first byte of the job.
+#[test]
+fn where_the_second_job_ends() {
+    let (job, square) = (two_by_one().tape(&[]), square());
+    for (length, number, place) in [
+        (1, 13, 0),
+        (4, 13, 0),
+        (5, 18, 5),
+        (6, 13, 5),
+        (15, 18, 15),
+        (16, 13, 15),
+        (42, 13, 38),
+        (43, 18, 43),
+    ] {
+        let season = [&job, &square[..length]].concat();
+        assert_eq!(reported(&season), two_by_ones(1, Some((number, place))));
     }
 }
 
@@ -365,7 +394,7 @@ fn reported_up_to(job_bytes: usize, input: &[u8]) -> String {
 
 #[test]
 fn a_job_may_end_at_its_last_byte_but_not_behind() {
-    let square = square();
+    let (tape, square) = (square_tape(), square());
     let (length, both) = (square.len(), square.repeat(2));
     let refused = |number, place| two_by_ones(1, Some((number, place)));
     for input in [&square, &both] {
@@ -375,8 +404,9 @@ fn a_job_may_end_at_its_last_byte_but_not_behind() {
     }
     // The input ends where these bytes do, or before.
     for cut in 20..length {
-        assert_eq!(reported_up_to(cut, &square[..cut]), refused(13, cut));
-        assert_eq!(reported_up_to(length, &square[..cut]), refused(13, cut));
+        let ended = two_by_one_and_cut(&tape, cut);
+        assert_eq!(reported_up_to(cut, &square[..cut]), ended);
+        assert_eq!(reported_up_to(length, &square[..cut]), ended);
         assert_eq!(reported_up_to(cut, &square[..cut + 1]), refused(17, 0));
     }
 }
@@ -415,11 +445,11 @@ const LARGE: Limits = Limits {
 };
 
 /// A flat job of this size with its tape's length, with a flow of zeros or without.
-fn long_tape(width: u32, height: u32, flow: bool, length: usize) -> Vec<u8> {
+fn long_tape(width: u32, height: u32, flow: bool, length: usize) -> Tape {
     let job = flat(width, height);
     let pairs = if flow { job.grid().pair_count() } else { 0 };
-    let tape = job.tape(&vec![0; pairs]);
-    assert_eq!(tape.len(), length);
+    let tape = Tape::new(&job, &vec![0; pairs]);
+    assert_eq!(tape.bytes.len(), length);
     tape
 }
 
@@ -434,7 +464,7 @@ fn jobs_about_as_long_as_65_536_bytes() {
         (long_tape(181, 181, false, 65_538), false),
     ] {
         let followed_by = |behind: &[u8]| {
-            let season = [&good, &tape, behind].concat();
+            let season = [&good, &tape.bytes, behind].concat();
             reported_within(&LARGE, &season)
         };
         if taken {
@@ -447,13 +477,14 @@ fn jobs_about_as_long_as_65_536_bytes() {
         }
         // Cut at or before the 65,536th byte, it is just a tape that ends too early.
         for cut in [65_534, 65_535, 65_536] {
-            if cut < tape.len() {
-                let season = [&good, &tape[..cut]].concat();
-                assert_eq!(reported_within(&LARGE, &season), refused(13, cut));
+            if cut < tape.bytes.len() {
+                let season = [&good, &tape.bytes[..cut]].concat();
+                let ended = two_by_one_and_cut(&tape, cut);
+                assert_eq!(reported_within(&LARGE, &season), ended);
             }
         }
         // The program's tables do not hold it.
-        let season = [&good[..], &tape].concat();
+        let season = [&good[..], &tape.bytes].concat();
         assert_eq!(reported(&season), refused(16, 0));
     }
 }

@@ -1,6 +1,6 @@
 //! Tapes written and read back, cut short and changed.
 
-use relief_inputs::{flat, two_by_one, Case, Random};
+use relief_inputs::{flat, two_by_one, Case, Random, Tape};
 use relief_reference::program::{clean, FLOW_TABLE, SAMPLE_TABLE};
 use relief_reference::{Job, Refusal};
 
@@ -63,40 +63,52 @@ fn a_written_tape_reads_back_as_the_job() {
 }
 
 /// Tapes with and without a flow and with no pairs.
-fn small_tapes() -> [Vec<u8>; 4] {
+fn small_tapes() -> [Tape; 4] {
     let row = two_by_one();
     let mut square = two_by_one();
     square.terms.height = 2;
     square.samples = vec![0, 9, 255, 4];
     [
-        row.tape(&[]),
-        row.tape(&[-256]),
-        square.tape(&[1, -2, 256, 0]),
-        flat(1, 1).tape(&[]),
+        Tape::new(&row, &[]),
+        Tape::new(&row, &[-256]),
+        Tape::new(&square, &[1, -2, 256, 0]),
+        Tape::new(&flat(1, 1), &[]),
     ]
 }
 
+/// A tape that was never finished, and a cut one.
 #[test]
-fn every_prefix_is_refused_where_it_ends() {
-    for tape in small_tapes() {
-        for length in 0..tape.len() {
-            let answer = read_and_write_again(&tape[..length]);
-            assert_eq!(answer, Err(refusal(13, length as u64)));
+fn where_the_two_by_one_tape_ends() {
+    let tape = two_by_one().tape(&[-256]);
+    let starts = [0, 5, 10, 15, 17, 19, 24];
+    for (record, &start) in starts.iter().enumerate() {
+        let unfinished = read_and_write_again(&tape[..start]);
+        assert_eq!(unfinished, Err(refusal(18, start as u64)));
+        let next = starts.get(record + 1).copied().unwrap_or(tape.len());
+        for length in start + 1..next {
+            let cut = read_and_write_again(&tape[..length]);
+            assert_eq!(cut, Err(refusal(13, start as u64)));
         }
-        assert!(read_and_write_again(&tape).is_ok());
+    }
+    assert!(read_and_write_again(&tape).is_ok());
+}
+
+#[test]
+fn every_prefix_is_unfinished_or_cut() {
+    for tape in small_tapes() {
+        for (prefix, due) in tape.prefixes() {
+            assert_eq!(read_and_write_again(&prefix).map(drop), due);
+        }
     }
 }
 
 #[test]
 fn every_single_byte_change_gets_an_answer() {
     for tape in small_tapes() {
-        for place in 0..tape.len() {
-            let mut changed = tape.clone();
-            for byte in 0..=255 {
-                changed[place] = byte;
-                if let Err(refusal) = read_and_write_again(&changed) {
-                    assert!(refusal.place <= tape.len() as u64);
-                }
+        let length = tape.bytes.len() as u64;
+        for changed in tape.changes() {
+            if let Err(refusal) = read_and_write_again(&changed) {
+                assert!(refusal.place <= length);
             }
         }
     }

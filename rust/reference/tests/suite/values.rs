@@ -348,5 +348,5 @@ fn limits_of_the_size() {
 
 #[test]
 fn empty_tape() {
-    assert_eq!(read_back(&[], 2, 1).answer, Err(refusal(13, 0)));
+    assert_eq!(read_back(&[], 2, 1).answer, Err(refusal(18, 0)));
 }

@@ -78,7 +78,7 @@ fn a_tape_too_short_for_its_size() {
     assert_eq!(read_any(&tape), refused(Reason::BufferTooShort, 0));
     let (mut samples, mut flow) = (vec![0; MAX_PIXELS], vec![0; MAX_PAIRS]);
     let answer = read(&tape, &mut samples, &mut flow);
-    assert_eq!(answer, refused(Reason::InputEnds, 5));
+    assert_eq!(answer, refused(Reason::TapeUnfinished, 5));
 }
 
 #[test]
@@ -97,8 +97,9 @@ fn refusals_of_read() {
         tape[offset..offset + 2].copy_from_slice(&bytes);
         assert_eq!(read_any(&tape), refused(reason, place));
     }
-    assert_eq!(read_any(&TAPE[..24]), refused(Reason::InputEnds, 24));
-    assert_eq!(read_any(&[]), refused(Reason::InputEnds, 0));
+    assert_eq!(read_any(&TAPE[..23]), refused(Reason::TapeCut, 19));
+    assert_eq!(read_any(&TAPE[..24]), refused(Reason::TapeUnfinished, 24));
+    assert_eq!(read_any(&[]), refused(Reason::TapeUnfinished, 0));
     let longer = [&TAPE[..], &[0]].concat();
     assert_eq!(read_any(&longer), refused(Reason::ByteAfterEnd, 25));
 }

@@ -6,6 +6,7 @@ use native.Mathlib.Omega.{arith}
 use borrow.Author.Needs.{needs}
 use borrow.Author.Tests.{lt-ltb, le-ltb}
 use lib.Dec.{ltb}
+use Rattle.model.specs.Tape.{bodyLength}
 use Rattle.model.proofs.Refusals.{accepted, refused, passed}
 use Rattle.records.proofs.record.judge_body.Statement.{statement}
 use Rattle.records.proofs.record.judge_body.Tie as tie
@@ -19,14 +20,14 @@ returns c = sym (refused _ _ (c .if1 .taken))
 sub-if2 : tie.Need-sub-if2
 sub-if2 c = search needs
 
-short : (c : tie.Then2) → let a = c .before .before .args in ltb (a .len) (a .at + 1 + a .body) ≡ true
-short c = let a = c .before .before .args in lt-ltb (a .len) (a .at + 1 + a .body) (omega arith)
+short : (c : tie.Then2) → let a = c .before .before .args in ltb (a .len) (a .at + 1 + bodyLength (a .kind)) ≡ true
+short c = let a = c .before .before .args in lt-ltb (a .len) (a .at + 1 + bodyLength (a .kind)) (omega (arith, c .before .before .pre .1))
 
 returns-2 : tie.Need-returns-2
 returns-2 c = sym (passed _ _ (c .before .if1 .left) ∙ refused _ _ (short c))
 
-long : (c : tie.Else2) → let a = c .before .before .args in ltb (a .len) (a .at + 1 + a .body) ≡ false
-long c = let a = c .before .before .args in le-ltb (a .len) (a .at + 1 + a .body) (omega arith)
+long : (c : tie.Else2) → let a = c .before .before .args in ltb (a .len) (a .at + 1 + bodyLength (a .kind)) ≡ false
+long c = let a = c .before .before .args in le-ltb (a .len) (a .at + 1 + bodyLength (a .kind)) (omega (arith, c .before .before .pre .1))
 
 returns-3 : tie.Need-returns-3
 returns-3 c =

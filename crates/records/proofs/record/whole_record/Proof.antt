@@ -8,10 +8,10 @@ use lib.ListN.{length, getD}
 use Rattle.model.specs.declared.Verdict.{Verdict}
 use Rattle.model.specs.declared.Entry.{Entry}
 use Rattle.model.specs.Verdict.{firstRefusal, decided}
-use Rattle.model.specs.Tape.{bodyLength, decoded}
+use Rattle.model.specs.Tape.{bodyLength, decoded, bodyRows}
 use Rattle.model.proofs.Refusals.{accepted-row}
 use Rattle.records.specs.declared.record.Got.{Got}
-use Rattle.records.specs.Record.{bodyRows, recordAt}
+use Rattle.records.specs.Record.{recordAt}
 use Rattle.records.proofs.record.whole_record.Statement.{statement}
 use Rattle.records.proofs.record.whole_record.Tie as tie
 
@@ -30,11 +30,8 @@ enum-told c = search needs
 -- the verdict is that of the rows
 judged : (c : tie.After-judge-body) → let a = c .before .before .before .args in
     c .judge-body .result
-    ≡ firstRefusal (bodyRows (a .followed) (length (a .tape .now)) (a .at) (getD (a .tape .now) (a .at) 0) (bodyLength (getD (a .tape .now) (a .at) 0)) (a .allowed))
-judged c =
-    let a = c .before .before .before .args in
-    c .judge-body .ensures
-    ∙ ap (λ (b : ℕ). firstRefusal (bodyRows (a .followed) (length (a .tape .now)) (a .at) (getD (a .tape .now) (a .at) 0) b (a .allowed))) (c .before .before .before .pre .1)
+    ≡ firstRefusal (bodyRows (a .followed) (length (a .tape .now)) (a .at) (getD (a .tape .now) (a .at) 0) (a .allowed))
+judged c = c .judge-body .ensures
 
 -- where they accept, the body is whole
 room : (c : tie.After-enum-told) → let a = c .before .before .before .before .before .args in
