@@ -194,7 +194,7 @@ class Pictures(Scripts):
     @unittest.skipUnless(PROGRAM, "RELIEF_BIN is not set")
     def test_refusal_of_the_program(self):
         answer = subprocess.run([PROGRAM], input=b"", capture_output=True, check=True).stdout
-        self.fails("standard input: the cleaning program refused the job: refused 13 at 0"
+        self.fails("standard input: the cleaning program refused the job: refused 18 at 0"
                    " (README.md lists the refusals)", "answer2pgm.py", data=answer)
 
 

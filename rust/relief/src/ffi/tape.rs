@@ -52,8 +52,8 @@ unsafe extern "C" {
 ///
 /// # Errors
 ///
-/// Refused at the first faulty record: its kind, its end, its terms, and at the first record
-/// the buffers' lengths; then a byte after the end; then a flow number.
+/// Refused at the first faulty record: that it is missing, its kind, its end, its terms, and at
+/// the first record the buffers' lengths; then a byte after the end; then a flow number.
 ///
 /// [`read_samples_len`]: crate::read_samples_len
 /// [`read_flow_len`]: crate::read_flow_len
