@@ -365,7 +365,7 @@ static void expect_job(const struct job *j, const char *input, bool flowed)
 static const uint8_t TAPE[] = {
     1, 2, 0, 1, 0, 2, 0, 1, 0, 255, 3, 0, 0, 100, 0, 4, 0, 4, 2, 5, 0, 255, 255, 255, 0};
 
-/* Where the last of its records begins that does so at an offset or before it. */
+/* Where the last of its records begins that begins at this offset or before. */
 static size_t record_start(size_t offset)
 {
     static const size_t starts[] = {0, 5, 10, 15, 17, 19, 24};
@@ -417,7 +417,7 @@ static void refused_read(void)
         size_t start = record_start(length);
         uint32_t number = start == length ? RELIEF_REFUSED_TAPE_UNFINISHED : RELIEF_REFUSED_TAPE_CUT;
         char input[50];
-        snprintf(input, sizeof input, "a tape cut to %zu bytes", length);
+        snprintf(input, sizeof input, "the first %zu bytes of a tape", length);
         expect_unread(taped(length, 2, 1), input, number, start);
     }
     for (size_t d = 0; d < sizeof DAMAGES / sizeof *DAMAGES; d++) {

@@ -17,14 +17,14 @@ use Rattle.model.specs.Program.{field, refusalText, jobAnswer, tables}
 -- ---- The jobs of a season
 
 -- 17 in place of a reading that finds the job's first 65,536 bytes too short, where the input goes past them
-abbrev pub cut : Parse → Parse
-cut (turned number place) = cond (tooShort number) (turned 17 0) (turned number place)
-cut (whole p) = whole p
+abbrev pub tooLong : Parse → Parse
+tooLong (turned number place) = cond (tooShort number) (turned 17 0) (turned number place)
+tooLong (whole p) = whole p
 
 -- The job at the front of the input: read as a tape is, but that more may follow its end (SPECIFICATION 10.3, 10.4)
 unfoldable pub firstJob : Lent → List ℕ → Parse
 firstJob lent input = elim (ltb 65536 (length input)) [
-  | true ↦ cut (parse (take 65536 input) lent)
+  | true ↦ tooLong (parse (take 65536 input) lent)
   | false ↦ parse input lent
 ]
 

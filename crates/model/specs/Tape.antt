@@ -161,8 +161,8 @@ absorbed p (Flow f) =
 
 -- ---- Where reading turns back (SPECIFICATION 6.5)
 
--- Per record of a known kind at offset o of an input of this length, allowed here or not: 14 kind not allowed here; 13 the
--- input ends inside the record; 15 a byte after the end, unless more may follow it
+-- The rows of a record of a known kind at offset o of `len` bytes, where `ok` tells whether it is allowed: 14 kind not allowed
+-- here; 13 the input ends inside the record; 15 a byte after the end, unless more may follow it
 abbrev pub bodyRows : Bool → ℕ → ℕ → ℕ → Bool → List Row
 bodyRows followed len o kind ok =
     row (not ok) 14 o

@@ -1,8 +1,8 @@
 -- The values that document 01 marks to be proved (●), in its order, with the steady rounds of request F-1 and the centres
--- of request F-3: what is asked, and what is to be given; after them the text that it prints for the 2 by 1 job and for
--- tapes that end too early (request F-6), the report's text for seasons of that job (request F-2), a 2 by 2 job of our own,
--- worked by hand, in which the order of the pairs tells, and falls whose eighth is a half or just beyond. One theorem,
--- `values` of proofs/Values.antt, says that the definitions give it in every case (docs/SPECIFICATION.md, section 9).
+-- of request F-3: what is asked, and what is to be given; after them the text that it prints for the 2 by 1 job, the text
+-- for tapes that end too early (request F-6), the report's text for four seasons of that job (requests F-2 and F-6), a 2 by 2
+-- job of our own, worked by hand, in which the order of the pairs tells, and falls whose eighth is a half or just beyond. One
+-- theorem, `values` of proofs/Values.antt, says that the definitions give it in every case (docs/SPECIFICATION.md, section 9).
 use mathlib.Core.List.{List, [], _∷_, _++_}
 use Prim.Native.Nat.{ℕ, _*_}
 use lib.IntN.{ℤ, pos, negℤ}
@@ -24,7 +24,7 @@ pub data Asked : Type 0 where
   running : ℕ → ℕ → Asked
   momentum : ℕ → Asked
   printing : ℕ → ℕ → Asked
-  cutting : ℕ → ℕ → ℕ → List ℕ → Asked
+  beginning : ℕ → ℕ → ℕ → List ℕ → Asked
   reporting : ℕ → ℕ → ℕ → List ℕ → Asked
   sharing : ℤ → Asked
 
@@ -56,7 +56,7 @@ ask t samples (running quick allowance) =
 ask t samples (momentum k) = number (quickRounds eighth (grid t samples) k .momentum)
 ask t samples (printing quick allowance) =
     text (programText (tapeOf t (record { quick = quick; allowance = allowance }) samples []))
-ask t samples (cutting quick allowance count behind) =
+ask t samples (beginning quick allowance count behind) =
     text (programText (take count (tapeOf t (record { quick = quick; allowance = allowance }) samples []) ++ behind))
 ask t samples (reporting quick allowance times behind) =
     text
@@ -134,14 +134,14 @@ cases =
     (call (figures checked 0 (pos 10650881) (pos 10650881) (pos 0)) (one (negℤ (pos 1280))) (pair 2048 3327))
     ∷ onePixel (running 0 100) (call (figures settled 0 (pos 0) (pos 0) (pos 0)) [] (pos 1920 ∷ []))
     ∷ twoByOne (printing 0 100) (text (ascii "outcome moved price floor slack\nsettled 17 131080 131064 16\n382 386\n"))
-    ∷ twoByOne (cutting 0 100 0 []) (text (ascii "refused 18 at 0\n"))
-    ∷ twoByOne (cutting 0 100 4 []) (text (ascii "refused 13 at 0\n"))
-    ∷ twoByOne (cutting 0 100 5 []) (text (ascii "refused 18 at 5\n"))
-    ∷ twoByOne (cutting 0 100 6 []) (text (ascii "refused 13 at 5\n"))
-    ∷ twoByOne (cutting 0 100 18 []) (text (ascii "refused 13 at 17\n"))
-    ∷ twoByOne (cutting 0 100 19 []) (text (ascii "refused 18 at 19\n"))
-    ∷ twoByOne (cutting 0 100 5 (6 ∷ [])) (text (ascii "refused 12 at 5\n"))
-    ∷ twoByOne (cutting 0 100 5 (1 ∷ [])) (text (ascii "refused 14 at 5\n"))
+    ∷ twoByOne (beginning 0 100 0 []) (text (ascii "refused 18 at 0\n"))
+    ∷ twoByOne (beginning 0 100 4 []) (text (ascii "refused 13 at 0\n"))
+    ∷ twoByOne (beginning 0 100 5 []) (text (ascii "refused 18 at 5\n"))
+    ∷ twoByOne (beginning 0 100 6 []) (text (ascii "refused 13 at 5\n"))
+    ∷ twoByOne (beginning 0 100 18 []) (text (ascii "refused 13 at 17\n"))
+    ∷ twoByOne (beginning 0 100 19 []) (text (ascii "refused 18 at 19\n"))
+    ∷ twoByOne (beginning 0 100 5 (6 ∷ [])) (text (ascii "refused 12 at 5\n"))
+    ∷ twoByOne (beginning 0 100 5 (1 ∷ [])) (text (ascii "refused 14 at 5\n"))
     ∷ twoByOne (reporting 0 100 1 [])
     (text (ascii "jobs 1\npixels 2\nsettled 1\nspent 0\nchecked 0\ntotal 16\nlargest 16 1\nmean 8 0\n"))
     ∷ twoByOne (reporting 0 100 0 [])

@@ -24,6 +24,6 @@ abbrev pub wholeAt : Bool → List ℕ → ℕ → Bool → Got
 wholeAt followed tape o ok =
     decided (firstRefusal (bodyRows followed (length tape) o (getD tape o 0) ok)) (recordAt tape o) Got.Refused
 
--- the same of any kind, by the model's rows
+-- the same of any kind, and where the input ends
 unfoldable pub gotAt : Bool → List ℕ → ℕ → Tally → Got
 gotAt followed tape o t = decided (firstRefusal (recordRows followed tape o (may t))) (recordAt tape o) Got.Refused

@@ -12,7 +12,7 @@ use borrow.Author.Tests.{ltb-true, ltb-false, lt-ltb, le-ltb}
 use Rattle.model.specs.declared.Lent.{Lent}
 use Rattle.model.specs.Tape.{Progress, Parse, turned, whole, recordRows, parseFrom, parse, readOf, tooShort}
 use Rattle.model.specs.Verdict.{firstRefusal}
-use Rattle.model.specs.Season.{cut, firstJob}
+use Rattle.model.specs.Season.{tooLong, firstJob}
 
 module _ (lent : Lent) where
   -- no bytes are too few
@@ -25,24 +25,24 @@ module _ (lent : Lent) where
     abbrev first : Parse
     first = parse (take 65536 input) lent
 
-    by-length : (b : Bool) → ltb 65536 (length input) ≡ b → firstJob lent input ≡ cond b (cut first) first
+    by-length : (b : Bool) → ltb 65536 (length input) ≡ b → firstJob lent input ≡ cond b (tooLong first) first
     unfolding firstJob
     by-length true h = rw (h, firstJob) refl
     by-length false h = rw (h, firstJob) (ap (λ (l : List ℕ). parse l lent) (sym (take-all 65536 input (ltb-false 65536 (length input) h))))
 
-    job-by : {r : Parse} → first ≡ r → ((b : Bool) → ltb 65536 (length input) ≡ b → cond b (cut r) r ≡ r) → firstJob lent input ≡ r
+    job-by : {r : Parse} → first ≡ r → ((b : Bool) → ltb 65536 (length input) ≡ b → cond b (tooLong r) r ≡ r) → firstJob lent input ≡ r
     job-by {r} e same =
         by-length (ltb 65536 (length input)) refl
-        ∙ ap (λ (x : Parse). cond (ltb 65536 (length input)) (cut x) x) e
+        ∙ ap (λ (x : Parse). cond (ltb 65536 (length input)) (tooLong x) x) e
         ∙ same (ltb 65536 (length input)) refl
 
-  cut-faulty : (b : Bool) {n q : ℕ} → tooShort n ≡ false → cond b (cut (turned n q)) (turned n q) ≡ turned n q
-  cut-faulty true {n} {q} f = ap (λ (t : Bool). cond t (turned 17 0) (turned n q)) f
-  cut-faulty false f = refl
+  long-faulty : (b : Bool) {n q : ℕ} → tooShort n ≡ false → cond b (tooLong (turned n q)) (turned n q) ≡ turned n q
+  long-faulty true {n} {q} f = ap (λ (t : Bool). cond t (turned 17 0) (turned n q)) f
+  long-faulty false f = refl
 
-  cut-whole : (b : Bool) (p : Progress) → cond b (cut (whole p)) (whole p) ≡ whole p
-  cut-whole true p = refl
-  cut-whole false p = refl
+  long-whole : (b : Bool) (p : Progress) → cond b (tooLong (whole p)) (whole p) ≡ whole p
+  long-whole true p = refl
+  long-whole false p = refl
 
   module _ (bytes rest : List ℕ) where
     -- the input's first bytes are those at hand, with more behind them or none
@@ -64,20 +64,20 @@ module _ (lent : Lent) where
 
     pub first-whole : {p : Progress} → ((behind : List ℕ) → parse (take 65536 bytes ++ behind) lent ≡ whole p) → firstJob lent (bytes ++ rest) ≡ whole p
     first-whole {p} h =
-        let (behind, e) = front in job-by (bytes ++ rest) (ap (λ (l : List ℕ). parse l lent) e ∙ h behind) (λ b _. cut-whole b p)
+        let (behind, e) = front in job-by (bytes ++ rest) (ap (λ (l : List ℕ). parse l lent) e ∙ h behind) (λ b _. long-whole b p)
 
     pub first-faulty : {n q : ℕ} → tooShort n ≡ false → ((behind : List ℕ) → parse (take 65536 bytes ++ behind) lent ≡ turned n q) →
         firstJob lent (bytes ++ rest) ≡ turned n q
     first-faulty f h =
-        let (behind, e) = front in job-by (bytes ++ rest) (ap (λ (l : List ℕ). parse l lent) e ∙ h behind) (λ b _. cut-faulty b f)
+        let (behind, e) = front in job-by (bytes ++ rest) (ap (λ (l : List ℕ). parse l lent) e ∙ h behind) (λ b _. long-faulty b f)
 
     -- they are too few, and the input goes past them
     pub first-past : {n q : ℕ} → 65536 < length bytes → parse (take 65536 bytes) lent ≡ turned n q → tooShort n ≡ true →
         firstJob lent (bytes ++ rest) ≡ turned 17 0
     first-past {n} {q} l h s =
         by-length (bytes ++ rest) true (lt-ltb 65536 (length (bytes ++ rest)) (omega (arith, length-append bytes rest)))
-        ∙ ap (λ (x : List ℕ). cut (parse x lent)) (take-append-le 65536 bytes rest (omega arith))
-        ∙ ap cut h
+        ∙ ap (λ (x : List ℕ). tooLong (parse x lent)) (take-append-le 65536 bytes rest (omega arith))
+        ∙ ap tooLong h
         ∙ ap (λ (t : Bool). cond t (turned 17 0) (turned n q)) s
 
   -- they are too few, and the input ends

@@ -17,5 +17,5 @@ pub use chessboard::{chessboard, chessboard_flow};
 pub use family::{compare_family, status, Answer, Difference, Tally};
 pub use random::Random;
 pub use season::{concatenated, filler, season_job, season_prefixes, TWO_BY_ONE_SEASON};
-pub use tape::{changes_of, prefixes_of, small_tapes, tape_length, Tape};
+pub use tape::{changes_of, small_tapes, tape_length, Tape};
 pub use two_flows::beside_the_bound;

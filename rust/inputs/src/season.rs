@@ -2,7 +2,8 @@
 
 use relief_reference::Rounds;
 
-use crate::{flat, prefixes_of, two_by_one, Answer, Case, Random, Tape};
+use crate::tape::prefixes_of;
+use crate::{flat, two_by_one, Answer, Case, Random, Tape};
 
 /// The season report of the 2 by 1 job alone.
 pub const TWO_BY_ONE_SEASON: &str = "\

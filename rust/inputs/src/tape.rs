@@ -37,7 +37,7 @@ pub fn small_tapes(count: u64) -> impl Iterator<Item = (Random, Tape)> {
 }
 
 /// Every prefix, all of the bytes among them.
-pub fn prefixes_of(bytes: Vec<u8>) -> impl Iterator<Item = Vec<u8>> {
+pub(crate) fn prefixes_of(bytes: Vec<u8>) -> impl Iterator<Item = Vec<u8>> {
     (0..=bytes.len()).map(move |length| bytes[..length].to_vec())
 }
 
@@ -81,14 +81,14 @@ impl Tape {
         })
     }
 
-    /// What the first `length` bytes are answered (request F-6): where a record starts behind them
-    /// it was due and is 18 at their end, and one that they cut is 13 at its start.
+    /// The answer that is due to the first `length` bytes (request F-6): 18 at their end where the
+    /// next record would begin there, else 13 where the record begins that they cut.
     pub fn prefix_answer(&self, length: usize) -> Answer<()> {
         if length == self.bytes.len() {
             return Ok(());
         }
-        let starts = self.records();
-        let last = starts.into_iter().filter(|&start| start <= length).last();
+        let mut starts = self.records().into_iter();
+        let last = starts.rfind(|&start| start <= length);
         let place = last.expect("a record starts at offset 0");
         let number = if place == length { 18 } else { 13 };
         Err(Refusal {

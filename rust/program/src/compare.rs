@@ -1,6 +1,6 @@
 //! One input: what the program prints for it, beside the reference's text.
 
-use relief_inputs::{Answer, Difference};
+use relief_inputs::{compare_family, Answer, Difference, Tally};
 use relief_reference::program::clean;
 use relief_reference::Refusal;
 
@@ -29,17 +29,20 @@ pub fn compare_text(program: &Program, input: &Input, expected: &str) -> Result<
     }
 }
 
-/// The answer to the input, if it is the one that is due.
-pub fn due_answer(
-    answer: Answer<String>,
-    due: &Answer<()>,
-    input: &Input,
-) -> Result<Answer<String>, Difference> {
-    if answer.as_ref().map(drop) == due.as_ref().copied() {
-        return Ok(answer);
-    }
-    let differs = format!("both answer {answer:?}, and {due:?} is due");
-    Err(report(&differs, input))
+/// Compares prefixes, and sees to it that what both answer is what is due (request F-6).
+pub fn compare_prefixes(
+    prefixes: impl Iterator<Item = (Vec<u8>, Answer<()>)>,
+    compare: impl Fn(&Input) -> Result<Answer<String>, Difference>,
+) -> Result<Tally, Difference> {
+    compare_family("every prefix", prefixes, |(bytes, due)| {
+        let input = bytes.clone().into();
+        let answer = compare(&input)?;
+        if answer.as_ref().map(drop) == due.as_ref().copied() {
+            return Ok(answer);
+        }
+        let differs = format!("both answer {answer:?}, and {due:?} is due");
+        Err(report(&differs, &input))
+    })
 }
 
 /// What differs, with the whole input, unless it is very long.

@@ -9,7 +9,7 @@ use relief_reference::terms::WEIGHT_LIMIT;
 use relief_reference::Rounds;
 
 use crate::child::Program;
-use crate::compare::{compare as compare_tape, compare_text, due_answer, report};
+use crate::compare::{compare as compare_tape, compare_prefixes, compare_text, report};
 
 /// Sizes with the most pixels that the program takes.
 const LARGEST: [(u32, u32); 3] = [(64, 64), (4_096, 1), (1, 4_096)];
@@ -22,7 +22,8 @@ pub fn compare(program: &Program, step: usize) -> Result<(), Difference> {
     family(program, "1 to 4,096 pixels", jobs(step))?.met(&words, &[])?;
     compare_two_flows(program, step)?;
     family(program, "the most rounds", long_runs(step))?.met(&["settled"], &[])?;
-    compare_prefixes(program, step)?;
+    compare_prefixes(prefixes(step), |input| compare_tape(program, input))?
+        .met(&["checked with slack 0"], &[13, 18])?;
     family(program, "changed bytes", changes(step))?.met(&[], &[8, 10, 12, 14])?;
     let numbers = [1, 2, 3, 8, 10, 12, 13, 14, 15, 16, 18];
     family(program, "damaged tapes", damages(step))?.met(&[], &numbers)
@@ -36,15 +37,6 @@ fn family(
     compare_family(title, tapes.map(Into::into), |input| {
         compare_tape(program, input)
     })
-}
-
-/// Compares prefixes of tapes, and sees to it that what both answer is what is due (request F-6).
-fn compare_prefixes(program: &Program, step: usize) -> Result<(), Difference> {
-    compare_family("every prefix", prefixes(step), |(tape, due)| {
-        let input = tape.clone().into();
-        due_answer(compare_tape(program, &input)?, due, &input)
-    })?
-    .met(&["checked with slack 0"], &[13, 18])
 }
 
 /// Compares two tapes of one job, each with a flow, and sees to it that the images printed are within

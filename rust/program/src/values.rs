@@ -43,7 +43,7 @@ fn values() -> Vec<(Vec<u8>, String)> {
     };
     let refused = |number, place| format!("refused {number} at {place}\n");
     // The first bytes of the job's tape without a flow, and others behind them.
-    let cut = |length, behind: &[u8]| [&run(0, 100)[..length], behind].concat();
+    let first = |length, behind: &[u8]| [&run(0, 100)[..length], behind].concat();
     vec![
         (job.tape(&[]), TWO_BY_ONE_TEXT.to_string()),
         check(&job, 0, "checked 0 262144 0 262144", "128 640"),
@@ -99,13 +99,13 @@ fn values() -> Vec<(Vec<u8>, String)> {
         unmoved(64, 64),
         (flat(64, 65).tape(&[]), refused(16, 0)),
         (Vec::new(), refused(18, 0)),
-        (cut(4, &[]), refused(13, 0)),
-        (cut(5, &[]), refused(18, 5)),
-        (cut(6, &[]), refused(13, 5)),
-        (cut(18, &[]), refused(13, 17)),
-        (cut(19, &[]), refused(18, 19)),
-        (cut(5, &[6]), refused(12, 5)),
-        (cut(5, &[1]), refused(14, 5)),
+        (first(4, &[]), refused(13, 0)),
+        (first(5, &[]), refused(18, 5)),
+        (first(6, &[]), refused(13, 5)),
+        (first(18, &[]), refused(13, 17)),
+        (first(19, &[]), refused(18, 19)),
+        (first(5, &[6]), refused(12, 5)),
+        (first(5, &[1]), refused(14, 5)),
     ]
 }
 

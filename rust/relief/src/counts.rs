@@ -70,10 +70,10 @@ pub const fn tape_bytes(samples_len: usize, flow_len: usize) -> usize {
 ///
 /// In samples of this length and a flow of [`read_flow_len`], a tape is refused with
 /// [`Reason::BufferTooShort`](crate::Reason::BufferTooShort) only if it is accepted in no
-/// buffers: it names a size with more samples than its bytes can hold, as most cut and
-/// unfinished tapes do. In buffers of [`MAX_PIXELS`] and [`MAX_PAIRS`] none is refused so: there
-/// such a one is told as [`Reason::TapeCut`](crate::Reason::TapeCut) or
-/// [`Reason::TapeUnfinished`](crate::Reason::TapeUnfinished), unless another fault comes first.
+/// buffers: it names a size with more samples than its bytes can hold, as a tape does that ends
+/// among its samples. To be told [`Reason::TapeCut`](crate::Reason::TapeCut) or
+/// [`Reason::TapeUnfinished`](crate::Reason::TapeUnfinished) of such a one, lend buffers for the
+/// size in its bytes 1 to 4, or of [`MAX_PIXELS`] and [`MAX_PAIRS`]: in these none is refused so.
 pub const fn read_samples_len(tape_len: usize) -> usize {
     let samples = tape_len.saturating_sub(TAPE_FRAME) / 2;
     if samples > MAX_PIXELS {

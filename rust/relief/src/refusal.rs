@@ -39,7 +39,8 @@ pub enum Reason {
     ByteAfterEnd = 15,
     /// A buffer that the tape is read into or written to is too short.
     BufferTooShort = 16,
-    /// The tape ends where a record is due: it was never finished. The place is the tape's length.
+    /// The tape ends where a record is due: it was never finished, or was cut right behind a
+    /// record. The place is the tape's length.
     TapeUnfinished = 18,
 }
 

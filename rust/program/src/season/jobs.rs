@@ -1,13 +1,13 @@
 //! Seasons of random jobs: whole, cut, changed, and with a damaged job among them.
 
 use relief_inputs::{
-    changes_of, compare_family, concatenated, flat, season_job, season_prefixes, small_tapes,
-    two_by_one, Answer, Difference, Random, Tape,
+    changes_of, concatenated, flat, season_job, season_prefixes, small_tapes, two_by_one, Answer,
+    Difference, Random, Tape,
 };
 
 use super::{compare as compare_season, family};
 use crate::child::Program;
-use crate::compare::due_answer;
+use crate::compare::compare_prefixes;
 use crate::tapes::{full_tape, largest, slackest_tape};
 
 /// Compares seasons of all these kinds.
@@ -17,17 +17,9 @@ pub fn compare(program: &Program, step: usize) -> Result<(), Difference> {
     family(program, "jobs of the most pixels", of_the_most_pixels())?.met(&every, &[])?;
     let numbers = [1, 2, 3, 8, 10, 12, 13, 14, 16];
     family(program, "a damaged job among others", damages(step))?.met(&[], &numbers)?;
-    compare_prefixes(program, step)?;
+    compare_prefixes(prefixes(step), |input| compare_season(program, input))?
+        .met(&["no jobs"], &[13, 18])?;
     family(program, "changed bytes", changes(step))?.met(&[], &[8, 10, 12, 14])
-}
-
-/// Compares prefixes of seasons, and sees to it that what both answer is what is due (request F-6).
-fn compare_prefixes(program: &Program, step: usize) -> Result<(), Difference> {
-    compare_family("every prefix", prefixes(step), |(season, due)| {
-        let input = season.clone().into();
-        due_answer(compare_season(program, &input)?, due, &input)
-    })?
-    .met(&["no jobs"], &[13, 18])
 }
 
 fn seasons(step: usize) -> impl Iterator<Item = Vec<u8>> {

@@ -289,7 +289,7 @@ fn read_square(spoil: impl Fn(&mut Vec<u8>)) -> Result<(), Refusal> {
 #[test]
 fn faults_of_one_record() {
     assert_eq!(read_square(|_| ()), Ok(()));
-    // Kinds come before the end of the input, and that before the terms.
+    // Kinds come before a cut record, and that before the terms.
     assert_eq!(read_square(|tape| *tape = vec![6]), Err(refusal(12, 0)));
     assert_eq!(read_square(|tape| *tape = vec![2]), Err(refusal(14, 0)));
     assert_eq!(

@@ -52,8 +52,9 @@ unsafe extern "C" {
 ///
 /// # Errors
 ///
-/// Refused at the first faulty record: that it is missing, its kind, its end, its terms, and at
-/// the first record the buffers' lengths; then a byte after the end; then a flow number.
+/// Refused at the first faulty record: where it is missing, for its kind, where it is cut, for its
+/// terms, and at the first record for the buffers' lengths; then for a byte after the end; then for
+/// a flow number.
 ///
 /// [`read_samples_len`]: crate::read_samples_len
 /// [`read_flow_len`]: crate::read_flow_len
