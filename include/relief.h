@@ -327,14 +327,14 @@ uint32_t relief_run(
  *
  * Lengths before the tape is read: RELIEF_READ_SAMPLES(tape_len) and RELIEF_READ_FLOW(tape_len). A
  * tape that is refused in these with 16 is accepted in none: it names a size with more samples than
- * its bytes can hold, as a tape does that ends among its samples. To be told 13 or 18 of such a one,
- * lend buffers for the size in its bytes 1 to 4, or of RELIEF_MAX_PIXELS and RELIEF_MAX_PAIRS: in
- * these no tape is refused with 16.
+ * its bytes can hold, as a tape does that ends among its samples. To be told 13 or 18 of such a
+ * tape, lend buffers for the size in its bytes 1 to 4, or of RELIEF_MAX_PIXELS and RELIEF_MAX_PAIRS:
+ * in these no tape is refused with 16.
  *
  * Refusals: at each record 18, 12, 14, 13, then its terms (1, 2, 3 or 10; place: the record's
- * offset), and 16 right after 1; then 15; then 8. The first faulty record wins. With 13 the tape was
- * cut: fetch it again. With 18 it was never finished, or was cut right behind a record: send it back,
- * unless the sender's is longer.
+ * offset), and 16 right after 1; then 15; then 8. The first faulty record wins. With 13 the tape
+ * was cut: fetch it again. With 18 it was never finished, or was cut right behind a record: send it
+ * back, unless the sender's is longer.
  */
 uint32_t relief_read(
     const uint8_t *tape, size_t tape_len,

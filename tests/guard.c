@@ -415,7 +415,8 @@ static void refused_read(void)
 {
     for (size_t length = 0; length < sizeof TAPE; length++) {
         size_t start = record_start(length);
-        uint32_t number = start == length ? RELIEF_REFUSED_TAPE_UNFINISHED : RELIEF_REFUSED_TAPE_CUT;
+        uint32_t number =
+            start == length ? RELIEF_REFUSED_TAPE_UNFINISHED : RELIEF_REFUSED_TAPE_CUT;
         char input[50];
         snprintf(input, sizeof input, "the first %zu bytes of a tape", length);
         expect_unread(taped(length, 2, 1), input, number, start);

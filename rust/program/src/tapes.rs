@@ -168,7 +168,8 @@ fn long_runs(step: usize) -> impl Iterator<Item = Vec<u8>> {
     })
 }
 
-/// Every prefix of the 2 by 1 job's tape with a flow, and of small tapes, with the answer that is due.
+/// Every prefix of the 2 by 1 job's tape with a flow, and of small tapes, with the answer that is
+/// due.
 fn prefixes(step: usize) -> impl Iterator<Item = (Vec<u8>, Answer<()>)> {
     let first = Tape::new(&two_by_one(), &[-256]);
     let others = small_tapes(12).flat_map(|(_, tape)| tape.prefixes());

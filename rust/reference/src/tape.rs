@@ -180,7 +180,8 @@ impl Contents {
 
     /// Reads the job at the front of `tape` and gives the number of its bytes.
     ///
-    /// After refusal 13 or 18 it goes on with a tape that begins with this one, if it is called again.
+    /// After refusal 13 or 18 it goes on with a tape that begins with this one, if it is called
+    /// again.
     pub(crate) fn read(
         &mut self,
         tape: &[u8],
