@@ -30,8 +30,8 @@ use Rattle.certificate.proofs.Rounding.{nearest-eighth-rounding}
 use Rattle.certificate.proofs.Steady.{step-feasible, steady-ends, moved-bound, settled-bound, settles}
 
 -- the grid is a sound pair system
-pub grid-sound : (t : Terms) (samples : List ℕ) → t .low ≤ t .high → Sound (grid t samples)
-grid-sound t samples box =
+pub grid-sound : (t : Terms) (samples : List ℕ) (weights : List ℤ) → t .low ≤ t .high → Sound (grid t samples weights)
+grid-sound t samples weights box =
     record {
       box = ends-ordered box;
       first-in = λ j l. first-inside (t .width) (t .height) _ (neighbours (t .width) (t .height) j _ l);
@@ -39,36 +39,36 @@ grid-sound t samples box =
     }
 
 -- a buffer that holds a flow's image, and the figures of that flow
-held : (t : Terms) (samples : List ℕ) → t .low ≤ t .high → (flow : List ℤ) (o : Outcome) (moved : ℕ) {values : List ℤ} {a : Answer} →
-    values ≡ imageOf t samples flow → a ≡ figuresOf o moved t samples flow →
-    Figures (grid t samples) (at flow) (at values) (a .price) (a .floor) (a .slack)
+held : (t : Terms) (samples : List ℕ) (weights : List ℤ) → t .low ≤ t .high → (flow : List ℤ) (o : Outcome) (moved : ℕ) {values : List ℤ} {a : Answer} →
+    values ≡ imageOf t samples flow → a ≡ figuresOf o moved t samples weights flow →
+    Figures (grid t samples weights) (at flow) (at values) (a .price) (a .floor) (a .slack)
 unfolding figuresOf
-held t samples box flow o moved e g =
-    let images = held-image t samples flow e in
+held t samples weights box flow o moved e g =
+    let images = held-image t samples weights flow e in
     record {
       images = images;
-      prices = ap (λ (x : Answer). x .price) g ∙ sym (price-cong (grid t samples) (grid-sound t samples box) images);
+      prices = ap (λ (x : Answer). x .price) g ∙ sym (price-cong (grid t samples weights) (grid-sound t samples weights box) images);
       floors = ap (λ (x : Answer). x .floor) g;
       slacks = ap (λ (x : Answer). x .slack) g;
     }
 
 -- Check, of the flow that it was lent, whatever flow that is, and of the image that it leaves
-pub check-demand : (t : Terms) (samples : List ℕ) (flow former : List ℤ) {values : List ℤ} {a : Answer} →
-    a ≡ checkAnswer t samples flow former → values ≡ checkImage t samples flow former → a .number ≡ 0 → CheckDemand t samples flow values a
-check-demand t samples flow former {values} {a} e g none =
-    let allowed : CheckAllowed t samples flow former = told e (check-number t samples flow former) .0 none in
-    let yes = check-accepted t samples flow former .1 allowed in
+pub check-demand : (t : Terms) (samples : List ℕ) (weights : List ℤ) (flow former : List ℤ) {values : List ℤ} {a : Answer} →
+    a ≡ checkAnswer t samples weights flow former → values ≡ checkImage t samples weights flow former → a .number ≡ 0 → CheckDemand t samples weights flow values a
+check-demand t samples weights flow former {values} {a} e g none =
+    let allowed : CheckAllowed t samples weights flow former = told e (check-number t samples weights flow former) .0 none in
+    let yes = check-accepted t samples weights flow former .1 allowed in
     let box = allowed .terms .box in
-    certificate (grid t samples) (grid-sound t samples box) flow values a (check-feasible t samples flow former allowed)
-    (held t samples box flow checked 0 (g ∙ check-image t samples flow former yes) (e ∙ check-answer t samples flow former yes))
+    certificate (grid t samples weights) (grid-sound t samples weights box) flow values a (check-feasible t samples weights flow former allowed)
+    (held t samples weights box flow checked 0 (g ∙ check-image t samples weights flow former yes) (e ∙ check-answer t samples weights flow former yes))
 
 -- Two accepted checks of one job, the same terms and samples, whatever the two flows are: request F-5, to be cited
-pub two-checks : (t : Terms) (samples : List ℕ) (f g formerX formerY : List ℤ) →
-    checkAnswer t samples f formerX .number ≡ 0 → checkAnswer t samples g formerY .number ≡ 0 →
-    TwoFlows (grid t samples) f g (checkImage t samples f formerX) (checkImage t samples g formerY) (checkAnswer t samples f formerX)
-    (checkAnswer t samples g formerY)
-two-checks t samples f g formerX formerY accepted also =
-    two-flows (grid t samples) (check-demand t samples f formerX refl refl accepted) (check-demand t samples g formerY refl refl also)
+pub two-checks : (t : Terms) (samples : List ℕ) (weights : List ℤ) (f g formerX formerY : List ℤ) →
+    checkAnswer t samples weights f formerX .number ≡ 0 → checkAnswer t samples weights g formerY .number ≡ 0 →
+    TwoFlows (grid t samples weights) f g (checkImage t samples weights f formerX) (checkImage t samples weights g formerY) (checkAnswer t samples weights f formerX)
+    (checkAnswer t samples weights g formerY)
+two-checks t samples weights f g formerX formerY accepted also =
+    two-flows (grid t samples weights) (check-demand t samples weights f formerX refl refl accepted) (check-demand t samples weights g formerY refl refl also)
 
 -- the flow that quick rounds leave is P, never R: its numbers are within the weights
 pub quick-feasible : (share : ℤ → ℤ) (p : Problem) (k : ℕ) → Feasible p (at (quickRounds share p k .iterate))
@@ -84,34 +84,34 @@ constant zero w = ap pos (omega arith)
 constant (suc m) w = ap (λ (s : ℤ). s +ℤ pos w) (constant m w) ∙ ap pos (omega arith)
 
 -- a run ends with a flow within the weights
-pub ending-flow : (t : Terms) (r : Rounds) (samples : List ℕ) → t .low ≤ t .high →
-    (length (ending t r samples .flow) ≡ pairCount (grid t samples)) × Feasible (grid t samples) (at (ending t r samples .flow))
+pub ending-flow : (t : Terms) (r : Rounds) (samples : List ℕ) (weights : List ℤ) → t .low ≤ t .high →
+    (length (ending t r samples weights .flow) ≡ pairCount (grid t samples weights)) × Feasible (grid t samples weights) (at (ending t r samples weights .flow))
 unfolding ending quickFlow
-ending-flow t r samples box =
-    let p : Problem = grid t samples in
+ending-flow t r samples weights box =
+    let p : Problem = grid t samples weights in
     let e =
-    steady-ends nearestEighth p (grid-sound t samples box) 4 2 4 nearest-eighth-rounding (λ i _. degree-at-most-4 t samples i) (r .allowance)
+    steady-ends nearestEighth p (grid-sound t samples weights box) 4 2 4 nearest-eighth-rounding (λ i _. degree-at-most-4 t samples weights i) (r .allowance)
     (quickRounds eighth p (r .quick) .iterate) (iterate-size eighth p (r .quick)) (quick-feasible eighth p (r .quick))
     in
     (e .size, e .feasible)
 
 -- the bounds of a run's rounds, whatever the scan and the terms
-run-bounds : (t : Terms) (r : Rounds) (samples : List ℕ) → t .low ≤ t .high →
-    (pos (2 * ending t r samples .moved) ≤ℤ slack (grid t samples) (at (quickFlow t r samples)))
-    × (slack (grid t samples) (at (quickFlow t r samples)) <ℤ pos (2 * (r .allowance + 1)) → ending t r samples .settled ≡ true)
-    × (ending t r samples .settled ≡ true → slack (grid t samples) (at (ending t r samples .flow)) ≤ℤ pos (16 * (t .weight * pairsOf t)))
+run-bounds : (t : Terms) (r : Rounds) (samples : List ℕ) (weights : List ℤ) → t .low ≤ t .high →
+    (pos (2 * ending t r samples weights .moved) ≤ℤ slack (grid t samples weights) (at (quickFlow t r samples weights)))
+    × (slack (grid t samples weights) (at (quickFlow t r samples weights)) <ℤ pos (2 * (r .allowance + 1)) → ending t r samples weights .settled ≡ true)
+    × (ending t r samples weights .settled ≡ true → slack (grid t samples weights) (at (ending t r samples weights .flow)) ≤ℤ pos (16 * (t .weight * pairsOf t)))
 unfolding ending quickFlow
-run-bounds t r samples box =
-    let p : Problem = grid t samples in
-    let sound : Sound p = grid-sound t samples box in
+run-bounds t r samples weights box =
+    let p : Problem = grid t samples weights in
+    let sound : Sound p = grid-sound t samples weights box in
     let start : List ℤ = quickRounds eighth p (r .quick) .iterate in
     let size = iterate-size eighth p (r .quick) in
     let within = quick-feasible eighth p (r .quick) in
-    let degrees : (i : ℕ) → i < p .pixels → degree p i ≤ 4 = λ i _. degree-at-most-4 t samples i in (
+    let degrees : (i : ℕ) → i < p .pixels → degree p i ≤ 4 = λ i _. degree-at-most-4 t samples weights i in (
       moved-bound nearestEighth p sound 4 2 4 nearest-eighth-rounding degrees (r .allowance) start size within,
       settles nearestEighth p sound 4 2 4 nearest-eighth-rounding degrees (r .allowance) start size within,
       λ e.
-          subst (λ (s : ℤ). slack p (at (ending t r samples .flow)) ≤ℤ (pos 16 *ℤ s)) (constant (pairCount p) (t .weight))
+          subst (λ (s : ℤ). slack p (at (ending t r samples weights .flow)) ≤ℤ (pos 16 *ℤ s)) (constant (pairCount p) (t .weight))
           (settled-bound nearestEighth p sound 4 2 4 nearest-eighth-rounding degrees (r .allowance) start size within e),
     )
 
@@ -121,28 +121,28 @@ told-settled true e = refl
 told-settled false e = cc
 
 -- Run, of the flow and the image that it leaves
-pub run-demand : (t : Terms) (r : Rounds) (samples : List ℕ) (former formerImage work : List ℤ) {flow values : List ℤ} {a : Answer} →
-    a ≡ runAnswer t r samples former formerImage work → flow ≡ runFlow t r samples former formerImage work →
-    values ≡ runImage t r samples former formerImage work → a .number ≡ 0 → RunDemand t r samples flow values a
+pub run-demand : (t : Terms) (r : Rounds) (samples : List ℕ) (weights : List ℤ) (former formerImage work : List ℤ) {flow values : List ℤ} {a : Answer} →
+    a ≡ runAnswer t r samples weights former formerImage work → flow ≡ runFlow t r samples weights former formerImage work →
+    values ≡ runImage t r samples weights former formerImage work → a .number ≡ 0 → RunDemand t r samples weights flow values a
 unfolding figuresOf
-run-demand t r samples former formerImage work {flow} {values} {a} e f g none =
-    let allowed : RunAllowed t r samples former formerImage work = told e (run-number t r samples former formerImage work) .0 none in
-    let yes = run-accepted t r samples former formerImage work .1 allowed in
+run-demand t r samples weights former formerImage work {flow} {values} {a} e f g none =
+    let allowed : RunAllowed t r samples weights former formerImage work = told e (run-number t r samples weights former formerImage work) .0 none in
+    let yes = run-accepted t r samples weights former formerImage work .1 allowed in
     let box = allowed .terms .box in
-    let p : Problem = grid t samples in
-    let left : flow ≡ ending t r samples .flow = f ∙ run-flow t r samples former formerImage work yes in
-    let given : a ≡ runFigures t r samples = e ∙ run-answer t r samples former formerImage work yes in
-    let outcome : a .outcome ≡ cond (ending t r samples .settled) settled spent = ap (λ (x : Answer). x .outcome) given in
+    let p : Problem = grid t samples weights in
+    let left : flow ≡ ending t r samples weights .flow = f ∙ run-flow t r samples weights former formerImage work yes in
+    let given : a ≡ runFigures t r samples weights = e ∙ run-answer t r samples weights former formerImage work yes in
+    let outcome : a .outcome ≡ cond (ending t r samples weights .settled) settled spent = ap (λ (x : Answer). x .outcome) given in
     record {
       certificate =
-          certificate p (grid-sound t samples box) flow values a
-          (subst (λ (z : List ℤ). Feasible p (at z)) (sym left) (ending-flow t r samples box .1))
-          (held t samples box flow _ _ (g ∙ run-image t r samples former formerImage work yes ∙ ap (imageOf t samples) (sym left))
-          (given ∙ ap (figuresOf (cond (ending t r samples .settled) settled spent) (ending t r samples .moved) t samples) (sym left)));
-      moved = rw (ap (λ (x : Answer). x .moved) given) (run-bounds t r samples box .0);
-      settles = λ h. outcome ∙ ap (λ (b : Bool). cond b settled spent) (run-bounds t r samples box .1 h);
+          certificate p (grid-sound t samples weights box) flow values a
+          (subst (λ (z : List ℤ). Feasible p (at z)) (sym left) (ending-flow t r samples weights box .1))
+          (held t samples weights box flow _ _ (g ∙ run-image t r samples weights former formerImage work yes ∙ ap (imageOf t samples) (sym left))
+          (given ∙ ap (figuresOf (cond (ending t r samples weights .settled) settled spent) (ending t r samples weights .moved) t samples weights) (sym left)));
+      moved = rw (ap (λ (x : Answer). x .moved) given) (run-bounds t r samples weights box .0);
+      settles = λ h. outcome ∙ ap (λ (b : Bool). cond b settled spent) (run-bounds t r samples weights box .1 h);
       settled =
           λ h.
           subst (λ (s : ℤ). s ≤ℤ pos (16 * (t .weight * pairsOf t))) (sym (ap (λ (x : Answer). x .slack) given))
-          (run-bounds t r samples box .2 (told-settled (ending t r samples .settled) (sym outcome ∙ h)));
+          (run-bounds t r samples weights box .2 (told-settled (ending t r samples weights .settled) (sym outcome ∙ h)));
     }

@@ -55,16 +55,16 @@ pub record Certificate (p : Problem) (flow image : List ℤ) (a : Answer) : Type
 
 -- Demand 3 for check: the certificate of the flow that it was lent and of the image that it leaves (SPECIFICATION 8.4)
 abbrev pub CheckDemand : Terms → List ℕ → List ℤ → List ℤ → Answer → Type 0
-CheckDemand t samples flow image a = Certificate (grid t samples) flow image a
+CheckDemand t samples weights flow image a = Certificate (grid t samples weights) flow image a
 
 -- Demand 3 for run: the certificate of the flow and the image that it leaves; 2 × moved is at most the slack of the flow
 -- that the quick rounds leave; a run settles whenever 2 × (allowance + 1) exceeds that slack; and a settled run's slack is
 -- at most 16 × weight × pairs (SPECIFICATION 8.7, 8.8)
-pub record RunDemand (t : Terms) (r : Rounds) (samples : List ℕ) (flow image : List ℤ) (a : Answer) : Type 0 where
-  pub certificate : Certificate (grid t samples) flow image a
-  pub moved : pos (2 * a .moved) ≤ℤ Model.slack (grid t samples) (at (quickFlow t r samples))
+pub record RunDemand (t : Terms) (r : Rounds) (samples : List ℕ) (weights : List ℤ) (flow image : List ℤ) (a : Answer) : Type 0 where
+  pub certificate : Certificate (grid t samples weights) flow image a
+  pub moved : pos (2 * a .moved) ≤ℤ Model.slack (grid t samples weights) (at (quickFlow t r samples weights))
   pub settles :
-      Model.slack (grid t samples) (at (quickFlow t r samples)) <ℤ pos (2 * (r .allowance + 1)) →
+      Model.slack (grid t samples weights) (at (quickFlow t r samples weights)) <ℤ pos (2 * (r .allowance + 1)) →
       a .outcome ≡ Calls.settled
   pub settled : a .outcome ≡ Calls.settled → a .slack ≤ℤ pos (16 * (t .weight * pairsOf t))
 

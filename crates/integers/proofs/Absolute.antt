@@ -54,6 +54,10 @@ pub bounds→natAbs : (x : ℤ) {k : ℕ} → negℤ (pos k) ≤ℤ x → x ≤�
 bounds→natAbs (pos n) h l = omega whole
 bounds→natAbs (negsuc n) h l = omega (whole, of-≤ h (search parts depth 12))
 
+-- a number from 0 to k
+pub natAbs-upto : {x : ℤ} {k : ℕ} → pos 0 ≤ℤ x → x ≤ℤ pos k → natAbs x ≤ k
+natAbs-upto {x} n u = bounds→natAbs x (by-≤ (search parts depth 12) (omega (whole, of-≤ n (search parts depth 12)))) u
+
 pub natAbs-sum : (x y : ℤ) → natAbs (x +ℤ y) ≤ natAbs x + natAbs y
 natAbs-sum x y =
     bounds→natAbs (x +ℤ y)

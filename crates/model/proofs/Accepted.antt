@@ -6,24 +6,32 @@ use mathlib.Core.List.{List}
 use mathlib.Core.Logic.{_↔_, _⊎_, inl, inr, ⊎-elim}
 use Prim.Native.Nat.{ℕ, _*_, _≤_, _<_}
 use native.Mathlib.Omega.{arith}
-use borrow.Author.Tests.{not-false, leb-true, eqb-true, ltb-false, ltb-true, le-leb, eq-eqb, le-ltb}
+use borrow.Author.Tests.{not-true, not-false, leb-true, eqb-true, ltb-false, ltb-true, le-leb, eq-eqb, le-ltb}
 use lib.Dec.{eqb, ltb}
-use lib.IntN.{ℤ, natAbs}
+use lib.IntN.{ℤ, pos, natAbs}
 use lib.ListN.{length}
 use lib.Signed.{ltZ, _≤ℤ_}
 use Rattle.integers.proofs.Order.{ltZ-false, false-ltZ}
+use Rattle.integers.proofs.Absolute.{natAbs→upper, natAbs-upto}
 use Rattle.model.specs.Lists.{at, firstWhere}
 use Rattle.model.specs.Problem.{Feasible, InBox}
-use Rattle.model.specs.Grid.{Terms, sizeAllowed, weightAllowed, boxAllowed, lowEnd, highEnd, grid}
+use Rattle.model.specs.Grid.{Terms, sizeAllowed, weightAllowed, pairWeightAllowed, weightOf, boxAllowed, lowEnd, highEnd, grid}
 use Rattle.model.specs.Verdict.{Verdict, Accept, Refuse, Row, firstRefusal, decided}
-use Rattle.model.specs.Calls.{Rounds, Answer, refusal, pixelsOf, pairsOf, sizeRow, weightRow, boxRow, roundsRow, lengthRow, flowRow, imageRow, firstBeyond, firstOutside, figuresOf, checkVerdict, checkAnswer, priceVerdict, priceAnswer, runVerdict, runAnswer}
+use Rattle.model.specs.Calls.{Rounds, Answer, refusal, pixelsOf, pairsOf, sizeRow, weightRow, boxRow, roundsRow, lengthRow, optionalRow, pairWeightsRow, flowRow, imageRow, firstOver, firstBeyond, firstOutside, figuresOf, checkVerdict, checkAnswer, priceVerdict, priceAnswer, runVerdict, runAnswer}
 use Rattle.model.specs.Tape.{tapeOf, writeRows}
-use Rattle.model.specs.Accepted.{TermsAllowed, CheckAllowed, PriceAllowed, RunAllowed, WriteAllowed}
+use Rattle.model.specs.Accepted.{TermsAllowed, WeightsAllowed, CheckAllowed, PriceAllowed, RunAllowed, WriteAllowed}
 use Rattle.model.proofs.Lists.{firstWhere-first}
 use Rattle.model.proofs.Refusals.{accepted, passed, accepted-rows, Numbered, refused-number}
-use Rattle.model.proofs.Bounds.{SizeLimits, size-limits}
+use Rattle.model.proofs.Bounds.{SizeLimits, size-limits, both-true}
 
 -- ---- the rows
+
+pub weight-allowed : (weight : ℕ) → (weightAllowed weight ≡ true) ↔ (weight ≤ 65280)
+unfolding weightAllowed
+weight-allowed weight = (leb-true weight 65280, le-leb weight 65280)
+
+pub weight-passes : (weight place : ℕ) → (weightRow weight place .applies ≡ false) ↔ (weight ≤ 65280)
+weight-passes weight place = (λ h. weight-allowed weight .0 (not-false _ h), λ k. ap not (weight-allowed weight .1 k))
 
 module _ (t : Terms) (place : ℕ) where
   pub size-passes : (sizeRow t place .applies ≡ false) ↔ SizeLimits (t .width) (t .height)
@@ -37,17 +45,13 @@ module _ (t : Terms) (place : ℕ) where
           (ap₂ _&&_ (le-leb 1 (t .height) (z .height-least)) (le-leb (t .height) 4096 (z .height-most))))
           (le-leb (t .width * t .height) 1048576 (z .pixels-most))
 
-  pub weight-passes : (weightRow t place .applies ≡ false) ↔ (t .weight ≤ 65280)
-  unfolding weightAllowed
-  weight-passes = (λ h. leb-true (t .weight) 65280 (not-false _ h), λ k. ap not (le-leb (t .weight) 65280 k))
-
   pub box-passes : (boxRow t place .applies ≡ false) ↔ (t .low ≤ t .high)
   unfolding boxAllowed
   box-passes = (λ h. leb-true (t .low) (t .high) (not-false _ h), λ k. ap not (le-leb (t .low) (t .high) k))
 
   -- the three rows of the terms
   pub terms-pass :
-      ((sizeRow t place .applies ≡ false) × (weightRow t place .applies ≡ false) × (boxRow t place .applies ≡ false)) ↔ TermsAllowed t
+      ((sizeRow t place .applies ≡ false) × (weightRow (t .weight) place .applies ≡ false) × (boxRow t place .applies ≡ false)) ↔ TermsAllowed t
   terms-pass = (
     λ n.
         let z = size-passes .0 (n .0) in
@@ -57,7 +61,7 @@ module _ (t : Terms) (place : ℕ) where
           height-least = z .height-least;
           height-most = z .height-most;
           pixels-most = z .pixels-most;
-          weight-most = weight-passes .0 (n .1);
+          weight-most = weight-passes (t .weight) place .0 (n .1);
           box = box-passes .0 (n .2);
         },
     λ a. (
@@ -69,7 +73,7 @@ module _ (t : Terms) (place : ℕ) where
             height-most = a .height-most;
             pixels-most = a .pixels-most;
           }),
-      weight-passes .1 (a .weight-most),
+      weight-passes (t .weight) place .1 (a .weight-most),
       box-passes .1 (a .box),
     ),
   )
@@ -82,9 +86,9 @@ pub length-passes : {A : Type 0} (number : ℕ) (buffer : List A) (due : ℕ) �
 length-passes number buffer due =
     (λ h. eqb-true (length buffer) due (not-false _ h), λ e. ap not (eq-eqb (length buffer) due e))
 
--- a length that is 0, which is none, or all pairs
-pub listed-passes : (n pairs : ℕ) → ((not (eqb n 0) && not (eqb n pairs)) ≡ false) ↔ ((n ≡ 0) ⊎ (n ≡ pairs))
-listed-passes n pairs = (
+-- 0, or the number that is due
+listed : (n pairs : ℕ) → ((not (eqb n 0) && not (eqb n pairs)) ≡ false) ↔ ((n ≡ 0) ⊎ (n ≡ pairs))
+listed n pairs = (
   λ h. either (eqb n 0) (eqb n pairs) refl refl h,
   ⊎-elim (λ (z : n ≡ 0). ap (λ (b : Bool). not b && not (eqb n pairs)) (eq-eqb n 0 z))
       (λ (g : n ≡ pairs). ap (λ (b : Bool). not (eqb n 0) && not b) (eq-eqb n pairs g) ∙ and-false (not (eqb n 0))),
@@ -94,6 +98,11 @@ listed-passes n pairs = (
     either true b e g k = inl (eqb-true n 0 e)
     either false true e g k = inr (eqb-true n pairs g)
     either false false e g k = absurd (true≢false k)
+
+-- a length that is 0, which is none, or the one that is due
+pub optional-passes : {A : Type 0} (number : ℕ) (buffer : List A) (due : ℕ) →
+    (optionalRow number buffer due .applies ≡ false) ↔ ((length buffer ≡ 0) ⊎ (length buffer ≡ due))
+optional-passes number buffer due = listed (length buffer) due
 
 -- a search finds nothing exactly when the test holds nowhere
 none-found : (n : ℕ) (test : ℕ → Bool) → (ltb (firstWhere n test) n ≡ false) ↔ ((i : ℕ) → i < n → test i ≡ false)
@@ -109,13 +118,39 @@ none-found n test =
         absurd (true≢false (sym (firstWhere-first n test .found l) ∙ none (firstWhere n test) l))
     go none false h = refl
 
-pub flow-passes : (weight : ℕ) (flow : List ℤ) →
-    (flowRow weight flow .applies ≡ false) ↔ ((j : ℕ) → j < length flow → natAbs (at flow j) ≤ weight)
+pub flow-passes : (weight : ℕ → ℕ) (flow : List ℤ) →
+    (flowRow weight flow .applies ≡ false) ↔ ((j : ℕ) → j < length flow → natAbs (at flow j) ≤ weight j)
 unfolding firstBeyond
 flow-passes weight flow =
-    let none = none-found (length flow) (λ j. ltb weight (natAbs (at flow j))) in (
-      λ h j l. ltb-false weight (natAbs (at flow j)) (none .0 h j l),
-      λ k. none .1 (λ j l. le-ltb weight (natAbs (at flow j)) (k j l)),
+    let none = none-found (length flow) (λ j. ltb (weight j) (natAbs (at flow j))) in (
+      λ h j l. ltb-false (weight j) (natAbs (at flow j)) (none .0 h j l),
+      λ k. none .1 (λ j l. le-ltb (weight j) (natAbs (at flow j)) (k j l)),
+    )
+
+-- a number of a weight buffer
+pub pair-weight-allowed : (z : ℤ) → (pairWeightAllowed z ≡ true) ↔ ((pos 0 ≤ℤ z) × (z ≤ℤ pos 65280))
+unfolding pairWeightAllowed
+pair-weight-allowed z = (
+  λ h.
+      let b = both-true (not (ltZ z (pos 0))) (weightAllowed (natAbs z)) h in
+      (ltZ-false (not-true _ (b .0)), natAbs→upper z (weight-allowed (natAbs z) .0 (b .1))),
+  λ k. ap₂ _&&_ (ap not (false-ltZ (k .0))) (weight-allowed (natAbs z) .1 (natAbs-upto (k .0) (k .1))),
+)
+
+pub weights-pass : (t : Terms) (weights : List ℤ) →
+    ((optionalRow 19 weights (pairsOf t) .applies ≡ false) × (pairWeightsRow weights .applies ≡ false)) ↔ WeightsAllowed t weights
+unfolding firstOver
+weights-pass t weights =
+    let none = none-found (length weights) (λ j. not (pairWeightAllowed (at weights j))) in (
+      λ h.
+          record {
+            count = optional-passes 19 weights (pairsOf t) .0 (h .0);
+            range = λ j l. pair-weight-allowed (at weights j) .0 (not-false _ (none .0 (h .1) j l));
+          },
+      λ w. (
+        optional-passes 19 weights (pairsOf t) .1 (w .count),
+        none .1 (λ j l. ap not (pair-weight-allowed (at weights j) .1 (w .range j l))),
+      ),
     )
 
 -- neither of two tests holds
@@ -161,8 +196,8 @@ number-allowed rows numbered a zero {A} asked = go (firstRefusal rows) refl
         )
 
 -- Check: allowed terms and lengths, and no value of the flow exceeds the weight in size
-module _ (t : Terms) (samples : List ℕ) (flow values : List ℤ) where
-  pub check-accepted : (checkVerdict t samples flow values ≡ Accept) ↔ CheckAllowed t samples flow values
+module _ (t : Terms) (samples : List ℕ) (weights flow values : List ℤ) where
+  pub check-accepted : (checkVerdict t samples weights flow values ≡ Accept) ↔ CheckAllowed t samples weights flow values
   unfolding checkVerdict
   check-accepted = (
     λ h.
@@ -171,32 +206,36 @@ module _ (t : Terms) (samples : List ℕ) (flow values : List ℤ) where
           terms = terms-pass t 0 .0 (n .0, n .1 .0, n .1 .1 .0);
           samples-length = length-passes 4 samples (pixelsOf t) .0 (n .1 .1 .1 .0);
           flow-length = length-passes 5 flow (pairsOf t) .0 (n .1 .1 .1 .1 .0);
-          image-length = length-passes 6 values (pixelsOf t) .0 (n .1 .1 .1 .1 .1 .0);
-          contents = flow-passes (t .weight) flow .0 (n .1 .1 .1 .1 .1 .1 .0);
+          pair-weights = weights-pass t weights .0 (n .1 .1 .1 .1 .1 .0, n .1 .1 .1 .1 .1 .1 .1 .0);
+          image-length = length-passes 6 values (pixelsOf t) .0 (n .1 .1 .1 .1 .1 .1 .0);
+          contents = flow-passes (weightOf t weights) flow .0 (n .1 .1 .1 .1 .1 .1 .1 .1 .0);
         },
     λ k.
         let a = terms-pass t 0 .1 (k .terms) in
+        let w = weights-pass t weights .1 (k .pair-weights) in
         passed _ _ (a .0)
         ∙ passed _ _ (a .1)
         ∙ passed _ _ (a .2)
         ∙ passed _ _ (length-passes 4 samples (pixelsOf t) .1 (k .samples-length))
         ∙ passed _ _ (length-passes 5 flow (pairsOf t) .1 (k .flow-length))
+        ∙ passed _ _ (w .0)
         ∙ passed _ _ (length-passes 6 values (pixelsOf t) .1 (k .image-length))
-        ∙ passed _ _ (flow-passes (t .weight) flow .1 (k .contents))
+        ∙ passed _ _ (w .1)
+        ∙ passed _ _ (flow-passes (weightOf t weights) flow .1 (k .contents))
         ∙ accepted,
   )
 
-  pub check-number : (checkAnswer t samples flow values .number ≡ 0) ↔ CheckAllowed t samples flow values
+  pub check-number : (checkAnswer t samples weights flow values .number ≡ 0) ↔ CheckAllowed t samples weights flow values
   unfolding checkAnswer checkVerdict figuresOf
   check-number = number-allowed _ (omega arith) _ refl check-accepted
 
   -- the flow, said of the job's grid
-  pub check-feasible : CheckAllowed t samples flow values → Feasible (grid t samples) (at flow)
+  pub check-feasible : CheckAllowed t samples weights flow values → Feasible (grid t samples weights) (at flow)
   check-feasible a j l = a .contents j (rw (a .flow-length) l)
 
 -- Price: allowed terms and lengths, and every value of the image lies within the box
-module _ (t : Terms) (samples : List ℕ) (values : List ℤ) where
-  pub price-accepted : (priceVerdict t samples values ≡ Accept) ↔ PriceAllowed t samples values
+module _ (t : Terms) (samples : List ℕ) (weights values : List ℤ) where
+  pub price-accepted : (priceVerdict t samples weights values ≡ Accept) ↔ PriceAllowed t samples weights values
   unfolding priceVerdict
   price-accepted = (
     λ h.
@@ -204,31 +243,35 @@ module _ (t : Terms) (samples : List ℕ) (values : List ℤ) where
         record {
           terms = terms-pass t 0 .0 (n .0, n .1 .0, n .1 .1 .0);
           samples-length = length-passes 4 samples (pixelsOf t) .0 (n .1 .1 .1 .0);
-          image-length = length-passes 6 values (pixelsOf t) .0 (n .1 .1 .1 .1 .0);
-          contents = image-passes t values .0 (n .1 .1 .1 .1 .1 .0);
+          pair-weights = weights-pass t weights .0 (n .1 .1 .1 .1 .0, n .1 .1 .1 .1 .1 .1 .0);
+          image-length = length-passes 6 values (pixelsOf t) .0 (n .1 .1 .1 .1 .1 .0);
+          contents = image-passes t values .0 (n .1 .1 .1 .1 .1 .1 .1 .0);
         },
     λ k.
         let a = terms-pass t 0 .1 (k .terms) in
+        let w = weights-pass t weights .1 (k .pair-weights) in
         passed _ _ (a .0)
         ∙ passed _ _ (a .1)
         ∙ passed _ _ (a .2)
         ∙ passed _ _ (length-passes 4 samples (pixelsOf t) .1 (k .samples-length))
+        ∙ passed _ _ (w .0)
         ∙ passed _ _ (length-passes 6 values (pixelsOf t) .1 (k .image-length))
+        ∙ passed _ _ (w .1)
         ∙ passed _ _ (image-passes t values .1 (k .contents))
         ∙ accepted,
   )
 
-  pub price-number : (priceAnswer t samples values .number ≡ 0) ↔ PriceAllowed t samples values
+  pub price-number : (priceAnswer t samples weights values .number ≡ 0) ↔ PriceAllowed t samples weights values
   unfolding priceAnswer priceVerdict
   price-number = number-allowed _ (omega arith) _ refl price-accepted
 
   -- the image, said of the job's grid
-  pub price-inside : PriceAllowed t samples values → InBox (grid t samples) (at values)
+  pub price-inside : PriceAllowed t samples weights values → InBox (grid t samples weights) (at values)
   price-inside a i l = a .contents i (rw (a .image-length) l)
 
 -- Run: allowed terms, number of quick rounds and lengths
-module _ (t : Terms) (r : Rounds) (samples : List ℕ) (flow values work : List ℤ) where
-  pub run-accepted : (runVerdict t r samples flow values work ≡ Accept) ↔ RunAllowed t r samples flow values work
+module _ (t : Terms) (r : Rounds) (samples : List ℕ) (weights flow values work : List ℤ) where
+  pub run-accepted : (runVerdict t r samples weights flow values work ≡ Accept) ↔ RunAllowed t r samples weights flow values work
   unfolding runVerdict
   run-accepted = (
     λ h.
@@ -238,29 +281,33 @@ module _ (t : Terms) (r : Rounds) (samples : List ℕ) (flow values work : List 
           quick-most = rounds-pass r 0 .0 (n .1 .1 .1 .0);
           samples-length = length-passes 4 samples (pixelsOf t) .0 (n .1 .1 .1 .1 .0);
           flow-length = length-passes 5 flow (pairsOf t) .0 (n .1 .1 .1 .1 .1 .0);
-          image-length = length-passes 6 values (pixelsOf t) .0 (n .1 .1 .1 .1 .1 .1 .0);
-          work-length = length-passes 7 work (2 * pairsOf t) .0 (n .1 .1 .1 .1 .1 .1 .1 .0);
+          pair-weights = weights-pass t weights .0 (n .1 .1 .1 .1 .1 .1 .0, n .1 .1 .1 .1 .1 .1 .1 .1 .1 .0);
+          image-length = length-passes 6 values (pixelsOf t) .0 (n .1 .1 .1 .1 .1 .1 .1 .0);
+          work-length = length-passes 7 work (2 * pairsOf t) .0 (n .1 .1 .1 .1 .1 .1 .1 .1 .0);
         },
     λ k.
         let a = terms-pass t 0 .1 (k .terms) in
+        let w = weights-pass t weights .1 (k .pair-weights) in
         passed _ _ (a .0)
         ∙ passed _ _ (a .1)
         ∙ passed _ _ (a .2)
         ∙ passed _ _ (rounds-pass r 0 .1 (k .quick-most))
         ∙ passed _ _ (length-passes 4 samples (pixelsOf t) .1 (k .samples-length))
         ∙ passed _ _ (length-passes 5 flow (pairsOf t) .1 (k .flow-length))
+        ∙ passed _ _ (w .0)
         ∙ passed _ _ (length-passes 6 values (pixelsOf t) .1 (k .image-length))
         ∙ passed _ _ (length-passes 7 work (2 * pairsOf t) .1 (k .work-length))
+        ∙ passed _ _ (w .1)
         ∙ accepted,
   )
 
-  pub run-number : (runAnswer t r samples flow values work .number ≡ 0) ↔ RunAllowed t r samples flow values work
+  pub run-number : (runAnswer t r samples weights flow values work .number ≡ 0) ↔ RunAllowed t r samples weights flow values work
   unfolding runAnswer runVerdict figuresOf
   run-number = number-allowed _ (omega arith) _ refl run-accepted
 
 -- Write: an allowed job, and an output that holds its tape
-module _ (t : Terms) (r : Rounds) (samples : List ℕ) (numbers : List ℤ) (output : List ℕ) where
-  pub write-accepted : (firstRefusal (writeRows t r samples numbers (length output)) ≡ Accept) ↔ WriteAllowed t r samples numbers output
+module _ (t : Terms) (r : Rounds) (samples : List ℕ) (weights numbers : List ℤ) (output : List ℕ) where
+  pub write-accepted : (firstRefusal (writeRows t r samples weights numbers (length output)) ≡ Accept) ↔ WriteAllowed t r samples weights numbers output
   write-accepted = (
     λ h.
         let n = accepted-rows _ h in
@@ -270,20 +317,24 @@ module _ (t : Terms) (r : Rounds) (samples : List ℕ) (numbers : List ℤ) (out
                 terms = terms-pass t 0 .0 (n .0, n .1 .0, n .1 .1 .0);
                 quick-most = rounds-pass r 0 .0 (n .1 .1 .1 .0);
                 samples-length = length-passes 4 samples (pixelsOf t) .0 (n .1 .1 .1 .1 .0);
-                flow-length = listed-passes (length numbers) (pairsOf t) .0 (n .1 .1 .1 .1 .1 .0);
-                contents = flow-passes (t .weight) numbers .0 (n .1 .1 .1 .1 .1 .1 .1 .0);
+                flow-length = optional-passes 5 numbers (pairsOf t) .0 (n .1 .1 .1 .1 .1 .0);
+                pair-weights = weights-pass t weights .0 (n .1 .1 .1 .1 .1 .1 .0, n .1 .1 .1 .1 .1 .1 .1 .1 .0);
+                contents = flow-passes (weightOf t weights) numbers .0 (n .1 .1 .1 .1 .1 .1 .1 .1 .1 .0);
               };
-          output-length = ltb-false (length output) (length (tapeOf t r samples numbers)) (n .1 .1 .1 .1 .1 .1 .0);
+          output-length = ltb-false (length output) (length (tapeOf t r samples weights numbers)) (n .1 .1 .1 .1 .1 .1 .1 .0);
         },
     λ k.
         let a = terms-pass t 0 .1 (k .job .terms) in
+        let w = weights-pass t weights .1 (k .job .pair-weights) in
         passed _ _ (a .0)
         ∙ passed _ _ (a .1)
         ∙ passed _ _ (a .2)
         ∙ passed _ _ (rounds-pass r 0 .1 (k .job .quick-most))
         ∙ passed _ _ (length-passes 4 samples (pixelsOf t) .1 (k .job .samples-length))
-        ∙ passed _ _ (listed-passes (length numbers) (pairsOf t) .1 (k .job .flow-length))
-        ∙ passed _ _ (le-ltb (length output) (length (tapeOf t r samples numbers)) (k .output-length))
-        ∙ passed _ _ (flow-passes (t .weight) numbers .1 (k .job .contents))
+        ∙ passed _ _ (optional-passes 5 numbers (pairsOf t) .1 (k .job .flow-length))
+        ∙ passed _ _ (w .0)
+        ∙ passed _ _ (le-ltb (length output) (length (tapeOf t r samples weights numbers)) (k .output-length))
+        ∙ passed _ _ (w .1)
+        ∙ passed _ _ (flow-passes (weightOf t weights) numbers .1 (k .job .contents))
         ∙ accepted,
   )

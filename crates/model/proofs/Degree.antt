@@ -7,6 +7,7 @@ use native.Mathlib.Nat.{le-trans, le-div-iff-mul-le, div-mul-le-self, add-zero, 
 use native.Mathlib.Omega.{arith}
 use borrow.Author.Tests.{eqb-true, ne-eqb}
 use lib.Dec.{eqb}
+use lib.IntN.{ℤ}
 use lib.ListN.{length, getD}
 use Rattle.model.specs.Problem.{Pair, Problem, pairCount, firstOf, secondOf}
 use Rattle.model.specs.Grid.{Terms, grid, gridPairs}
@@ -90,9 +91,9 @@ module _ (w h : ℕ) (d : Pair) (end : Pair → ℕ)
         omega arith
 
 -- Each pixel lies in at most 4 pairs
-pub degree-at-most-4 : (t : Terms) (samples : List ℕ) (i : ℕ) → degree (grid t samples) i ≤ 4
+pub degree-at-most-4 : (t : Terms) (samples : List ℕ) (weights : List ℤ) (i : ℕ) → degree (grid t samples weights) i ≤ 4
 unfolding degree
-degree-at-most-4 t samples i =
+degree-at-most-4 t samples weights i =
     let d : Pair = record { first = 0; second = 0 } in
     let a = end-at-most-twice (t .width) (t .height) d (λ p. p .first) (λ a b l. l) (λ a b l. l) i in
     let b =

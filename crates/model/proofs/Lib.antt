@@ -7,6 +7,7 @@
 --     Pairs       how many pairs there are, and which two pixels each has
 --     Degree      a pixel lies in at most 4 pairs
 --     Range       how large readings and the ends of the box are
+--     Weights     each pair's weight is its own or the terms', and within the limit; their sum without a buffer
 --     Bounds      price, floor and slack of an allowed job fit 64 bits
 --     Answers     what check, price and run give and leave, by their verdict
 --     Accepted    check, price, run and write are accepted exactly when terms, lengths and contents are allowed
@@ -18,6 +19,7 @@ pub mod Root
 pub mod Pairs
 pub mod Degree
 pub mod Range
+pub mod Weights
 pub mod Bounds
 pub mod Answers
 pub mod Accepted

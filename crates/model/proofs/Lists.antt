@@ -37,6 +37,12 @@ module _ {A : Type 0} where
       (λ (e : i ≡ n). getD-at (table n f) (f n) [] d i (length-table n f ∙ sym e) ∙ ap f (sym e))
       (last i n h)
 
+  -- inside a list the default does not matter
+  pub getD-inside : (l : List A) (i : ℕ) (d d′ : A) → i < length l → getD l i d ≡ getD l i d′
+  getD-inside [] i d d′ h = absurd (omega arith)
+  getD-inside (x ∷ l) zero d d′ h = refl
+  getD-inside (x ∷ l) (suc i) d d′ h = getD-inside l i d d′ (le-of-suc-le-suc h)
+
   -- lists of one length k in a chain
   module _ (k : ℕ) (g : ℕ → List A) (even : (r : ℕ) → length (g r) ≡ k) where
     pub length-chain : (n : ℕ) → length (chain n g) ≡ n * k

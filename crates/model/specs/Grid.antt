@@ -1,12 +1,13 @@
 -- The grid of document 01 as a problem: sizes, readings, box and pairs (docs/SPECIFICATION.md, section 1). `Terms`, declared
 -- in src/lib.rt, are the numbers of a job without its rounds: width, height, weight W, and the box's ends low and high
 -- (SPECIFICATION 1.10).
-use mathlib.Core.Bool.{Bool, _&&_}
+use mathlib.Core.Bool.{Bool, not, _&&_}
 use mathlib.Core.List.{List, _++_}
 use Prim.Native.Nat.{ℕ, _+_, _-_, _*_}
 use lib.Dec.{leb}
-use lib.IntN.{ℤ, pos}
+use lib.IntN.{ℤ, pos, natAbs}
 use lib.ListN.{getD}
+use lib.Signed.{ltZ}
 pub use Rattle.model.specs.declared.Terms.{Terms}
 use Rattle.model.specs.Lists.{table, chain}
 use Rattle.model.specs.Problem.{Pair, Problem}
@@ -15,9 +16,17 @@ use Rattle.model.specs.Problem.{Pair, Problem}
 unfoldable pub sizeAllowed : ℕ → ℕ → Bool
 sizeAllowed w h = leb 1 w && leb w 4096 && (leb 1 h && leb h 4096) && leb (w * h) 1048576
 
--- The weight W is 0 to 65,280 sub-units (SPECIFICATION 1.5)
+-- A weight is 0 to 65,280 sub-units: the terms' weight W, and the weight of each pair (SPECIFICATION 1.5)
 unfoldable pub weightAllowed : ℕ → Bool
 weightAllowed weight = leb weight 65280
+
+-- A weight buffer's number may also be below 0, which no weight is
+unfoldable pub pairWeightAllowed : ℤ → Bool
+pairWeightAllowed z = not (ltZ z (pos 0)) && weightAllowed (natAbs z)
+
+-- The weight of pair j: its own in the buffer, or, where none is lent (length 0), the terms' (SPECIFICATION 1.5)
+unfoldable pub weightOf : Terms → List ℤ → ℕ → ℕ
+weightOf t weights j = natAbs (getD weights j (pos (t .weight)))
 
 -- The box is low to high, low at most high (each is a level, 0 to 255: a byte by its type) (SPECIFICATION 1.6)
 unfoldable pub boxAllowed : ℕ → ℕ → Bool
@@ -52,14 +61,14 @@ horizontalPairs w h =
 unfoldable pub gridPairs : ℕ → ℕ → List Pair
 gridPairs w h = verticalPairs w h ++ horizontalPairs w h
 
--- The problem of a raster: one weight at every pair (SPECIFICATION 1.10)
-abbrev pub grid : Terms → List ℕ → Problem
-grid t samples =
+-- The problem of a raster: its samples, and its pairs' weights (SPECIFICATION 1.10)
+abbrev pub grid : Terms → List ℕ → List ℤ → Problem
+grid t samples weights =
     record {
       pixels = t .width * t .height;
       reading = λ i. readingOf (getD samples i 0);
       low = lowEnd (t .low);
       high = highEnd (t .high);
       pairs = gridPairs (t .width) (t .height);
-      weight = λ _. t .weight;
+      weight = weightOf t weights;
     }

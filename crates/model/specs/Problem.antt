@@ -47,6 +47,10 @@ misfit p x = total (p .pixels) (λ i. square (x i -ℤ p .reading i))
 unfoldable pub price : Problem → (ℕ → ℤ) → ℤ
 price p x = misfit p x +ℤ pos 2 *ℤ total (pairCount p) (λ j. pos (p .weight j) *ℤ abs (fall p x j))
 
+-- Sum of the weights over pairs, which bounds a settled slack (SPECIFICATION 8.8)
+unfoldable pub weightSum : Problem → ℤ
+weightSum p = total (pairCount p) (λ j. pos (p .weight j))
+
 -- A flow (the dual variable) is held to each pair's weight: from −weight to weight (SPECIFICATION 2.3)
 abbrev pub Feasible : Problem → (ℕ → ℤ) → Type 0
 Feasible p f = (j : ℕ) → j < pairCount p → natAbs (f j) ≤ p .weight j

@@ -68,24 +68,24 @@ unfoldable pub jobAnswer : Progress → Answer
 jobAnswer p =
     let t : Terms = p .terms in
     cond (eqb (length (p .flow)) 0)
-    (runAnswer t (p .rounds) (p .samples) (zeros (pairsOf t)) (zeros (pixelsOf t)) (zeros (2 * pairsOf t)))
-    (checkAnswer t (p .samples) (p .flow) (zeros (pixelsOf t)))
+    (runAnswer t (p .rounds) (p .samples) (p .weights) (zeros (pairsOf t)) (zeros (pixelsOf t)) (zeros (2 * pairsOf t)))
+    (checkAnswer t (p .samples) (p .weights) (p .flow) (zeros (pixelsOf t)))
 
 unfoldable pub jobImage : Progress → List ℤ
 jobImage p =
     let t : Terms = p .terms in
     cond (eqb (length (p .flow)) 0)
-    (runImage t (p .rounds) (p .samples) (zeros (pairsOf t)) (zeros (pixelsOf t)) (zeros (2 * pairsOf t)))
-    (checkImage t (p .samples) (p .flow) (zeros (pixelsOf t)))
+    (runImage t (p .rounds) (p .samples) (p .weights) (zeros (pairsOf t)) (zeros (pixelsOf t)) (zeros (2 * pairsOf t)))
+    (checkImage t (p .samples) (p .weights) (p .flow) (zeros (pixelsOf t)))
 
 -- the text for what was read
 abbrev pub readText : Parse → List ℕ
 readText (turned number place) = refusalText (refusal number place)
 readText (whole p) = answerText (jobAnswer p) (p .terms) (jobImage p)
 
--- The tables hold 4,096 samples and 8,064 flow values (SPECIFICATION 7.2)
+-- The tables hold 4,096 samples, 8,064 pair weights and 8,064 flow values (SPECIFICATION 7.2)
 abbrev pub tables : Bool → Lent
-tables followed = record { samples = 4096; flow = 8064; followed = followed }
+tables followed = record { samples = 4096; weights = 8064; flow = 8064; followed = followed }
 
 -- It reads one tape; 17 over 65,536 bytes (SPECIFICATION 7.1, 7.2)
 unfoldable pub programText : List ℕ → List ℕ

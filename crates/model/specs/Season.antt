@@ -30,7 +30,7 @@ firstJob lent input = elim (ltb 65536 (length input)) [
 
 -- how many bytes a job has
 unfoldable pub bytesOf : Progress → ℕ
-bytesOf p = length (tapeOf (p .terms) (p .rounds) (p .samples) (p .flow))
+bytesOf p = length (tapeOf (p .terms) (p .rounds) (p .samples) (p .weights) (p .flow))
 
 -- A job that was treated: its pixels, and the answer that the cleaning program gives. (A job that was read whole is refused
 -- by no call any more; this is proved, and promised by `job::answer_of`.)

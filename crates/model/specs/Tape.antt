@@ -3,15 +3,15 @@ use mathlib.Core.Bool.{Bool, true, false, not, _&&_, _||_, cond}
 use mathlib.Core.List.{List, [], _∷_, _++_}
 use Prim.Native.Nat.{ℕ, zero, suc, _+_, _-_, _*_, _/_, _%_, _^_}
 use lib.Dec.{eqb, leb, ltb}
-use lib.IntN.{ℤ, pos, negsuc, subℕ}
+use lib.IntN.{ℤ, pos, negsuc, subℕ, natAbs}
 use lib.ListN.{length, getD}
 pub use Rattle.model.specs.declared.Lent.{Lent}
 pub use Rattle.model.specs.declared.Entry.{Entry}
-pub use Rattle.model.specs.declared.Entry.the-variants.{End, Size, WeightBox, RoundLimits, Sample, Flow}
+pub use Rattle.model.specs.declared.Entry.the-variants.{End, Size, WeightBox, RoundLimits, Sample, Flow, PairWeight}
 use Rattle.model.specs.Lists.{chain, overwritten, at}
-use Rattle.model.specs.Grid.{Terms}
+use Rattle.model.specs.Grid.{Terms, weightOf}
 use Rattle.model.specs.Verdict.{Verdict, Accept, Refuse, Row, row, firstRefusal, left}
-use Rattle.model.specs.Calls.{Rounds, pixelsOf, pairsOf, sizeRow, weightRow, boxRow, roundsRow, lengthRow, flowRow}
+use Rattle.model.specs.Calls.{Rounds, pixelsOf, pairsOf, sizeRow, weightRow, boxRow, roundsRow, lengthRow, optionalRow, pairWeightsRow, flowRow}
 
 -- ---- Numbers in bytes, lowest byte first (SPECIFICATION 5.2)
 
@@ -42,11 +42,11 @@ fromFour b0 b1 b2 b3 = signed (b0 + 256 * (b1 + 256 * (b2 + 256 * b3)))
 -- ---- Records
 
 -- A record (`Entry`, declared in src/lib.rt) is its kind with its numbers: 0 end, 1 size, 2 weight and box, 3 rounds,
--- 4 one sample, 5 one flow number (SPECIFICATION 5.1)
+-- 4 one sample, 5 one flow number, 6 one pair's weight (SPECIFICATION 5.1)
 
--- the length of the body, for kinds 0 to 5
+-- the length of the body, for kinds 0 to 6
 abbrev pub bodyLengths : List ℕ
-bodyLengths = 0 ∷ 4 ∷ 4 ∷ 4 ∷ 1 ∷ 4 ∷ []
+bodyLengths = 0 ∷ 4 ∷ 4 ∷ 4 ∷ 1 ∷ 4 ∷ 2 ∷ []
 
 abbrev pub bodyLength : ℕ → ℕ
 bodyLength kind = getD bodyLengths kind 0
@@ -64,6 +64,7 @@ decoded kind b =
     ∷ RoundLimits (fromTwo (b 0) (b 1)) (fromTwo (b 2) (b 3))
     ∷ Sample (b 0)
     ∷ Flow (fromFour (b 0) (b 1) (b 2) (b 3))
+    ∷ PairWeight (fromTwo (b 0) (b 1))
     ∷ [])
     kind
     End
@@ -78,12 +79,14 @@ abbrev pub weighted : Terms → ℕ → ℕ → ℕ → Terms
 weighted t weight low high =
     record { width = t .width; height = t .height; weight = weight; low = low; high = high }
 
--- What has been read so far: how many of the records 1, 2, 3 (the header), their numbers, the samples, the flow numbers
+-- What has been read so far: how many of the records 1, 2, 3 (the header), their numbers, the samples, the pair weights, the
+-- flow numbers
 pub record Progress : Type 0 where
   pub header : ℕ
   pub terms : Terms
   pub rounds : Rounds
   pub samples : List ℕ
+  pub weights : List ℤ
   pub flow : List ℤ
 
 abbrev pub nothing : Progress
@@ -93,27 +96,36 @@ nothing =
       terms = sized 0 0;
       rounds = record { quick = 0; allowance = 0 };
       samples = [];
+      weights = [];
       flow = [];
     }
 
--- Order: 1, 2, 3, all samples, then all flow numbers or none, then 0. So this kind may come where `header` of the records
--- 1, 2, 3, `samples` of all `pixels` samples and `flows` of all `pairs` flow numbers have been read
-unfoldable pub allowedAfter : (header samples pixels flows pairs kind : ℕ) → Bool
-allowedAfter header samples pixels flows pairs kind =
+-- so many of something that comes for all pairs or for none, and not a part of it
+abbrev pub allOrNone : ℕ → ℕ → Bool
+allOrNone count pairs = eqb count 0 || eqb count pairs
+
+-- Order: 1, 2, 3, all samples, then all pair weights or none, then all flow numbers or none, then 0. So this kind may come
+-- where `header` of the records 1, 2, 3, `samples` of all `pixels` samples, and of all `pairs` pairs `weights` weights and
+-- `flows` flow numbers have been read
+unfoldable pub allowedAfter : (header samples pixels weights flows pairs kind : ℕ) → Bool
+allowedAfter header samples pixels weights flows pairs kind =
     let sampled : Bool = eqb header 3 && eqb samples pixels in
     getD
-    ((sampled && (eqb flows 0 || eqb flows pairs))
+    ((sampled && allOrNone weights pairs && allOrNone flows pairs)
     ∷ eqb header 0
     ∷ eqb header 1
     ∷ eqb header 2
     ∷ (eqb header 3 && ltb samples pixels)
-    ∷ (sampled && ltb flows pairs)
+    ∷ (sampled && allOrNone weights pairs && ltb flows pairs)
+    ∷ (sampled && ltb weights pairs && eqb flows 0)
     ∷ [])
     kind
     false
 
 abbrev pub allowed : Progress → ℕ → Bool
-allowed p = allowedAfter (p .header) (length (p .samples)) (pixelsOf (p .terms)) (length (p .flow)) (pairsOf (p .terms))
+allowed p =
+    allowedAfter (p .header) (length (p .samples)) (pixelsOf (p .terms)) (length (p .weights)) (length (p .flow))
+    (pairsOf (p .terms))
 
 -- what has been read once this record has been, too
 abbrev pub absorbed : Progress → Entry → Progress
@@ -124,6 +136,7 @@ absorbed p (Size w h) =
       terms = sized w h;
       rounds = p .rounds;
       samples = p .samples;
+      weights = p .weights;
       flow = p .flow;
     }
 absorbed p (WeightBox weight low high) =
@@ -132,6 +145,7 @@ absorbed p (WeightBox weight low high) =
       terms = weighted (p .terms) weight low high;
       rounds = p .rounds;
       samples = p .samples;
+      weights = p .weights;
       flow = p .flow;
     }
 absorbed p (RoundLimits q a) =
@@ -140,6 +154,7 @@ absorbed p (RoundLimits q a) =
       terms = p .terms;
       rounds = record { quick = q; allowance = a };
       samples = p .samples;
+      weights = p .weights;
       flow = p .flow;
     }
 absorbed p (Sample s) =
@@ -148,6 +163,7 @@ absorbed p (Sample s) =
       terms = p .terms;
       rounds = p .rounds;
       samples = p .samples ++ (s ∷ []);
+      weights = p .weights;
       flow = p .flow;
     }
 absorbed p (Flow f) =
@@ -156,7 +172,17 @@ absorbed p (Flow f) =
       terms = p .terms;
       rounds = p .rounds;
       samples = p .samples;
+      weights = p .weights;
       flow = p .flow ++ (f ∷ []);
+    }
+absorbed p (PairWeight w) =
+    record {
+      header = p .header;
+      terms = p .terms;
+      rounds = p .rounds;
+      samples = p .samples;
+      weights = p .weights ++ (pos w ∷ []);
+      flow = p .flow;
     }
 
 -- ---- Where reading turns back (SPECIFICATION 6.5)
@@ -183,18 +209,25 @@ recordRows followed tape o may =
 abbrev pub tooShort : ℕ → Bool
 tooShort number = eqb number 13 || eqb number 18
 
--- Terms are judged at their record, whose offset is the place; 16 right after 1, for all samples and all pairs, at place 0
+-- Terms and a pair's weight are judged at their record, whose offset is the place; 16 right after 1, for all samples and, in
+-- both buffers, all pairs, at place 0
 abbrev pub entryRows : ℕ → Lent → Entry → List Row
 entryRows o lent End = []
 entryRows o lent (Size w h) =
     sizeRow (sized w h) o
-    ∷ row (ltb (lent .samples) (pixelsOf (sized w h)) || ltb (lent .flow) (pairsOf (sized w h))) 16 0
+    ∷ row
+    (ltb (lent .samples) (pixelsOf (sized w h))
+    || ltb (lent .weights) (pairsOf (sized w h))
+    || ltb (lent .flow) (pairsOf (sized w h)))
+    16
+    0
     ∷ []
 entryRows o lent (WeightBox weight low high) =
-    weightRow (weighted (sized 0 0) weight low high) o ∷ boxRow (weighted (sized 0 0) weight low high) o ∷ []
+    weightRow weight o ∷ boxRow (weighted (sized 0 0) weight low high) o ∷ []
 entryRows o lent (RoundLimits q a) = roundsRow (record { quick = q; allowance = a }) o ∷ []
 entryRows o lent (Sample s) = []
 entryRows o lent (Flow f) = []
+entryRows o lent (PairWeight w) = weightRow w o ∷ []
 
 -- ---- Reading: the tape parsed (SPECIFICATION 5.5)
 
@@ -222,21 +255,22 @@ parseFrom (suc k) tape lent o p =
           ]
     ]
 
--- 8 is judged only when the whole tape has passed (SPECIFICATION 6.5)
+-- 8 is judged only when the whole tape has passed, by each pair's own weight (SPECIFICATION 6.5)
 abbrev pub judged : Parse → Parse
 judged (turned number place) = turned number place
-judged (whole p) = unless (firstRefusal (flowRow (p .terms .weight) (p .flow) ∷ [])) (whole p)
+judged (whole p) = unless (firstRefusal (flowRow (weightOf (p .terms) (p .weights)) (p .flow) ∷ [])) (whole p)
 
 unfoldable pub parse : List ℕ → Lent → Parse
 parse tape lent = judged (parseFrom (suc (length tape)) tape lent 0 nothing)
 
--- What read gives: the job's terms and rounds, and whether a flow was there (no, where there are no pairs). Accepted:
--- number and place are 0. Refused: zeros but for number and place (SPECIFICATION 4.3, 4.8)
+-- What read gives: the job's terms and rounds, and whether weights and whether a flow were there (no, where there are no
+-- pairs). Accepted: number and place are 0. Refused: zeros but for number and place (SPECIFICATION 4.3, 4.8)
 pub record ReadAnswer : Type 0 where
   pub number : ℕ
   pub place : ℕ
   pub terms : Terms
   pub rounds : Rounds
+  pub weighted : Bool
   pub flowed : Bool
 
 abbrev pub readOf : Parse → ReadAnswer
@@ -246,6 +280,7 @@ readOf (turned number place) =
       place = place;
       terms = nothing .terms;
       rounds = nothing .rounds;
+      weighted = false;
       flowed = false;
     }
 readOf (whole p) =
@@ -254,6 +289,7 @@ readOf (whole p) =
       place = 0;
       terms = p .terms;
       rounds = p .rounds;
+      weighted = not (eqb (length (p .weights)) 0);
       flowed = not (eqb (length (p .flow)) 0);
     }
 
@@ -262,23 +298,32 @@ abbrev pub samplesAfter : Parse → List ℕ → List ℕ
 samplesAfter (turned number place) former = former
 samplesAfter (whole p) former = overwritten (p .samples) former
 
+abbrev pub weightsAfter : Parse → List ℤ → List ℤ
+weightsAfter (turned number place) former = former
+weightsAfter (whole p) former = overwritten (p .weights) former
+
 abbrev pub flowAfter : Parse → List ℤ → List ℤ
 flowAfter (turned number place) former = former
 flowAfter (whole p) former = overwritten (p .flow) former
 
 -- what read is lent by these buffers; nothing may follow the end
-abbrev pub lentBy : List ℕ → List ℤ → Lent
-lentBy samples flow = record { samples = length samples; flow = length flow; followed = false }
+abbrev pub lentBy : List ℕ → List ℤ → List ℤ → Lent
+lentBy samples weights flow =
+    record { samples = length samples; weights = length weights; flow = length flow; followed = false }
 
--- Read: its answer, the sample buffer and the flow buffer (untouched without flow records) (SPECIFICATION 4.8)
-unfoldable pub readAnswer : List ℕ → List ℕ → List ℤ → ReadAnswer
-readAnswer tape samples flow = readOf (parse tape (lentBy samples flow))
+-- Read: its answer, the sample buffer, the weight buffer and the flow buffer (each untouched without its records)
+-- (SPECIFICATION 4.8)
+unfoldable pub readAnswer : List ℕ → List ℕ → List ℤ → List ℤ → ReadAnswer
+readAnswer tape samples weights flow = readOf (parse tape (lentBy samples weights flow))
 
-unfoldable pub readSamples : List ℕ → List ℕ → List ℤ → List ℕ
-readSamples tape samples flow = samplesAfter (parse tape (lentBy samples flow)) samples
+unfoldable pub readSamples : List ℕ → List ℕ → List ℤ → List ℤ → List ℕ
+readSamples tape samples weights flow = samplesAfter (parse tape (lentBy samples weights flow)) samples
 
-unfoldable pub readFlow : List ℕ → List ℕ → List ℤ → List ℤ
-readFlow tape samples flow = flowAfter (parse tape (lentBy samples flow)) flow
+unfoldable pub readWeights : List ℕ → List ℕ → List ℤ → List ℤ → List ℤ
+readWeights tape samples weights flow = weightsAfter (parse tape (lentBy samples weights flow)) weights
+
+unfoldable pub readFlow : List ℕ → List ℕ → List ℤ → List ℤ → List ℤ
+readFlow tape samples weights flow = flowAfter (parse tape (lentBy samples weights flow)) flow
 
 -- ---- Writing
 
@@ -289,32 +334,37 @@ encoded (WeightBox weight low high) = 2 ∷ twoBytes weight ++ (low ∷ high ∷
 encoded (RoundLimits q a) = 3 ∷ twoBytes q ++ twoBytes a
 encoded (Sample s) = 4 ∷ s ∷ []
 encoded (Flow f) = 5 ∷ fourBytes f
+encoded (PairWeight w) = 6 ∷ twoBytes w
 
--- The tape of a job; a flow of length 0 is none (SPECIFICATION 5.4)
-unfoldable pub tapeOf : Terms → Rounds → List ℕ → List ℤ → List ℕ
-tapeOf t r samples numbers =
+-- The tape of a job; weights or a flow of length 0 are none (SPECIFICATION 5.4)
+unfoldable pub tapeOf : Terms → Rounds → List ℕ → List ℤ → List ℤ → List ℕ
+tapeOf t r samples weights numbers =
     encoded (Size (t .width) (t .height))
     ++ encoded (WeightBox (t .weight) (t .low) (t .high))
     ++ encoded (RoundLimits (r .quick) (r .allowance))
     ++ chain (length samples) (λ i. encoded (Sample (getD samples i 0)))
+    ++ chain (length weights) (λ j. encoded (PairWeight (natAbs (at weights j))))
     ++ chain (length numbers) (λ j. encoded (Flow (at numbers j)))
     ++ encoded End
 
--- Where write turns back, `room` being its output's length: 16 after the other lengths, 8 last (SPECIFICATION 6.4)
-abbrev pub writeRows : Terms → Rounds → List ℕ → List ℤ → ℕ → List Row
-writeRows t r samples numbers room =
+-- Where write turns back, `room` being its output's length: 16 after the other lengths, then 2 of a pair, 8 last
+-- (SPECIFICATION 6.4)
+abbrev pub writeRows : Terms → Rounds → List ℕ → List ℤ → List ℤ → ℕ → List Row
+writeRows t r samples weights numbers room =
     sizeRow t 0
-    ∷ weightRow t 0
+    ∷ weightRow (t .weight) 0
     ∷ boxRow t 0
     ∷ roundsRow r 0
     ∷ lengthRow 4 samples (pixelsOf t)
-    ∷ row (not (eqb (length numbers) 0) && not (eqb (length numbers) (pairsOf t))) 5 0
-    ∷ row (ltb room (length (tapeOf t r samples numbers))) 16 0
-    ∷ flowRow (t .weight) numbers
+    ∷ optionalRow 5 numbers (pairsOf t)
+    ∷ optionalRow 19 weights (pairsOf t)
+    ∷ row (ltb room (length (tapeOf t r samples weights numbers))) 16 0
+    ∷ pairWeightsRow weights
+    ∷ flowRow (weightOf t weights) numbers
     ∷ []
 
-unfoldable pub writeVerdict : Terms → Rounds → List ℕ → List ℤ → List ℕ → Verdict
-writeVerdict t r samples numbers output = firstRefusal (writeRows t r samples numbers (length output))
+unfoldable pub writeVerdict : Terms → Rounds → List ℕ → List ℤ → List ℤ → List ℕ → Verdict
+writeVerdict t r samples weights numbers output = firstRefusal (writeRows t r samples weights numbers (length output))
 
 -- What write gives: the byte count. Accepted: number and place are 0. Refused: zeros but for number and place
 -- (SPECIFICATION 4.3, 4.9)
@@ -327,10 +377,10 @@ abbrev pub writeOf : Verdict → ℕ → WriteAnswer
 writeOf Accept n = record { number = 0; place = 0; count = n }
 writeOf (Refuse number place) n = record { number = number; place = place; count = 0 }
 
-unfoldable pub writeAnswer : Terms → Rounds → List ℕ → List ℤ → List ℕ → WriteAnswer
-writeAnswer t r samples numbers output =
-    writeOf (writeVerdict t r samples numbers output) (length (tapeOf t r samples numbers))
+unfoldable pub writeAnswer : Terms → Rounds → List ℕ → List ℤ → List ℤ → List ℕ → WriteAnswer
+writeAnswer t r samples weights numbers output =
+    writeOf (writeVerdict t r samples weights numbers output) (length (tapeOf t r samples weights numbers))
 
-unfoldable pub writeOutput : Terms → Rounds → List ℕ → List ℤ → List ℕ → List ℕ
-writeOutput t r samples numbers output =
-    left (writeVerdict t r samples numbers output) (overwritten (tapeOf t r samples numbers) output) output
+unfoldable pub writeOutput : Terms → Rounds → List ℕ → List ℤ → List ℤ → List ℕ → List ℕ
+writeOutput t r samples weights numbers output =
+    left (writeVerdict t r samples weights numbers output) (overwritten (tapeOf t r samples weights numbers) output) output

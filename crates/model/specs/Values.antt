@@ -1,8 +1,9 @@
 -- The values that document 01 marks to be proved (●), in its order, with the steady rounds of request F-1 and the centres
 -- of request F-3: what is asked, and what is to be given; after them the text that it prints for the 2 by 1 job, the text
 -- for tapes that end too early (request F-6), the report's text for four seasons of that job (requests F-2 and F-6), a 2 by 2
--- job of our own, worked by hand, in which the order of the pairs tells, and falls whose eighth is a half or just beyond. One
--- theorem, `values` of proofs/Values.antt, says that the definitions give it in every case (docs/SPECIFICATION.md, section 9).
+-- job of our own, worked by hand, in which the order of the pairs tells, a 3 by 1 job whose pairs have weights of their own
+-- (request F-7), and falls whose eighth is a half or just beyond. One theorem, `values` of proofs/Values.antt, says that the
+-- definitions give it in every case (docs/SPECIFICATION.md, section 9).
 use mathlib.Core.List.{List, [], _∷_, _++_}
 use Prim.Native.Nat.{ℕ, _*_}
 use lib.IntN.{ℤ, pos, negℤ}
@@ -38,30 +39,31 @@ pub data Given : Type 0 where
 pub record Case : Type 0 where
   pub terms : Terms
   pub samples : List ℕ
+  pub weights : List ℤ
   pub asked : Asked
   pub expected : Given
 
 -- What the definitions give; the buffers that a call fills are lent full of zeros
-unfoldable pub ask : Terms → List ℕ → Asked → Given
-ask t samples (checking flow) =
+unfoldable pub ask : Terms → List ℕ → List ℤ → Asked → Given
+ask t samples weights (checking flow) =
     let image : List ℤ = zeros (pixelsOf t) in
-    call (checkAnswer t samples flow image) flow (checkImage t samples flow image)
-ask t samples (running quick allowance) =
+    call (checkAnswer t samples weights flow image) flow (checkImage t samples weights flow image)
+ask t samples weights (running quick allowance) =
     let r : Rounds = record { quick = quick; allowance = allowance } in
     let flow : List ℤ = zeros (pairsOf t) in
     let image : List ℤ = zeros (pixelsOf t) in
     let work : List ℤ = zeros (2 * pairsOf t) in
-    call (runAnswer t r samples flow image work) (runFlow t r samples flow image work)
-    (runImage t r samples flow image work)
-ask t samples (momentum k) = number (quickRounds eighth (grid t samples) k .momentum)
-ask t samples (printing quick allowance) =
-    text (programText (tapeOf t (record { quick = quick; allowance = allowance }) samples []))
-ask t samples (beginning quick allowance count behind) =
-    text (programText (take count (tapeOf t (record { quick = quick; allowance = allowance }) samples []) ++ behind))
-ask t samples (reporting quick allowance times behind) =
+    call (runAnswer t r samples weights flow image work) (runFlow t r samples weights flow image work)
+    (runImage t r samples weights flow image work)
+ask t samples weights (momentum k) = number (quickRounds eighth (grid t samples weights) k .momentum)
+ask t samples weights (printing quick allowance) =
+    text (programText (tapeOf t (record { quick = quick; allowance = allowance }) samples weights []))
+ask t samples weights (beginning quick allowance count behind) =
+    text (programText (take count (tapeOf t (record { quick = quick; allowance = allowance }) samples weights []) ++ behind))
+ask t samples weights (reporting quick allowance times behind) =
     text
-    (seasonText (chain times (λ _. tapeOf t (record { quick = quick; allowance = allowance }) samples []) ++ behind))
-ask t samples (sharing d) = shares (eighth d) (nearestEighth d)
+    (seasonText (chain times (λ _. tapeOf t (record { quick = quick; allowance = allowance }) samples weights []) ++ behind))
+ask t samples weights (sharing d) = shares (eighth d) (nearestEighth d)
 
 -- The 2 by 1 job: samples 0 and 2, weight 256, box 0 to 255 (SPECIFICATION 9.1, 9.2, 9.9, 9.12, 9.13); a share
 -- does not depend on it (9.11)
@@ -70,6 +72,7 @@ twoByOne a g =
     record {
       terms = record { width = 2; height = 1; weight = 256; low = 0; high = 255 };
       samples = 0 ∷ 2 ∷ [];
+      weights = [];
       asked = a;
       expected = g;
     }
@@ -80,6 +83,7 @@ narrowBox a g =
     record {
       terms = record { width = 2; height = 1; weight = 1280; low = 8; high = 12 };
       samples = 0 ∷ 20 ∷ [];
+      weights = [];
       asked = a;
       expected = g;
     }
@@ -90,6 +94,7 @@ onePixel a g =
     record {
       terms = record { width = 1; height = 1; weight = 256; low = 0; high = 255 };
       samples = 7 ∷ [];
+      weights = [];
       asked = a;
       expected = g;
     }
@@ -101,12 +106,28 @@ twoByTwo a g =
     record {
       terms = record { width = 2; height = 2; weight = 256; low = 0; high = 255 };
       samples = 0 ∷ 10 ∷ 20 ∷ 40 ∷ [];
+      weights = [];
+      asked = a;
+      expected = g;
+    }
+
+-- 3 by 1, samples 0, 2 and 10, weight 256, box 0 to 255, with these pair weights: at 0 and 512 the first pair is a joint and
+-- the second one is smoothed beyond the terms' weight (SPECIFICATION 9.14)
+abbrev pub threeByOne : List ℤ → Asked → Given → Case
+threeByOne weights a g =
+    record {
+      terms = record { width = 3; height = 1; weight = 256; low = 0; high = 255 };
+      samples = 0 ∷ 2 ∷ 10 ∷ [];
+      weights = weights;
       asked = a;
       expected = g;
     }
 
 abbrev pub pair : ℕ → ℕ → List ℤ
 pair a b = pos a ∷ pos b ∷ []
+
+abbrev pub triple : ℕ → ℕ → ℕ → List ℤ
+triple a b c = pos a ∷ pos b ∷ pos c ∷ []
 
 abbrev pub one : ℤ → List ℤ
 one f = f ∷ []
@@ -140,7 +161,7 @@ cases =
     ∷ twoByOne (beginning 0 100 6 []) (text (ascii "refused 13 at 5\n"))
     ∷ twoByOne (beginning 0 100 18 []) (text (ascii "refused 13 at 17\n"))
     ∷ twoByOne (beginning 0 100 19 []) (text (ascii "refused 18 at 19\n"))
-    ∷ twoByOne (beginning 0 100 5 (6 ∷ [])) (text (ascii "refused 12 at 5\n"))
+    ∷ twoByOne (beginning 0 100 5 (7 ∷ [])) (text (ascii "refused 12 at 5\n"))
     ∷ twoByOne (beginning 0 100 5 (1 ∷ [])) (text (ascii "refused 14 at 5\n"))
     ∷ twoByOne (reporting 0 100 1 [])
     (text (ascii "jobs 1\npixels 2\nsettled 1\nspent 0\nchecked 0\ntotal 16\nlargest 16 1\nmean 8 0\n"))
@@ -153,6 +174,21 @@ cases =
     ∷ twoByTwo (checking (pos 1 ∷ pos 2 ∷ pos 4 ∷ pos 8 ∷ []))
     (call (figures checked 0 (pos 10501298) (negℤ (pos 143538)) (pos 10644836)) (pos 1 ∷ pos 2 ∷ pos 4 ∷ pos 8 ∷ [])
     (pos 123 ∷ pos 2690 ∷ pos 5241 ∷ pos 10378 ∷ []))
+    ∷ threeByOne (pair 0 512) (checking (pair 0 0))
+    (call (figures checked 0 (pos 2097152) (pos 0) (pos 2097152)) (pair 0 0) (triple 128 640 2688))
+    ∷ threeByOne (pair 0 512) (checking (pos 0 ∷ negℤ (pos 512) ∷ []))
+    (call (figures checked 0 (pos 1572864) (pos 1572864) (pos 0)) (pos 0 ∷ negℤ (pos 512) ∷ []) (triple 128 1152 2176))
+    ∷ threeByOne (pair 0 512) (checking (pair 1 0)) (call (refusal 8 0) (pair 1 0) (triple 0 0 0))
+    ∷ threeByOne (pair 0 512) (checking (pair 0 513)) (call (refusal 8 1) (pair 0 513) (triple 0 0 0))
+    ∷ threeByOne (pair 0 65281) (checking (pair 1 0)) (call (refusal 2 1) (pair 1 0) (triple 0 0 0))
+    ∷ threeByOne (one (pos 0)) (checking (pair 0 0)) (call (refusal 19 0) (pair 0 0) (triple 0 0 0))
+    ∷ threeByOne (pair 0 512) (running 0 100)
+    (call (figures settled 3 (pos 1572864) (pos 1572864) (pos 0)) (pos 0 ∷ negℤ (pos 512) ∷ []) (triple 128 1152 2176))
+    ∷ threeByOne (pair 0 512) (printing 0 100)
+    (text (ascii "outcome moved price floor slack\nsettled 3 1572864 1572864 0\n128 1152 2176\n"))
+    ∷ threeByOne (pair 0 512) (beginning 0 100 21 (6 ∷ 1 ∷ 255 ∷ [])) (text (ascii "refused 2 at 21\n"))
+    ∷ threeByOne (pair 0 512) (beginning 0 100 24 (0 ∷ [])) (text (ascii "refused 14 at 24\n"))
+    ∷ threeByOne (pair 0 512) (beginning 0 100 26 []) (text (ascii "refused 13 at 24\n"))
     ∷ twoByOne (sharing (pos 4)) (shares (pos 0) (pos 0))
     ∷ twoByOne (sharing (pos 5)) (shares (pos 0) (pos 1))
     ∷ twoByOne (sharing (pos 12)) (shares (pos 1) (pos 1))

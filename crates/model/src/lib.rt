@@ -31,12 +31,14 @@ pub enum Entry {
     RoundLimits { quick: u32, allowance: u16 },
     Sample { code: u8 },
     Flow { value: i32 },
+    PairWeight { weight: u32 },
 }
 
-// What a reading of a tape is lent and allowed: the lengths of the sample and the flow buffer, and
-// whether the end record may be followed by more bytes.
+// What a reading of a tape is lent and allowed: the lengths of the sample, the weight and the flow
+// buffer, and whether the end record may be followed by more bytes.
 pub struct Lent {
     pub samples: usize,
+    pub weights: usize,
     pub flow: usize,
     pub followed: bool,
 }
