@@ -7,7 +7,7 @@ use Prim.Native.Nat.{ℕ, zero, suc, _+_, _*_, _≤_, _<_, suc-le-suc, zero-le}
 use native.Mathlib.Nat.{le-of-suc-le-suc, mul-le-mul-right}
 use native.Mathlib.Decide.{decLt}
 use native.Mathlib.Omega.{arith}
-use lib.ListN.{length, getD, replicate, length-append, length-replicate, getD-replicate, List·getD-append}
+use lib.ListN.{length, getD, replicate, length-append, length-replicate, getD-replicate, List·getD-append, List·getD-eq-default}
 use lib.Seq.{getD-at, getD-append-add, ext-getD}
 use Rattle.model.specs.Lists.{table, chain, firstWhere}
 
@@ -42,6 +42,14 @@ module _ {A : Type 0} where
   getD-inside [] i d d′ h = absurd (omega arith)
   getD-inside (x ∷ l) zero d d′ h = refl
   getD-inside (x ∷ l) (suc i) d d′ h = getD-inside l i d d′ (le-of-suc-le-suc h)
+
+  -- what holds of the default and of every element holds of what is read at any index
+  pub getD-by : (P : A → Type 0) (l : List A) (d d′ : A) → P d → ((i : ℕ) → i < length l → P (getD l i d′)) → (i : ℕ) → P (getD l i d)
+  getD-by P l d d′ other each i = by (decLt i (length l))
+    where
+      by : Dec (i < length l) → P (getD l i d)
+      by (yes h) = subst P (getD-inside l i d′ d h) (each i h)
+      by (no g) = subst P (sym (List·getD-eq-default l d {n = i} (omega (arith, g)))) other
 
   -- lists of one length k in a chain
   module _ (k : ℕ) (g : ℕ → List A) (even : (r : ℕ) → length (g r) ≡ k) where

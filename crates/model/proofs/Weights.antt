@@ -1,12 +1,11 @@
 -- The weights of an allowed job's pairs: each is a number of the weight buffer, or the terms' weight, and no larger than
 -- 65,280. Assumes nothing.
-use mathlib.Core.Path.{_≡_, sym, ap, _∙_, subst}
+use mathlib.Core.Path.{_≡_, ap, _∙_}
 use mathlib.Core.List.{List, []}
 use Prim.Native.Nat.{ℕ, zero, suc, _*_, _≤_, _<_}
-use native.Mathlib.Decide.{decLt}
 use native.Mathlib.Omega.{arith}
 use lib.IntN.{ℤ, pos, natAbs, _+ℤ_}
-use lib.ListN.{length, getD, List·getD-eq-default}
+use lib.ListN.{length, getD}
 use lib.Signed.{_≤ℤ_}
 use Rattle.integers.specs.Sum.{total}
 use Rattle.integers.proofs.Order.{0≤pos, pos-natAbs-nonneg}
@@ -16,31 +15,24 @@ use Rattle.model.specs.Problem.{weightSum}
 use Rattle.model.specs.Grid.{Terms, weightOf, grid}
 use Rattle.model.specs.Calls.{pairsOf}
 use Rattle.model.specs.Accepted.{WeightsAllowed}
-use Rattle.model.proofs.Lists.{getD-inside}
+use Rattle.model.proofs.Lists.{getD-by}
 
 module _ (t : Terms) (weights : List ℤ) where
   -- the number that stands for pair j's weight
   abbrev pub standing : ℕ → ℤ
   standing j = getD weights j (pos (t .weight))
 
-  -- it is a number of the buffer or the terms' weight, so what holds of all of these holds of it
-  pub standing-by : (P : ℤ → Type 0) → P (pos (t .weight)) → ((j : ℕ) → j < length weights → P (at weights j)) → (j : ℕ) → P (standing j)
-  standing-by P own each j = by (decLt j (length weights))
-    where
-      by : Dec (j < length weights) → P (standing j)
-      by (yes l) = subst P (getD-inside weights j (pos 0) (pos (t .weight)) l) (each j l)
-      by (no g) = subst P (sym (List·getD-eq-default weights (pos (t .weight)) {n = j} (omega (arith, g)))) own
-
   module _ (w : WeightsAllowed t weights) where
     -- it is the weight itself
     pub weight-is : (j : ℕ) → pos (weightOf t weights j) ≡ standing j
     unfolding weightOf
     weight-is j =
-        pos-natAbs-nonneg (standing-by (λ z. pos 0 ≤ℤ z) (0≤pos (t .weight)) (λ i l. w .range i l .0) j)
+        pos-natAbs-nonneg (getD-by (λ z. pos 0 ≤ℤ z) weights (pos (t .weight)) (pos 0) (0≤pos (t .weight)) (λ i l. w .range i l .0) j)
 
     pub weight-most : t .weight ≤ 65280 → (j : ℕ) → weightOf t weights j ≤ 65280
     unfolding weightOf
-    weight-most h = standing-by (λ z. natAbs z ≤ 65280) h (λ i l. natAbs-upto (w .range i l .0) (w .range i l .1))
+    weight-most h =
+        getD-by (λ z. natAbs z ≤ 65280) weights (pos (t .weight)) (pos 0) h (λ i l. natAbs-upto (w .range i l .0) (w .range i l .1))
 
 -- Without a buffer the sum of the weights is weight × pairs
 pub uniform-sum : (t : Terms) (samples : List ℕ) → weightSum (grid t samples []) ≡ pos (t .weight * pairsOf t)

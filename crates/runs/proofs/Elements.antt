@@ -7,13 +7,15 @@ use native.Mathlib.Decide.{decLt}
 use native.Mathlib.Omega.{arith}
 use lib.IntN.{ℤ, pos, natAbs}
 use lib.ListN.{length, List·getD-eq-default}
+use lib.Signed.{_≤ℤ_}
 use mir.Syntax.{w32}
 use mir.Val.{toZ, ofZ}
 use mir.ValLaws.{toZ-ofZ}
 use Rattle.integers.proofs.Machine.{fits}
 use Rattle.model.specs.Lists.{at, table}
-use Rattle.model.proofs.Lists.{length-table, getD-table}
-use Rattle.runs.specs.Limits.{Within, StepLimits}
+use Rattle.model.proofs.Lists.{length-table, getD-table, getD-by}
+use Rattle.runs.specs.Limits.{Within, WeightLimits, StepLimits}
+use Rattle.runs.specs.Run.{weightAt}
 use Rattle.stencil.specs.Limits.{PairLimits}
 
 pub element : (l : List ℤ) → Within (2 ^ 20) l → (i : ℕ) → toZ w32 (ofZ w32 (at l i)) ≡ at l i
@@ -36,10 +38,23 @@ within-table n g h =
 
 -- ---- what the limits say of a pair
 
-pub pair-limits : {flow image : List ℤ} {stride : ℕ} {weight : ℤ} → StepLimits flow image stride weight → (j : ℕ) → PairLimits weight (at flow j) (at image j) (at image (j + stride))
-pair-limits {stride} l j =
+-- its number of a part is there, unless the part is empty
+pub own-inside : {n : ℕ} {weights : List ℤ} → WeightLimits n weights → {j : ℕ} → j < n → 0 < length weights → j < length weights
+own-inside w l p = omega (arith, w .lent p)
+
+-- the number that stands for it is the one that stands for all, or its own
+module _ {n : ℕ} {weights : List ℤ} (w : WeightLimits n weights) (weight : ℤ) where
+  pub own-most : natAbs weight ≤ 2 ^ 20 → (j : ℕ) → natAbs (weightAt weight weights j) ≤ 2 ^ 20
+  own-most h = getD-by (λ z. natAbs z ≤ 2 ^ 20) weights weight (pos 0) h (λ i _. w .most i)
+
+  pub own-least : pos 0 ≤ℤ weight → (j : ℕ) → pos 0 ≤ℤ weightAt weight weights j
+  own-least h = getD-by (λ z. pos 0 ≤ℤ z) weights weight (pos 0) h (λ i _. w .least i)
+
+pub pair-limits : {flow image : List ℤ} {stride : ℕ} {weight : ℤ} {weights : List ℤ} → StepLimits flow image stride weight weights →
+    (j : ℕ) → PairLimits (weightAt weight weights j) (at flow j) (at image j) (at image (j + stride))
+pair-limits {stride} {weight} l j =
     record {
-      weight-most = l .weight-most;
+      weight-most = own-most (l .weights-limits) weight (l .weight-most) j;
       flow-most = l .flow-most j;
       first-most = l .image-most j;
       second-most = l .image-most (j + stride);

@@ -51,8 +51,9 @@ module _ (image : List ℤ) (h : Within (2 ^ 20) image) (first second : ℕ → 
   pub fall-most : (j : ℕ) → natAbs (at image (first j) -ℤ at image (second j)) ≤ 2 ^ 21
   fall-most j = omega (arith, natAbs-difference (at image (first j)) (at image (second j)), h (first j), h (second j))
 
-  pub variation-most : (n : ℕ) → natAbs (total n (λ j. abs (at image (first j) -ℤ at image (second j)))) ≤ n * 2 ^ 21
-  variation-most n = natAbs-total n (λ j. abs (at image (first j) -ℤ at image (second j))) (λ j _. fall-most j)
+  pub variation-most : (weight : ℕ → ℤ) → ((j : ℕ) → natAbs (weight j) ≤ 2 ^ 20) →
+      (j : ℕ) → natAbs (weight j *ℤ abs (at image (first j) -ℤ at image (second j))) ≤ 2 ^ 41
+  variation-most weight w j = rw natAbs-product (mul-le-mul (w j) (fall-most j))
 
   module _ (flow : List ℤ) (k : Within (2 ^ 20) flow) where
     pub product-most : (j : ℕ) → natAbs (at flow j *ℤ (at image (first j) -ℤ at image (second j))) ≤ 2 ^ 41

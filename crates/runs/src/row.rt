@@ -2,23 +2,16 @@
 // with the row below, those with the row above, and those across the row. Of a row that has none
 // below or above, that part is empty.
 
+use crate::part::number_or;
 use stencil::pixel;
 ghost use mathlib.Core.Path.{_≡_};
 ghost use Prim.Native.Nat.{_<_};
 ghost use lib.ListN.{length};
 ghost use lib.Signed.{_≤ℤ_};
-ghost use Rattle.model.specs.Lists.{at, table};
+ghost use Rattle.model.specs.Lists.{table};
 ghost use Rattle.runs.specs.Ends.{Between};
 ghost use Rattle.runs.specs.Limits.{ColumnLimits, RowLimits};
 ghost use Rattle.runs.specs.Row.{columnValue, rowValue};
-
-// A number of a part that may be empty: then it is 0.
-fn number_at(values: &[i32], i: usize) -> i32
-    requires { ⌜ (0 < length (now values) → i < length (now values)) ⌝ }
-    ensures { λ r. ⌜ r ≡ at (now (values .entry)) i ⌝ }
-{
-    if values.len() == 0 { 0 } else { values[i] }
-}
 
 // The pixel at column c, from its sample and the numbers of its pairs to the right and left.
 fn column_value(
@@ -36,9 +29,9 @@ fn column_value(
 {
     pixel::pixel_value(
         pixel::reading(sample),
-        number_at(below, c),
+        number_or(below, c, 0),
         right,
-        number_at(above, c),
+        number_or(above, c, 0),
         left,
         low,
         high,

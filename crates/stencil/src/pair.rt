@@ -3,7 +3,9 @@
 use integers::signed;
 ghost use mathlib.Core.Path.{_≡_};
 ghost use Prim.Native.Nat.{_+_, _^_, _≤_, _<_};
-ghost use lib.IntN.{natAbs, _-ℤ_, _*ℤ_};
+ghost use lib.IntN.{pos, natAbs, _-ℤ_, _*ℤ_};
+ghost use lib.Signed.{_≤ℤ_};
+ghost use Rattle.integers.specs.Whole.{abs};
 ghost use Rattle.model.specs.Rounds.{nearestEighth};
 ghost use Rattle.stencil.specs.Pair.{shareOf, stepValue, moves};
 ghost use Rattle.stencil.specs.Limits.{PairLimits};
@@ -52,12 +54,12 @@ pub fn would_move(kind: Round, f: i32, x: i32, y: i32, weight: i32) -> bool
     !signed::same(step_value(kind, f, x, y, weight), f)
 }
 
-// The size of a pair's fall.
-pub fn variation(x: i32, y: i32) -> u64
-    requires { ⌜ natAbs x + natAbs y < 2 ^ 31 ⌝ }
-    ensures { λ r. ⌜ r ≡ natAbs (x -ℤ y) ⌝ }
+// A pair's weight times the size of its fall.
+pub fn variation(weight: i32, x: i32, y: i32) -> u64
+    requires { ⌜ (pos 0 ≤ℤ weight) × (natAbs x + natAbs y < 2 ^ 31) ⌝ }
+    ensures { λ r. ⌜ pos r ≡ weight *ℤ abs (x -ℤ y) ⌝ }
 {
-    signed::magnitude(signed::sub(x, y)) as u64
+    (signed::magnitude(weight) as u64) * (signed::magnitude(signed::sub(x, y)) as u64)
 }
 
 // A pair's number times its fall.

@@ -7,22 +7,31 @@ use lib.ListN.{length}
 use mir.Syntax.{w32}
 use mir.Val.{toZ, ofZ}
 use mir.ValLaws.{toZ-ofZ}
+use Rattle.integers.proofs.Machine.{read}
 use Rattle.model.specs.Rounds.{nearestEighth}
-use Rattle.runs.specs.Run.{movesAt}
-use Rattle.runs.proofs.Elements.{element, pair-limits}
+use Rattle.runs.specs.Run.{weightAt, movesAt}
+use Rattle.runs.proofs.Elements.{element, own-inside, pair-limits}
 use Rattle.runs.proofs.Moving.{nothing-is, at-is}
 use Rattle.runs.proofs.Search.{Passed, passed-none, passed-more, search-found, search-ended}
 use Rattle.runs.proofs.pairs.first_moving.Statement.{statement}
 use Rattle.runs.proofs.pairs.first_moving.Tie as tie
 
 abbrev Inv-loop : tie.InvT-loop
-Inv-loop flow image stride weight j₀ j = (j ≤ length flow) × Passed (movesAt nearestEighth (toZ w32 weight) flow image stride) j
+Inv-loop flow image stride weight weights j₀ j = (j ≤ length flow) × Passed (movesAt nearestEighth (weightAt (toZ w32 weight) weights) flow image stride) j
 
 abbrev μ-loop : tie.MeasureT-loop
-μ-loop flow image stride weight j₀ j = length flow - j
+μ-loop flow image stride weight weights j₀ j = length flow - j
 
 loop-holds : tie.Need-loop-holds Inv-loop μ-loop
 loop-holds c = (omega arith, passed-none _)
+
+number-or-requires : tie.Need-number-or-requires Inv-loop μ-loop
+number-or-requires c κs = own-inside (c .before .before .pre .weights-limits) (omega arith)
+
+-- the weight of pair j
+own : (c : tie.After-number-or Inv-loop μ-loop) → let s = c .before .before .before in
+    toZ w32 (ofZ w32 (c .number-or .result)) ≡ weightAt (toZ w32 (ofZ w32 (s .args .weight))) (s .args .weights .now) (c .before .before .loop .j)
+own c = read w32 (c .number-or .ok) ∙ c .number-or .ensures
 
 mul-would-move : tie.Need-mul-would-move Inv-loop μ-loop
 mul-would-move c = search needs
@@ -47,18 +56,19 @@ shared-slice-copy-out-would-move-3 c = search needs
 
 would-move-requires : tie.Need-would-move-requires Inv-loop μ-loop
 would-move-requires c κs =
-    let s = c .before .before .before .before .before in
-    let j = c .before .before .before .before .loop .j in
-    rw (toZ-ofZ w32 (s .args .weight) (s .fits .weight), element (s .args .flow .now) (s .pre .flow-most) j, element (s .args .image .now) (s .pre .image-most) j, element (s .args .image .now) (s .pre .image-most) (j + s .args .stride))
+    let s = c .before .before .before .before .before .before in
+    let j = c .before .before .before .before .before .loop .j in
+    rw (own (c .before .before .before), toZ-ofZ w32 (s .args .weight) (s .fits .weight), element (s .args .flow .now) (s .pre .flow-most) j, element (s .args .image .now) (s .pre .image-most) j, element (s .args .image .now) (s .pre .image-most) (j + s .args .stride))
     (pair-limits (s .pre) j)
 
 -- the test at j
-tested : (c : tie.After-would-move Inv-loop μ-loop) → let s = c .before .before .before .before .before .before in c .would-move .result ≡ movesAt nearestEighth (toZ w32 (ofZ w32 (s .args .weight))) (s .args .flow .now) (s .args .image .now) (s .args .stride) (c .before .before .before .before .before .loop .j)
+tested : (c : tie.After-would-move Inv-loop μ-loop) → let s = c .before .before .before .before .before .before .before in
+    c .would-move .result ≡ movesAt nearestEighth (weightAt (toZ w32 (ofZ w32 (s .args .weight))) (s .args .weights .now)) (s .args .flow .now) (s .args .image .now) (s .args .stride) (c .before .before .before .before .before .before .loop .j)
 tested c =
-    let s = c .before .before .before .before .before .before in
-    let j = c .before .before .before .before .before .loop .j in
+    let s = c .before .before .before .before .before .before .before in
+    let j = c .before .before .before .before .before .before .loop .j in
     c .would-move .ensures
-    ∙ rw (element (s .args .flow .now) (s .pre .flow-most) j, element (s .args .image .now) (s .pre .image-most) j, element (s .args .image .now) (s .pre .image-most) (j + s .args .stride))
+    ∙ rw (own (c .before .before .before .before), element (s .args .flow .now) (s .pre .flow-most) j, element (s .args .image .now) (s .pre .image-most) j, element (s .args .image .now) (s .pre .image-most) (j + s .args .stride))
 
 add-j : tie.Need-add-j Inv-loop μ-loop
 add-j c = search needs
@@ -68,7 +78,7 @@ loop-less c = search needs
 
 loop-again : tie.Need-loop-again Inv-loop μ-loop
 loop-again c =
-    let l = c .before .before .before .before .before .before .loop in
+    let l = c .before .before .before .before .before .before .before .loop in
     (omega arith, passed-more _ (l .j) (l .inv .1) (sym (tested (c .before)) ∙ c .if2 .left))
 
 returns : tie.Need-returns Inv-loop μ-loop
@@ -79,8 +89,8 @@ returns c =
 
 returns-2 : tie.Need-returns-2 Inv-loop μ-loop
 returns-2 c =
-    let s = c .before .before .before .before .before .before .before in
-    let l = c .before .before .before .before .before .before .loop in
+    let s = c .before .before .before .before .before .before .before .before in
+    let l = c .before .before .before .before .before .before .before .loop in
     let inside : l .j < length (s .args .flow .now) = omega arith in
     rw (toZ-ofZ w32 _ (s .fits .weight)) at (at-is (length (s .args .flow .now)) _ (search-found _ (l .inv .1) inside (sym (tested (c .before)) ∙ c .if2 .taken)) inside)
 
@@ -91,6 +101,7 @@ first-moving-spec =
     Inv-loop
     μ-loop
     loop-holds
+    number-or-requires
     mul-would-move
     shared-slice-copy-out-would-move
     mul-would-move-2

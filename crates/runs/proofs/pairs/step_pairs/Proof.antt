@@ -1,4 +1,5 @@
 -- `runs::pairs::step_pairs` meets its contract. Assumes nothing.
+use mathlib.Core.Path.{_≡_, _∙_}
 use Prim.Native.Nat.{_+_, _-_}
 use native.Mathlib.Nat.{le-refl}
 use native.Mathlib.Omega.{arith}
@@ -6,24 +7,32 @@ use borrow.Author.Needs.{needs}
 use lib.IntN.{pos}
 use lib.ListN.{length}
 use mir.Syntax.{w32}
-use mir.Val.{toZ}
+use mir.Val.{toZ, ofZ}
 use mir.ValLaws.{toZ-ofZ}
-use Rattle.integers.proofs.Machine.{called}
+use Rattle.integers.proofs.Machine.{read, called}
 use Rattle.model.specs.Rounds.{nearestEighth}
-use Rattle.runs.specs.Run.{stepAt}
-use Rattle.runs.proofs.Elements.{element, pair-limits}
+use Rattle.runs.specs.Run.{weightAt, stepAt}
+use Rattle.runs.proofs.Elements.{element, own-inside, pair-limits}
 use Rattle.runs.proofs.Fill.{Filling, filling-none, filling-more, filling-all, filling-rest}
 use Rattle.runs.proofs.pairs.step_pairs.Statement.{statement}
 use Rattle.runs.proofs.pairs.step_pairs.Tie as tie
 
 abbrev Inv-loop : tie.InvT-loop
-Inv-loop flow₀ image stride weight j₀ flow j = Filling (stepAt nearestEighth (toZ w32 weight) flow₀ image stride) flow₀ j flow
+Inv-loop flow₀ image stride weight weights j₀ flow j = Filling (stepAt nearestEighth (weightAt (toZ w32 weight) weights) flow₀ image stride) flow₀ j flow
 
 abbrev μ-loop : tie.MeasureT-loop
-μ-loop flow₀ image stride weight j₀ flow j = length flow₀ - j
+μ-loop flow₀ image stride weight weights j₀ flow j = length flow₀ - j
 
 loop-holds : tie.Need-loop-holds Inv-loop μ-loop
 loop-holds c = filling-none _ _
+
+number-or-requires : tie.Need-number-or-requires Inv-loop μ-loop
+number-or-requires c κs = own-inside (c .before .before .pre .weights-limits) (omega arith)
+
+-- the weight of pair j
+own : (c : tie.After-number-or Inv-loop μ-loop) → let s = c .before .before .before in
+    toZ w32 (ofZ w32 (c .number-or .result)) ≡ weightAt (toZ w32 (ofZ w32 (s .args .weight))) (s .args .weights .now) (c .before .before .loop .j)
+own c = read w32 (c .number-or .ok) ∙ c .number-or .ensures
 
 mul-step-value : tie.Need-mul-step-value Inv-loop μ-loop
 mul-step-value c = search needs
@@ -48,13 +57,13 @@ shared-slice-copy-out-step-value-2 c = search needs
 
 step-value-requires : tie.Need-step-value-requires Inv-loop μ-loop
 step-value-requires c κs =
-    let s = c .before .before .before .before .before in
-    let l = c .before .before .before .before .loop in
-    rw (toZ-ofZ w32 (s .args .weight) (s .fits .weight), filling-rest (l .inv) (l .j) (pos 0) (le-refl (l .j)), element (s .args .flow .now) (s .pre .flow-most) (l .j), element (s .args .image .now) (s .pre .image-most) (l .j), element (s .args .image .now) (s .pre .image-most) (l .j + s .args .stride))
+    let s = c .before .before .before .before .before .before in
+    let l = c .before .before .before .before .before .loop in
+    rw (own (c .before .before .before), toZ-ofZ w32 (s .args .weight) (s .fits .weight), filling-rest (l .inv) (l .j) (pos 0) (le-refl (l .j)), element (s .args .flow .now) (s .pre .flow-most) (l .j), element (s .args .image .now) (s .pre .image-most) (l .j), element (s .args .image .now) (s .pre .image-most) (l .j + s .args .stride))
     (pair-limits (s .pre) (l .j))
 
-mul-t19 : tie.Need-mul-t19 Inv-loop μ-loop
-mul-t19 c = search needs
+mul-t21 : tie.Need-mul-t21 Inv-loop μ-loop
+mul-t21 c = search needs
 
 slice-set-from-flow : tie.Need-slice-set-from-flow Inv-loop μ-loop
 slice-set-from-flow c = search needs
@@ -67,11 +76,11 @@ loop-less c = search needs
 
 loop-again : tie.Need-loop-again Inv-loop μ-loop
 loop-again c =
-    let s = c .before .before .before .before .before .before in
-    let l = c .before .before .before .before .before .loop in
+    let s = c .before .before .before .before .before .before .before in
+    let l = c .before .before .before .before .before .before .loop in
     filling-more (l .inv) (omega arith)
     (called w32 (c .step-value .ok) (λ z. z) (c .step-value .ensures)
-    (rw (filling-rest (l .inv) (l .j) (pos 0) (le-refl (l .j)), element (s .args .flow .now) (s .pre .flow-most) (l .j), element (s .args .image .now) (s .pre .image-most) (l .j), element (s .args .image .now) (s .pre .image-most) (l .j + s .args .stride))))
+    (rw (own (c .before .before .before .before), filling-rest (l .inv) (l .j) (pos 0) (le-refl (l .j)), element (s .args .flow .now) (s .pre .flow-most) (l .j), element (s .args .image .now) (s .pre .image-most) (l .j), element (s .args .image .now) (s .pre .image-most) (l .j + s .args .stride))))
 
 same-length : tie.Need-same-length Inv-loop μ-loop
 same-length c = search needs
@@ -86,6 +95,7 @@ step-pairs-spec =
     Inv-loop
     μ-loop
     loop-holds
+    number-or-requires
     mul-step-value
     slice-copy-out-step-value
     mul-step-value-2
@@ -94,7 +104,7 @@ step-pairs-spec =
     mul-step-value-3
     shared-slice-copy-out-step-value-2
     step-value-requires
-    mul-t19
+    mul-t21
     slice-set-from-flow
     add-j
     loop-less

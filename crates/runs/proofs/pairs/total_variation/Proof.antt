@@ -1,26 +1,37 @@
 -- `runs::pairs::total_variation` meets its contract. Assumes nothing.
 use mathlib.Core.Path.{_≡_, sym, ap, _∙_}
-use Prim.Native.Nat.{ℕ, _+_, _-_, _≤_}
+use Prim.Native.Nat.{_+_, _-_, _≤_}
 use native.Mathlib.Omega.{arith}
 use borrow.Author.Needs.{needs}
 use lib.IntN.{pos, natAbs}
-use Rattle.integers.specs.Whole.{abs}
+use mir.Syntax.{w32}
+use mir.Val.{toZ, ofZ}
 use Rattle.integers.specs.Sum.{total}
-use Rattle.integers.proofs.Total.{total-zero}
-use Rattle.runs.specs.Run.{fallAt}
-use Rattle.runs.proofs.Elements.{element}
-use Rattle.runs.proofs.Sums.{total-more, fall-most, variation-most}
+use Rattle.integers.proofs.Order.{0≤pos}
+use Rattle.integers.proofs.Machine.{read}
+use Rattle.integers.proofs.Total.{total-zero, natAbs-total}
+use Rattle.runs.specs.Run.{weightAt, variationAt}
+use Rattle.runs.proofs.Elements.{element, own-inside, own-most, own-least}
+use Rattle.runs.proofs.Sums.{total-more, variation-most}
 use Rattle.runs.proofs.pairs.total_variation.Statement.{statement}
 use Rattle.runs.proofs.pairs.total_variation.Tie as tie
 
 abbrev Inv-loop : tie.InvT-loop
-Inv-loop image stride count sum₀ j₀ sum j = (j ≤ count) × (pos sum ≡ total j (λ i. abs (fallAt image stride i)))
+Inv-loop image stride count weights sum₀ j₀ sum j = (j ≤ count) × (pos sum ≡ total j (variationAt (weightAt (pos 1) weights) image stride))
 
 abbrev μ-loop : tie.MeasureT-loop
-μ-loop image stride count sum₀ j₀ sum j = count - j
+μ-loop image stride count weights sum₀ j₀ sum j = count - j
 
 loop-holds : tie.Need-loop-holds Inv-loop μ-loop
 loop-holds c = (omega arith, sym (total-zero _))
+
+number-or-requires : tie.Need-number-or-requires Inv-loop μ-loop
+number-or-requires c κs = own-inside (c .before .before .pre .weights-limits) (omega arith)
+
+-- the weight of pair j
+own : (c : tie.After-number-or Inv-loop μ-loop) → let s = c .before .before .before in
+    toZ w32 (ofZ w32 (c .number-or .result)) ≡ weightAt (pos 1) (s .args .weights .now) (c .before .before .loop .j)
+own c = read w32 (c .number-or .ok) ∙ c .number-or .ensures
 
 mul-variation : tie.Need-mul-variation Inv-loop μ-loop
 mul-variation c = search needs
@@ -39,27 +50,29 @@ shared-slice-copy-out-variation-2 c = search needs
 
 variation-requires : tie.Need-variation-requires Inv-loop μ-loop
 variation-requires c κs =
-    let s = c .before .before .before .before in
-    let j = c .before .before .before .loop .j in
-    let k = j + s .args .stride in
-    let h = s .pre .image-most in
-    rw (element (s .args .image .now) h j, element (s .args .image .now) h k) (omega (arith, h j, h k))
-
--- the size of the fall at j
-size : (c : tie.After-variation Inv-loop μ-loop) → let s = c .before .before .before .before .before in c .variation .result ≡ natAbs (fallAt (s .args .image .now) (s .args .stride) (c .before .before .before .before .loop .j))
-size c =
     let s = c .before .before .before .before .before in
     let j = c .before .before .before .before .loop .j in
+    let k = j + s .args .stride in
     let h = s .pre .image-most in
-    c .variation .ensures ∙ rw (element (s .args .image .now) h j, element (s .args .image .now) h (j + s .args .stride))
+    rw (own (c .before .before), element (s .args .image .now) h j, element (s .args .image .now) h k)
+    (own-least (s .pre .weights-limits) (pos 1) (0≤pos 1) j, omega (arith, h j, h k))
+
+-- pair j's weight times the size of its fall
+term : (c : tie.After-variation Inv-loop μ-loop) → let s = c .before .before .before .before .before .before in
+    pos (c .variation .result) ≡ variationAt (weightAt (pos 1) (s .args .weights .now)) (s .args .image .now) (s .args .stride) (c .before .before .before .before .before .loop .j)
+term c =
+    let s = c .before .before .before .before .before .before in
+    let j = c .before .before .before .before .before .loop .j in
+    let h = s .pre .image-most in
+    c .variation .ensures ∙ rw (own (c .before .before .before), element (s .args .image .now) h j, element (s .args .image .now) h (j + s .args .stride))
 
 add-sum : tie.Need-add-sum Inv-loop μ-loop
 add-sum c =
-    let s = c .before .before .before .before .before in
-    let l = c .before .before .before .before .loop in
-    let h = s .pre .image-most in
-    let second : ℕ → ℕ = λ j. j + s .args .stride in
-    record { fits = omega (arith, s .pre, l .inv .0, ap natAbs (l .inv .1), variation-most (s .args .image .now) h (λ j. j) second (l .j), size c, fall-most (s .args .image .now) h (λ j. j) second (l .j)) }
+    let s = c .before .before .before .before .before .before in
+    let l = c .before .before .before .before .before .loop in
+    let weight = weightAt (pos 1) (s .args .weights .now) in
+    let most = variation-most (s .args .image .now) (s .pre .image-most) (λ j. j) (λ j. j + s .args .stride) weight (own-most (s .pre .weights-limits) (pos 1) (omega arith)) in
+    record { fits = omega (arith, s .pre .count-most, l .inv .0, ap natAbs (l .inv .1), natAbs-total (l .j) (variationAt weight (s .args .image .now) (s .args .stride)) (λ j _. most j), ap natAbs (term c), most (l .j)) }
 
 add-j : tie.Need-add-j Inv-loop μ-loop
 add-j c = search needs
@@ -68,7 +81,9 @@ loop-less : tie.Need-loop-less Inv-loop μ-loop
 loop-less c = search needs
 
 loop-again : tie.Need-loop-again Inv-loop μ-loop
-loop-again c = (omega arith, total-more _ (c .before .before .before .before .loop .j) (c .before .before .before .before .loop .inv .1) (ap pos (size c)))
+loop-again c =
+    let l = c .before .before .before .before .before .loop in
+    (omega arith, total-more _ (l .j) (l .inv .1) (term c))
 
 returns : tie.Need-returns Inv-loop μ-loop
 returns c =
@@ -82,6 +97,7 @@ total-variation-spec =
     Inv-loop
     μ-loop
     loop-holds
+    number-or-requires
     mul-variation
     shared-slice-copy-out-variation
     add-variation

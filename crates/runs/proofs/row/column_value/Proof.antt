@@ -11,17 +11,17 @@ use Rattle.runs.proofs.row.column_value.Tie as tie
 reading-requires : tie.Need-reading-requires
 reading-requires c κs = search needs
 
-number-at-requires : tie.Need-number-at-requires
-number-at-requires c κs = search needs
+number-or-requires : tie.Need-number-or-requires
+number-or-requires c κs = search needs
 
-number-at-requires-2 : tie.Need-number-at-requires-2
-number-at-requires-2 c κs = search needs
+number-or-requires-2 : tie.Need-number-or-requires-2
+number-or-requires-2 c κs = search needs
 
 pixel-value-requires : tie.Need-pixel-value-requires
 pixel-value-requires c κs =
     let s = c .before .before .before in
     let p = s .pre in
-    rw (read w32 {r = c .before .before .reading .result} (c .before .before .reading .ok), c .before .before .reading .ensures, read w32 {r = c .before .number-at .result} (c .before .number-at .ok), c .before .number-at .ensures, read w32 {r = c .number-at2 .result} (c .number-at2 .ok), c .number-at2 .ensures, toZ-ofZ w32 _ (s .fits .right), toZ-ofZ w32 _ (s .fits .left))
+    rw (read w32 {r = c .before .before .reading .result} (c .before .before .reading .ok), c .before .before .reading .ensures, read w32 {r = c .before .number-or .result} (c .before .number-or .ok), c .before .number-or .ensures, read w32 {r = c .number-or2 .result} (c .number-or2 .ok), c .number-or2 .ensures, toZ-ofZ w32 _ (s .fits .right), toZ-ofZ w32 _ (s .fits .left))
     (record {
       reading-most = omega (arith, reading-most (s .fits .sample .fits));
       below-most = p .below-most (s .args .c);
@@ -33,14 +33,14 @@ pixel-value-requires c κs =
 returns : tie.Need-returns
 returns c =
     let s = c .before .before .before .before in
-    rw (read w32 {r = c .pixel-value .result} (c .pixel-value .ok), c .pixel-value .ensures, read w32 {r = c .before .before .before .reading .result} (c .before .before .before .reading .ok), c .before .before .before .reading .ensures, read w32 {r = c .before .before .number-at .result} (c .before .before .number-at .ok), c .before .before .number-at .ensures, read w32 {r = c .before .number-at2 .result} (c .before .number-at2 .ok), c .before .number-at2 .ensures, toZ-ofZ w32 _ (s .fits .right), toZ-ofZ w32 _ (s .fits .left), toZ-ofZ w32 _ (s .fits .low), toZ-ofZ w32 _ (s .fits .high))
+    rw (read w32 {r = c .pixel-value .result} (c .pixel-value .ok), c .pixel-value .ensures, read w32 {r = c .before .before .before .reading .result} (c .before .before .before .reading .ok), c .before .before .before .reading .ensures, read w32 {r = c .before .before .number-or .result} (c .before .before .number-or .ok), c .before .before .number-or .ensures, read w32 {r = c .before .number-or2 .result} (c .before .number-or2 .ok), c .before .number-or2 .ensures, toZ-ofZ w32 _ (s .fits .right), toZ-ofZ w32 _ (s .fits .left), toZ-ofZ w32 _ (s .fits .low), toZ-ofZ w32 _ (s .fits .high))
 
 pub column-value-spec : {M : Type 1} → statement M
 column-value-spec =
     tie.close
     (tie.spec
     reading-requires
-    number-at-requires
-    number-at-requires-2
+    number-or-requires
+    number-or-requires-2
     pixel-value-requires
     returns)

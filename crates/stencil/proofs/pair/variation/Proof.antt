@@ -1,15 +1,24 @@
 -- `stencil::pair::variation` meets its contract. Assumes nothing.
-use mathlib.Core.Path.{ap, _∙_}
+use mathlib.Core.Path.{_≡_, ap, ap₂, _∙_}
+use Prim.Native.Nat.{ℕ, _*_, _^_, _≤_, _<_, _-_}
+use native.Mathlib.Nat.{mul-le-mul}
+use native.Mathlib.Omega.{arith}
 use borrow.Author.Needs.{needs}
-use lib.IntN.{natAbs, _-ℤ_}
+use lib.IntN.{ℤ, pos, natAbs, _-ℤ_, _*ℤ_}
 use mir.Syntax.{w32}
 use mir.ValLaws.{toZ-ofZ}
+use Rattle.integers.specs.Whole.{abs}
 use Rattle.integers.proofs.Machine.{called₂}
+use Rattle.integers.proofs.Order.{pos-natAbs-nonneg}
 use Rattle.stencil.proofs.pair.variation.Statement.{statement}
 use Rattle.stencil.proofs.pair.variation.Tie as tie
 
-sub-requires : tie.Need-sub-requires
-sub-requires c κs = search needs
+-- the product of two numbers of 32 bits
+small : {m n : ℕ} → m < 2 ^ 32 → n < 2 ^ 32 → m * n < 2 ^ 64
+small {m} {n} h k =
+    let a : m ≤ 2 ^ 32 - 1 = omega arith in
+    let b : n ≤ 2 ^ 32 - 1 = omega arith in
+    omega (arith, mul-le-mul a b)
 
 magnitude-requires : tie.Need-magnitude-requires
 magnitude-requires c κs = search needs
@@ -17,11 +26,35 @@ magnitude-requires c κs = search needs
 cast-result : tie.Need-cast-result
 cast-result c = search needs
 
+sub-requires : tie.Need-sub-requires
+sub-requires c κs = search needs
+
+magnitude-requires-2 : tie.Need-magnitude-requires-2
+magnitude-requires-2 c κs = search needs
+
+cast-result-2 : tie.Need-cast-result-2
+cast-result-2 c = search needs
+
+mul-result : tie.Need-mul-result
+mul-result c = record { fits = small (c .before .before .magnitude .ok) (c .magnitude2 .ok) }
+
 returns : tie.Need-returns
 returns c =
-    let s = c .before .before in
-    c .magnitude .ensures
-    ∙ ap natAbs (called₂ w32 (c .before .sub .ok) _-ℤ_ (c .before .sub .ensures) (toZ-ofZ w32 _ (s .fits .x)) (toZ-ofZ w32 _ (s .fits .y)))
+    let s = c .before .before .before in
+    ap₂ (λ (a b : ℕ). pos a *ℤ pos b)
+    (c .before .before .magnitude .ensures ∙ ap natAbs (toZ-ofZ w32 _ (s .fits .weight)))
+    (c .magnitude2 .ensures
+    ∙ ap natAbs (called₂ w32 (c .before .sub .ok) _-ℤ_ (c .before .sub .ensures) (toZ-ofZ w32 _ (s .fits .x)) (toZ-ofZ w32 _ (s .fits .y))))
+    ∙ ap (λ (z : ℤ). z *ℤ abs (s .args .x -ℤ s .args .y)) (pos-natAbs-nonneg (s .pre .0))
 
 pub variation-spec : {M : Type 1} → statement M
-variation-spec = tie.close (tie.spec sub-requires magnitude-requires cast-result returns)
+variation-spec =
+    tie.close
+    (tie.spec
+    magnitude-requires
+    cast-result
+    sub-requires
+    magnitude-requires-2
+    cast-result-2
+    mul-result
+    returns)
