@@ -150,10 +150,10 @@ at-end w h f i d end =
     (total-cong (h * (w - 1)) (λ k l. ap (λ (q : Pair). cond (eqb (end q) i) (f (w * (h - 1) + k)) (pos 0)) (horizontal-at w h d k l)))
 
 -- The pull on the pixel at a row and a column is what the stencil gathers
-pub pull-gathered : (t : Terms) (samples : List ℕ) (f : ℕ → ℤ) (row column : ℕ) → row < t .height → column < t .width →
-    pull (grid t samples) f (pixel (t .width) row column) ≡ gathered (t .width) (t .height) f row column
+pub pull-gathered : (t : Terms) (samples : List ℕ) (weights : List ℤ) (f : ℕ → ℤ) (row column : ℕ) → row < t .height → column < t .width →
+    pull (grid t samples weights) f (pixel (t .width) row column) ≡ gathered (t .width) (t .height) f row column
 unfolding pull gathered
-pull-gathered t samples f row column r c =
+pull-gathered t samples weights f row column r c =
     let w : ℕ = t .width in
     let h : ℕ = t .height in
     let d : Pair = record { first = 0; second = 0 } in

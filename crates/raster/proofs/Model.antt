@@ -1,7 +1,7 @@
 -- What the passes leave is what the model defines, on document 01's grid. Assumes nothing.
 use mathlib.Core.Path.{_≡_, sym, ap, ap₂, _∙_}
 use mathlib.Core.Bool.{not}
-use mathlib.Core.List.{List}
+use mathlib.Core.List.{List, []}
 use Prim.Native.Nat.{ℕ, _*_, _/_, _%_, _<_}
 use native.Mathlib.Nat.{div-add-mod', div-lt-iff-lt-mul, mod-lt}
 use native.Mathlib.Omega.{arith}
@@ -16,17 +16,20 @@ use Rattle.model.specs.Problem.{pairCount, firstOf, secondOf, fall, misfit, pul
 use Rattle.model.specs.Grid.{readingOf, lowEnd, highEnd, grid}
 use Rattle.model.specs.Rounds.{stepped, step, wouldMove, firstMoving}
 use Rattle.model.specs.Calls.{imageOf}
+use Rattle.model.specs.Accepted.{WeightsAllowed}
 use Rattle.model.proofs.Answers.{held-image}
+use Rattle.model.proofs.Weights.{weight-is}
 use Rattle.model.proofs.Lists.{firstWhere-cong}
 use Rattle.model.proofs.Pairs.{neighbours, first-inside, second-inside}
 use Rattle.runs.specs.Ends.{BoxEnds}
+use Rattle.runs.specs.Run.{weightAt}
 use Rattle.primal.specs.Image.{imageValue}
 use Rattle.stencil.specs.Pair.{stepValue}
 use Rattle.raster.specs.Whole.{gridStep, gridMoves, gridFall}
 use Rattle.runs.proofs.Fill.{table-cong}
 use Rattle.primal.proofs.Stencil.{pull-gathered}
 
-module _ (t : Terms) (samples : List ℕ) where
+module _ (t : Terms) (samples : List ℕ) (weights : List ℤ) where
   -- pixel i at its row and column
   placed : (i : ℕ) → i < t .width * t .height → (i / t .width < t .height) × (i % t .width < t .width)
   placed i l = (div-lt-iff-lt-mul broad .1 (omega arith), mod-lt i broad)
@@ -44,43 +47,43 @@ module _ (t : Terms) (samples : List ℕ) where
   unfolding imageOf image
   image-is flow ends = rw (ends .low-is, ends .high-is) (table-cong (t .width * t .height) (λ i l.
       ap (λ (q : ℤ). clamp (lowEnd (t .low)) (highEnd (t .high)) (readingOf (getD samples i 0) -ℤ q))
-      (sym (pull-gathered t samples (at flow) (i / t .width) (i % t .width) (placed i l .0) (placed i l .1))
-      ∙ ap (pull (grid t samples) (at flow)) (div-add-mod' i (t .width)))))
+      (sym (pull-gathered t samples [] (at flow) (i / t .width) (i % t .width) (placed i l .0) (placed i l .1))
+      ∙ ap (pull (grid t samples []) (at flow)) (div-add-mod' i (t .width)))))
 
   module _ (flow : List ℤ) {values : List ℤ} (e : values ≡ imageOf t samples flow) where
-    value-at : (i : ℕ) → i < t .width * t .height → at values i ≡ image (grid t samples) (at flow) i
-    value-at = held-image t samples flow e
+    value-at : (i : ℕ) → i < t .width * t .height → at values i ≡ image (grid t samples weights) (at flow) i
+    value-at = held-image t samples weights flow e
 
     -- the falls of the flow's image
-    pub fall-is : (j : ℕ) → j < pairCount (grid t samples) → gridFall (t .width) (t .height) values j ≡ fall (grid t samples) (image (grid t samples) (at flow)) j
+    pub fall-is : (j : ℕ) → j < pairCount (grid t samples weights) → gridFall (t .width) (t .height) values j ≡ fall (grid t samples weights) (image (grid t samples weights) (at flow)) j
     unfolding fall
     fall-is j l =
         let n = neighbours (t .width) (t .height) j _ l in
-        ap₂ (λ (a b : ℤ). a -ℤ b) (value-at (firstOf (grid t samples) j) (first-inside (t .width) (t .height) _ n)) (value-at (secondOf (grid t samples) j) (second-inside (t .width) (t .height) _ n))
+        ap₂ (λ (a b : ℤ). a -ℤ b) (value-at (firstOf (grid t samples weights) j) (first-inside (t .width) (t .height) _ n)) (value-at (secondOf (grid t samples weights) j) (second-inside (t .width) (t .height) _ n))
 
-    module _ (share : ℤ → ℤ) where
+    module _ (share : ℤ → ℤ) (own : WeightsAllowed t weights) where
       -- a pair's number after a step
-      pub step-is : (j : ℕ) → j < pairCount (grid t samples) → gridStep share (t .width) (t .height) (pos (t .weight)) flow values j ≡ stepped share (grid t samples) (at flow) j
+      pub step-is : (j : ℕ) → j < pairCount (grid t samples weights) → gridStep share (t .width) (t .height) (weightAt (pos (t .weight)) weights) flow values j ≡ stepped share (grid t samples weights) (at flow) j
       unfolding stepValue stepped
-      step-is j l = ap (λ (d : ℤ). clamp (negℤ (pos (t .weight))) (pos (t .weight)) (at flow j +ℤ share d)) (fall-is j l)
+      step-is j l = ap₂ (λ (w d : ℤ). clamp (negℤ w) w (at flow j +ℤ share d)) (sym (weight-is t weights own j)) (fall-is j l)
 
       -- A step on the flow
-      pub stepped-is : table (pairCount (grid t samples)) (gridStep share (t .width) (t .height) (pos (t .weight)) flow values) ≡ step share (grid t samples) flow
+      pub stepped-is : table (pairCount (grid t samples weights)) (gridStep share (t .width) (t .height) (weightAt (pos (t .weight)) weights) flow values) ≡ step share (grid t samples weights) flow
       unfolding step
-      stepped-is = table-cong (pairCount (grid t samples)) step-is
+      stepped-is = table-cong (pairCount (grid t samples weights)) step-is
 
       -- The first pair that would move
-      pub moving-is : firstWhere (pairCount (grid t samples)) (gridMoves share (t .width) (t .height) (pos (t .weight)) flow values) ≡ firstMoving share (grid t samples) (at flow)
+      pub moving-is : firstWhere (pairCount (grid t samples weights)) (gridMoves share (t .width) (t .height) (weightAt (pos (t .weight)) weights) flow values) ≡ firstMoving share (grid t samples weights) (at flow)
       unfolding firstMoving wouldMove
-      moving-is = firstWhere-cong (pairCount (grid t samples)) (λ j l. ap (λ (z : ℤ). not (sameZ z (at flow j))) (step-is j l))
+      moving-is = firstWhere-cong (pairCount (grid t samples weights)) (λ j l. ap (λ (z : ℤ). not (sameZ z (at flow j))) (step-is j l))
 
     -- The sums of price and floor
-    pub variation-is : total (pairCount (grid t samples)) (λ j. abs (gridFall (t .width) (t .height) values j)) ≡ total (pairCount (grid t samples)) (λ j. abs (fall (grid t samples) (image (grid t samples) (at flow)) j))
-    variation-is = total-cong (pairCount (grid t samples)) (λ j l. ap abs (fall-is j l))
+    pub variation-is : total (pairCount (grid t samples weights)) (λ j. abs (gridFall (t .width) (t .height) values j)) ≡ total (pairCount (grid t samples weights)) (λ j. abs (fall (grid t samples weights) (image (grid t samples weights) (at flow)) j))
+    variation-is = total-cong (pairCount (grid t samples weights)) (λ j l. ap abs (fall-is j l))
 
-    pub work-is : total (pairCount (grid t samples)) (λ j. at flow j *ℤ gridFall (t .width) (t .height) values j) ≡ total (pairCount (grid t samples)) (λ j. at flow j *ℤ fall (grid t samples) (image (grid t samples) (at flow)) j)
-    work-is = total-cong (pairCount (grid t samples)) (λ j l. ap (λ (d : ℤ). at flow j *ℤ d) (fall-is j l))
+    pub work-is : total (pairCount (grid t samples weights)) (λ j. at flow j *ℤ gridFall (t .width) (t .height) values j) ≡ total (pairCount (grid t samples weights)) (λ j. at flow j *ℤ fall (grid t samples weights) (image (grid t samples weights) (at flow)) j)
+    work-is = total-cong (pairCount (grid t samples weights)) (λ j l. ap (λ (d : ℤ). at flow j *ℤ d) (fall-is j l))
 
-    pub misfit-is : total (t .width * t .height) (λ i. square (at values i -ℤ readingOf (getD samples i 0))) ≡ misfit (grid t samples) (image (grid t samples) (at flow))
+    pub misfit-is : total (t .width * t .height) (λ i. square (at values i -ℤ readingOf (getD samples i 0))) ≡ misfit (grid t samples weights) (image (grid t samples weights) (at flow))
     unfolding misfit
     misfit-is = total-cong (t .width * t .height) (λ i l. ap (λ (v : ℤ). square (v -ℤ readingOf (getD samples i 0))) (value-at i l))

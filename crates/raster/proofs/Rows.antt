@@ -3,16 +3,19 @@
 use mathlib.Core.Path.{_≡_, sym, ap, ap₂, _∙_, subst}
 use mathlib.Core.List.{List, _++_}
 use Prim.Native.Nat.{ℕ, suc, _+_, _-_, _*_, _≤_, _<_, zero-le}
-use native.Mathlib.Nat.{mul-le-mul-right}
+use native.Mathlib.Nat.{mul-le-mul-right, zero-add}
 use native.Mathlib.Decide.{decLt}
 use native.Mathlib.Omega.{arith}
 use lib.IntN.{ℤ, pos, natAbs}
 use lib.ListN.{length, getD, take, drop, length-take, length-drop, List·getD-eq-default}
+use lib.Signed.{_≤ℤ_}
 use lib.Seq.{getD-take, getD-drop, drop-at, drop-drop}
 use borrow.Rule.Slice.PartMut.{putMid}
+use Rattle.integers.proofs.Order.{0≤pos}
 use Rattle.model.specs.Lists.{at, table}
 use Rattle.model.proofs.Lists.{length-table}
-use Rattle.runs.specs.Limits.{Within}
+use Rattle.runs.specs.Limits.{Within, WeightLimits}
+use Rattle.runs.specs.Run.{weightAt}
 use Rattle.raster.specs.Whole.{rowPixel}
 use Rattle.runs.proofs.Fill.{filled, filled-part}
 use Rattle.primal.proofs.Stencil.{horizontal-here}
@@ -53,14 +56,38 @@ module _ {A : Type 0} where
 pub drop-within : {k : ℕ} (a : ℕ) (l : List ℤ) → Within k l → Within k (drop a l)
 drop-within {k} a l h i = subst (λ (z : ℤ). natAbs z ≤ k) (sym (getD-drop a l i (pos 0))) (h (a + i))
 
-pub part-within : {k : ℕ} (a n : ℕ) (l : List ℤ) → Within k l → Within k (take n (drop a l))
-part-within {k} a n l h i = by (decLt i n)
+-- what holds of 0 and of every number holds of every number of a part
+part-by : (P : ℤ → Type 0) → P (pos 0) → (a n : ℕ) (l : List ℤ) → ((i : ℕ) → P (at l i)) → (i : ℕ) → P (at (take n (drop a l)) i)
+part-by P none a n l h i = by (decLt i n)
   where
-    by : Dec (i < n) → natAbs (at (take n (drop a l)) i) ≤ k
-    by (yes b) = subst (λ (z : ℤ). natAbs z ≤ k) (sym (part-at a n l i (pos 0) b)) (h (a + i))
-    by (no g) =
-        subst (λ (z : ℤ). natAbs z ≤ k)
-        (sym (List·getD-eq-default (take n (drop a l)) (pos 0) {n = i} (simp length-take (omega (arith, g))))) zero-le
+    by : Dec (i < n) → P (at (take n (drop a l)) i)
+    by (yes b) = subst P (sym (part-at a n l i (pos 0) b)) (h (a + i))
+    by (no g) = subst P (sym (List·getD-eq-default (take n (drop a l)) (pos 0) {n = i} (simp length-take (omega (arith, g))))) none
+
+pub part-within : {k : ℕ} (a n : ℕ) (l : List ℤ) → Within k l → Within k (take n (drop a l))
+part-within {k} a n l h = part-by (λ z. natAbs z ≤ k) zero-le a n l h
+
+-- the weights of n of m pairs, from a on, as `part_of` gives them
+pub part-weights : {m : ℕ} {weights : List ℤ} → WeightLimits m weights → (a n : ℕ) → a + n ≤ m → WeightLimits n (take n (drop a weights))
+part-weights {m} {weights} w a n h =
+    record {
+      lent = λ p. whole p (decLt 0 (length weights));
+      least = part-by (λ z. pos 0 ≤ℤ z) (0≤pos 0) a n weights (w .least);
+      most = part-within a n weights (w .most);
+    }
+  where
+    whole : 0 < length (take n (drop a weights)) → Dec (0 < length weights) → length (take n (drop a weights)) ≡ n
+    whole p (yes q) = part-length a n weights (omega (arith, w .lent q))
+    whole p (no g) =
+        let s : length (take n (drop a weights)) ≤ length weights = simp (length-take, length-drop) (omega arith) in
+        absurd (omega (arith, g))
+
+pub part-weight : (weight : ℤ) (weights : List ℤ) (a n k : ℕ) → k < n → weightAt weight (take n (drop a weights)) k ≡ weightAt weight weights (a + k)
+part-weight weight weights a n k b = part-at a n weights k weight b
+
+-- .. from the first on
+pub front-weight : (weight : ℤ) (weights : List ℤ) (n k : ℕ) → k < n → weightAt weight (take n (drop 0 weights)) k ≡ weightAt weight weights k
+front-weight weight weights n k b = part-weight weight weights 0 n k b ∙ ap (weightAt weight weights) (zero-add k)
 
 -- ---- the horizontal pairs of a row of w pixels
 

@@ -9,11 +9,12 @@ use lib.IntN.{ℤ, pos}
 use lib.ListN.{length, take, drop, length-drop}
 use lib.Seq.{length-take-le, getD-take, getD-drop}
 use Rattle.model.specs.Lists.{at}
-use Rattle.runs.specs.Limits.{Within, StepLimits, VariationLimits, FallLimits}
+use Rattle.runs.specs.Limits.{Within, WeightLimits, StepLimits, VariationLimits, FallLimits}
 use Rattle.raster.specs.Whole.{firstPixel, secondPixel, rowPixel, AcrossLimits, GridLimits, GridSize, RasterLimits, WorkLimits}
 use Rattle.model.specs.Grid.{gridPairs}
+use Rattle.model.proofs.Pairs.{grid-count}
 use Rattle.runs.proofs.Fill.{filled}
-use Rattle.raster.proofs.Rows.{row-end, part-count, part-at, part-length, part-within, drop-within, rest-is, row-pixel}
+use Rattle.raster.proofs.Rows.{row-end, part-count, part-at, part-length, part-within, part-weights, drop-within, rest-is, row-pixel}
 use Rattle.raster.proofs.Whole.{vertical, vertical-first, vertical-second, horizontal-first, horizontal-second, vertical-sides, pairs-most, vertical-most, vertical-reach, rest-all}
 
 -- ---- parts of buffers
@@ -65,34 +66,40 @@ lent-rest l a n h = rest l a n h (rest-all a l)
 
 -- ---- what a run is lent is within its limits
 
-module _ {w h : ℕ} {weight : ℤ} {flow image : List ℤ} where
-  pub row-limits : AcrossLimits w h weight flow image → {start first : ℕ} {part pixels : List ℤ} → Stretch flow start (w - 1) part → Stretch image first w pixels →
-      StepLimits part pixels 1 weight
-  row-limits p s t =
+module _ {w h : ℕ} {weight : ℤ} {weights flow image : List ℤ} where
+  pub row-limits : AcrossLimits w h weight weights flow image → {start first : ℕ} {part pixels : List ℤ} → length flow ≡ h * (w - 1) → Stretch flow start (w - 1) part → Stretch image first w pixels →
+      StepLimits part pixels 1 weight (take (w - 1) (drop start weights))
+  row-limits p {start} n s t =
       record {
         reach = omega (arith, p .width-least, s .size, t .size);
         weight-most = p .weight-most;
+        weights-limits = rw (s .size) (part-weights (p .weights-limits) start (w - 1) (omega (arith, s .inside, n)));
         flow-most = s .within (p .flow-most);
         image-most = t .within (p .image-most);
       }
 
-  module _ (p : GridLimits w h weight flow image) where
-    pub vertical-limits : StepLimits (take (vertical w h) flow) image w weight
+  module _ (p : GridLimits w h weight weights flow image) where
+    pub vertical-limits : StepLimits (take (vertical w h) flow) image w weight (take (vertical w h) (drop 0 weights))
     vertical-limits =
         record {
           reach = rw (length-take-le (vertical w h) flow (vertical-most (p .size))) (le-of-eq (vertical-reach (p .size)));
           weight-most = p .weight-most;
+          weights-limits =
+              rw (length-take-le (vertical w h) flow (vertical-most (p .size)))
+              (part-weights (p .weights-limits) 0 (vertical w h) (omega (arith, grid-count w h)));
           flow-most = part-within 0 (vertical w h) flow (p .flow-most);
           image-most = p .image-most;
         }
 
-    pub horizontal-limits : {part : List ℤ} → Stretch flow (vertical w h) (h * (w - 1)) part → AcrossLimits w h weight part image
+    pub horizontal-limits : {part : List ℤ} → Stretch flow (vertical w h) (h * (w - 1)) part →
+        AcrossLimits w h weight (take (h * (w - 1)) (drop (vertical w h) weights)) part image
     horizontal-limits s =
         record {
           width-least = p .size .width-least;
           flow-length = s .size;
           image-length = p .size .image-length;
           weight-most = p .weight-most;
+          weights-limits = part-weights (p .weights-limits) (vertical w h) (h * (w - 1)) (omega (arith, grid-count w h));
           flow-most = s .within (p .flow-most);
           image-most = p .image-most;
         }
@@ -138,9 +145,22 @@ module _ {w h : ℕ} {flow image : List ℤ} (p : WorkLimits w h (length (gridPa
   pub horizontal-work : {part : List ℤ} → Stretch flow (vertical w h) (h * (w - 1)) part → WorkLimits w h (h * (w - 1)) part image
   horizontal-work s = record { raster = p .raster; flow-length = s .size; flow-most = s .within (p .flow-most) }
 
--- ---- one pair: a function of its number and its pixels' values
+-- ---- one pair: a function of its numbers (of the flow, its weight, or both) and its pixels' values
 
-module _ {A : Type 0} (f : ℤ → ℤ → ℤ → A) {m n : ℤ} (p : m ≡ n) where
+-- a pair's weight and its number of the flow
+abbrev pub Both : Type 0
+Both = ℤ × ℤ
+
+abbrev pub both : (ℕ → ℤ) → List ℤ → ℕ → Both
+both weight flow j = (weight j, at flow j)
+
+abbrev pub byBoth : {A : Type 0} → (ℤ → ℤ → ℤ → ℤ → A) → Both → ℤ → ℤ → A
+byBoth f q = f (q .0) (q .1)
+
+pub both-are : {a b c d : ℤ} → a ≡ b → c ≡ d → _≡_ {A = Both} (a, c) (b, d)
+both-are p q = λ i. (p i, q i)
+
+module _ {A X : Type 0} (f : X → ℤ → ℤ → A) {m n : X} (p : m ≡ n) where
   pair-cong : {x x′ y y′ : ℤ} → x ≡ x′ → y ≡ y′ → f m x y ≡ f n x′ y′
   pair-cong q r = λ i. f (p i) (q i) (r i)
 
@@ -163,27 +183,26 @@ module _ {A : Type 0} (f : ℤ → ℤ → ℤ → A) {m n : ℤ} (p : m ≡ n) 
 
 -- ---- a pass: a table, a sum or a search over n pairs
 
-module _ {A B : Type 0} (pass : ℕ → (ℕ → A) → B) (cong : (n : ℕ) (g g′ : ℕ → A) → ((i : ℕ) → i < n → g i ≡ g′ i) → pass n g ≡ pass n g′)
-    (f : ℤ → ℤ → ℤ → A)
+module _ {A B X : Type 0} (pass : ℕ → (ℕ → A) → B) (cong : (n : ℕ) (g g′ : ℕ → A) → ((i : ℕ) → i < n → g i ≡ g′ i) → pass n g ≡ pass n g′)
+    (f : X → ℤ → ℤ → A) (part number : ℕ → X)
   where
     sized : {size : ℕ} (n : ℕ) {g g′ : ℕ → A} → size ≡ n → ((i : ℕ) → i < n → g i ≡ g′ i) → pass size g ≡ pass n g′
     sized n {g} {g′} e h = ap (λ (k : ℕ). pass k g) e ∙ cong n g g′ h
 
-    pub row-run : {w start first : ℕ} {flow image part pixels : List ℤ} (row : ℕ) → start ≡ row * (w - 1) → first ≡ row * w →
-        Stretch flow start (w - 1) part → Stretch image first w pixels →
-        pass (length part) (λ k. f (at part k) (at pixels k) (at pixels (k + 1)))
-        ≡ pass (w - 1) (λ k. f (at flow (start + k)) (at image (rowPixel w (start + k))) (at image (rowPixel w (start + k) + 1)))
-    row-run {w} row q r s t = sized (w - 1) (s .size) (λ k b. row-pair f (s .number k b) row q r t k b)
+    -- one row: its part of the numbers is theirs from `start` on
+    pub row-run : {w start first size : ℕ} {image pixels : List ℤ} (row : ℕ) → start ≡ row * (w - 1) → first ≡ row * w →
+        size ≡ w - 1 → ((k : ℕ) → k < w - 1 → part k ≡ number (start + k)) → Stretch image first w pixels →
+        pass size (λ k. f (part k) (at pixels k) (at pixels (k + 1)))
+        ≡ pass (w - 1) (λ k. f (number (start + k)) (at image (rowPixel w (start + k))) (at image (rowPixel w (start + k) + 1)))
+    row-run {w} row q r e same t = sized (w - 1) e (λ k b. row-pair f (same k b) row q r t k b)
 
-    module _ (w h : ℕ) (flow image : List ℤ) where
-      pub vertical-run : vertical w h ≤ length flow →
-          pass (length (take (vertical w h) flow)) (λ j. f (at (take (vertical w h) flow) j) (at image j) (at image (j + w)))
-          ≡ pass (vertical w h) (λ j. f (at flow j) (at image (firstPixel w h j)) (at image (secondPixel w h j)))
-      vertical-run l =
-          sized (vertical w h) (length-take-le (vertical w h) flow l) (λ j b.
-          vertical-pair f (getD-take (vertical w h) flow j (pos 0) b) w h image j b)
+    module _ (w h : ℕ) (image : List ℤ) {size : ℕ} where
+      pub vertical-run : size ≡ vertical w h → ((j : ℕ) → j < vertical w h → part j ≡ number j) →
+          pass size (λ j. f (part j) (at image j) (at image (j + w)))
+          ≡ pass (vertical w h) (λ j. f (number j) (at image (firstPixel w h j)) (at image (secondPixel w h j)))
+      vertical-run e same = sized (vertical w h) e (λ j b. vertical-pair f (same j b) w h image j b)
 
-      pub horizontal-run : {part : List ℤ} → Stretch flow (vertical w h) (h * (w - 1)) part →
-          pass (length part) (λ k. f (at part k) (at image (rowPixel w k)) (at image (rowPixel w k + 1)))
-          ≡ pass (h * (w - 1)) (λ k. f (at flow (vertical w h + k)) (at image (firstPixel w h (vertical w h + k))) (at image (secondPixel w h (vertical w h + k))))
-      horizontal-run s = sized (h * (w - 1)) (s .size) (λ k b. horizontal-pair f (s .number k b) w h image k b)
+      pub horizontal-run : size ≡ h * (w - 1) → ((k : ℕ) → k < h * (w - 1) → part k ≡ number (vertical w h + k)) →
+          pass size (λ k. f (part k) (at image (rowPixel w k)) (at image (rowPixel w k + 1)))
+          ≡ pass (h * (w - 1)) (λ k. f (number (vertical w h + k)) (at image (firstPixel w h (vertical w h + k))) (at image (secondPixel w h (vertical w h + k))))
+      horizontal-run e same = sized (h * (w - 1)) e (λ k b. horizontal-pair f (same k b) w h image k b)

@@ -4,37 +4,47 @@ use mathlib.Core.Path.{_≡_, sym, ap, _∙_, subst}
 use mathlib.Core.List.{List}
 use Prim.Native.Nat.{ℕ, _+_, _-_, _*_, _≤_}
 use native.Mathlib.Nat.{le-of-eq}
-use lib.IntN.{ℤ, natAbs, negℤ, _+ℤ_, _-ℤ_}
-use lib.ListN.{length, take}
+use lib.IntN.{ℤ, pos, natAbs, negℤ, _+ℤ_, _-ℤ_}
+use lib.ListN.{length, take, drop}
+use lib.Seq.{length-take-le, getD-take}
 use borrow.Rule.Slice.PartMut.{putMid}
 use Rattle.integers.proofs.Order.{≤ℤ-trans, negℤ-mono}
 use Rattle.integers.proofs.Absolute.{natAbs-neg, ≤-abs, bounds→natAbs}
 use Rattle.integers.proofs.Clamp.{Place, below, above, inside, clamp-place}
 use Rattle.model.specs.Lists.{table}
 use Rattle.stencil.specs.Pair.{stepValue}
-use Rattle.runs.specs.Run.{stepAt}
+use Rattle.runs.specs.Run.{weightAt, stepAt}
 use Rattle.raster.specs.Whole.{rowStep, gridStep}
 use Rattle.runs.proofs.Fill.{filled, table-cong}
-use Rattle.raster.proofs.Rows.{put-part}
+use Rattle.raster.proofs.Rows.{put-part, part-weight, front-weight}
 use Rattle.raster.proofs.Whole.{vertical}
-use Rattle.raster.proofs.Runs.{Stretch, row-run, vertical-run, horizontal-run}
+use Rattle.raster.proofs.Runs.{Stretch, both, byBoth, both-are, row-run, vertical-run, horizontal-run}
 
-module _ (share : ℤ → ℤ) {w start first : ℕ} (row : ℕ) (weight : ℤ) (flow image : List ℤ) where
-  pub row-stepped : {now part pixels stepped : List ℤ} → now ≡ filled start (rowStep share w weight flow image) flow →
+module _ (share : ℤ → ℤ) {w start first : ℕ} (row : ℕ) (weight : ℤ) (weights flow image : List ℤ) where
+  pub row-stepped : {now part pixels stepped : List ℤ} → now ≡ filled start (rowStep share w (weightAt weight weights) flow image) flow →
       start ≡ row * (w - 1) → first ≡ row * w → Stretch flow start (w - 1) part → Stretch image first w pixels →
-      stepped ≡ table (length part) (stepAt share weight part pixels 1) →
-      putMid start (start + (w - 1) - start) now stepped ≡ filled (start + (w - 1)) (rowStep share w weight flow image) flow
+      stepped ≡ table (length part) (stepAt share (weightAt weight (take (w - 1) (drop start weights))) part pixels 1) →
+      putMid start (start + (w - 1) - start) now stepped ≡ filled (start + (w - 1)) (rowStep share w (weightAt weight weights) flow image) flow
   row-stepped p q r s t e =
-      put-part start (w - 1) (rowStep share w weight flow image) flow p (e ∙ row-run table (λ n _ _. table-cong n) (stepValue share weight) row q r s t)
+      put-part start (w - 1) (rowStep share w (weightAt weight weights) flow image) flow p
+      (e ∙ row-run table (λ n _ _. table-cong n) (byBoth (stepValue share)) _ (both (weightAt weight weights) flow) row q r (s .size)
+      (λ k b. both-are (part-weight weight weights start (w - 1) k b) (s .number k b)) t)
 
-module _ (share : ℤ → ℤ) (w h : ℕ) (weight : ℤ) (flow image : List ℤ) where
+module _ (share : ℤ → ℤ) (w h : ℕ) (weight : ℤ) (weights flow image : List ℤ) where
   pub vertical-stepped : vertical w h ≤ length flow →
-      table (length (take (vertical w h) flow)) (stepAt share weight (take (vertical w h) flow) image w) ≡ table (vertical w h) (gridStep share w h weight flow image)
-  vertical-stepped = vertical-run table (λ n _ _. table-cong n) (stepValue share weight) w h flow image
+      table (length (take (vertical w h) flow)) (stepAt share (weightAt weight (take (vertical w h) (drop 0 weights))) (take (vertical w h) flow) image w)
+      ≡ table (vertical w h) (gridStep share w h (weightAt weight weights) flow image)
+  vertical-stepped l =
+      vertical-run table (λ n _ _. table-cong n) (byBoth (stepValue share)) _ (both (weightAt weight weights) flow) w h image
+      (length-take-le (vertical w h) flow l)
+      (λ j b. both-are (front-weight weight weights (vertical w h) j b) (getD-take (vertical w h) flow j (pos 0) b))
 
   pub horizontal-stepped : {part : List ℤ} → Stretch flow (vertical w h) (h * (w - 1)) part →
-      table (length part) (rowStep share w weight part image) ≡ table (h * (w - 1)) (λ k. gridStep share w h weight flow image (vertical w h + k))
-  horizontal-stepped = horizontal-run table (λ n _ _. table-cong n) (stepValue share weight) w h flow image
+      table (length part) (rowStep share w (weightAt weight (take (h * (w - 1)) (drop (vertical w h) weights))) part image)
+      ≡ table (h * (w - 1)) (λ k. gridStep share w h (weightAt weight weights) flow image (vertical w h + k))
+  horizontal-stepped s =
+      horizontal-run table (λ n _ _. table-cong n) (byBoth (stepValue share)) _ (both (weightAt weight weights) flow) w h image
+      (s .size) (λ k b. both-are (part-weight weight weights (vertical w h) (h * (w - 1)) k b) (s .number k b))
 
 -- A stepped number is no larger than the weight
 pub step-most : (share : ℤ → ℤ) (weight f x y : ℤ) → natAbs (stepValue share weight f x y) ≤ natAbs weight

@@ -1,36 +1,45 @@
 // Passes over all pairs of a raster: the vertical pairs are one run, the horizontal pairs of each
-// row another.
+// row another. The weights of the pairs may be none: then all of them have the weight lent beside.
 
 use integers::signed;
 use runs::pairs;
 use runs::pairs::Moving;
+use runs::part::part_of;
 ghost use Prim.Native.Nat.{_+_, _-_, _*_};
 ghost use mathlib.Core.Path.{_≡_};
 ghost use lib.IntN.{pos, _*ℤ_};
 ghost use lib.ListN.{length};
-ghost use Rattle.integers.specs.Whole.{abs};
 ghost use Rattle.integers.specs.Sum.{total};
 ghost use Rattle.model.specs.Lists.{at, table, firstWhere};
 ghost use Rattle.model.specs.Grid.{gridPairs};
 ghost use Rattle.model.specs.Rounds.{nearestEighth};
-ghost use Rattle.runs.specs.Run.{movingOf};
-ghost use Rattle.raster.specs.Whole.{AcrossLimits, rowStep, rowMoves, GridLimits, gridStep, gridMoves, rowFall, gridFall, RasterLimits, WorkLimits};
+ghost use Rattle.runs.specs.Run.{weightAt, movingOf};
+ghost use Rattle.raster.specs.Whole.{AcrossLimits, rowStep, rowMoves, GridLimits, gridStep, gridMoves, rowFall, gridFall, rowVariation, gridVariation, FallLimits, WorkLimits};
 
 // The horizontal pairs of all rows, a run for each.
-fn step_rows(flow: &mut [i32], image: &[i32], width: usize, height: usize, weight: i32)
-    requires { ⌜ AcrossLimits width height weight (now flow) (now image) ⌝ }
-    ensures { λ _. ⌜ now (flow .exit) ≡ table (length (now (flow .entry))) (rowStep nearestEighth width weight (now (flow .entry)) (now (image .entry))) ⌝ }
+fn step_rows(
+    flow: &mut [i32],
+    image: &[i32],
+    width: usize,
+    height: usize,
+    weight: i32,
+    weights: &[i32],
+)
+    requires { ⌜ AcrossLimits width height weight (now weights) (now flow) (now image) ⌝ }
+    ensures { λ _. ⌜ now (flow .exit) ≡ table (length (now (flow .entry))) (rowStep nearestEighth width (weightAt weight (now (weights .entry))) (now (flow .entry)) (now (image .entry))) ⌝ }
 {
     let across = width - 1;
     let mut at = 0;
     let mut start = 0;
     let mut row = 0;
     while row < height {
+        let own = part_of(weights, at, across);
         pairs::step_pairs(
             &mut flow[at..at + across],
             &image[start..start + width],
             1,
             weight,
+            own,
         );
         at += across;
         start += width;
@@ -39,13 +48,22 @@ fn step_rows(flow: &mut [i32], image: &[i32], width: usize, height: usize, weigh
 }
 
 // The step of a steady round on the flow whose image is lent.
-pub fn step_grid(flow: &mut [i32], image: &[i32], width: usize, height: usize, weight: i32)
-    requires { ⌜ GridLimits width height weight (now flow) (now image) ⌝ }
-    ensures { λ _. ⌜ now (flow .exit) ≡ table (length (now (flow .entry))) (gridStep nearestEighth width height weight (now (flow .entry)) (now (image .entry))) ⌝ }
+pub fn step_grid(
+    flow: &mut [i32],
+    image: &[i32],
+    width: usize,
+    height: usize,
+    weight: i32,
+    weights: &[i32],
+)
+    requires { ⌜ GridLimits width height weight (now weights) (now flow) (now image) ⌝ }
+    ensures { λ _. ⌜ now (flow .exit) ≡ table (length (now (flow .entry))) (gridStep nearestEighth width height (weightAt weight (now (weights .entry))) (now (flow .entry)) (now (image .entry))) ⌝ }
 {
     let vertical = width * (height - 1);
-    pairs::step_pairs(&mut flow[..vertical], image, width, weight);
-    step_rows(&mut flow[vertical..], image, width, height, weight);
+    let upper = part_of(weights, 0, vertical);
+    let lower = part_of(weights, vertical, height * (width - 1));
+    pairs::step_pairs(&mut flow[..vertical], image, width, weight, upper);
+    step_rows(&mut flow[vertical..], image, width, height, weight, lower);
 }
 
 // The first moving pair among the horizontal ones, counted through all rows.
@@ -55,9 +73,10 @@ fn first_moving_rows(
     width: usize,
     height: usize,
     weight: i32,
+    weights: &[i32],
 ) -> Moving
-    requires { ⌜ AcrossLimits width height weight (now flow) (now image) ⌝ }
-    ensures { λ r. ⌜ r ≡ movingOf (length (now (flow .entry))) (firstWhere (length (now (flow .entry))) (rowMoves nearestEighth width weight (now (flow .entry)) (now (image .entry)))) ⌝ }
+    requires { ⌜ AcrossLimits width height weight (now weights) (now flow) (now image) ⌝ }
+    ensures { λ r. ⌜ r ≡ movingOf (length (now (flow .entry))) (firstWhere (length (now (flow .entry))) (rowMoves nearestEighth width (weightAt weight (now (weights .entry))) (now (flow .entry)) (now (image .entry)))) ⌝ }
 {
     let across = width - 1;
     let mut at = 0;
@@ -67,11 +86,13 @@ fn first_moving_rows(
         if height <= row {
             break Moving::Nothing;
         }
+        let own = part_of(weights, at, across);
         let found = pairs::first_moving(
             &flow[at..at + across],
             &image[start..start + width],
             1,
             weight,
+            own,
         );
         if let Moving::At(k) = found {
             break Moving::At(at + k);
@@ -89,46 +110,56 @@ pub fn first_moving_grid(
     width: usize,
     height: usize,
     weight: i32,
+    weights: &[i32],
 ) -> Moving
-    requires { ⌜ GridLimits width height weight (now flow) (now image) ⌝ }
-    ensures { λ r. ⌜ r ≡ movingOf (length (now (flow .entry))) (firstWhere (length (now (flow .entry))) (gridMoves nearestEighth width height weight (now (flow .entry)) (now (image .entry)))) ⌝ }
+    requires { ⌜ GridLimits width height weight (now weights) (now flow) (now image) ⌝ }
+    ensures { λ r. ⌜ r ≡ movingOf (length (now (flow .entry))) (firstWhere (length (now (flow .entry))) (gridMoves nearestEighth width height (weightAt weight (now (weights .entry))) (now (flow .entry)) (now (image .entry)))) ⌝ }
 {
     let vertical = width * (height - 1);
-    let upper = pairs::first_moving(&flow[..vertical], image, width, weight);
+    let own = part_of(weights, 0, vertical);
+    let upper = pairs::first_moving(&flow[..vertical], image, width, weight, own);
     if let Moving::At(j) = upper {
         return Moving::At(j);
     }
-    let lower = first_moving_rows(&flow[vertical..], image, width, height, weight);
+    let rest = part_of(weights, vertical, height * (width - 1));
+    let lower = first_moving_rows(&flow[vertical..], image, width, height, weight, rest);
     if let Moving::At(k) = lower {
         return Moving::At(vertical + k);
     }
     Moving::Nothing
 }
 
-// The sum of the sizes of the horizontal pairs' falls.
-fn total_variation_rows(image: &[i32], width: usize, height: usize) -> u64
-    requires { ⌜ RasterLimits width height (now image) ⌝ }
-    ensures { λ r. ⌜ pos r ≡ total (height * (width - 1)) (λ k. abs (rowFall width (now (image .entry)) k)) ⌝ }
+// The sum of the horizontal pairs' weights times the sizes of their falls; without weights, each
+// counts once.
+fn total_variation_rows(image: &[i32], width: usize, height: usize, weights: &[i32]) -> u64
+    requires { ⌜ FallLimits width height (height * (width - 1)) (now image) (now weights) ⌝ }
+    ensures { λ r. ⌜ pos r ≡ total (height * (width - 1)) (rowVariation width (weightAt (pos 1) (now (weights .entry))) (now (image .entry))) ⌝ }
 {
     let across = width - 1;
     let mut sum = 0;
+    let mut at = 0;
     let mut start = 0;
     let mut row = 0;
     while row < height {
-        sum += pairs::total_variation(&image[start..start + width], 1, across);
+        let own = part_of(weights, at, across);
+        sum += pairs::total_variation(&image[start..start + width], 1, across, own);
+        at += across;
         start += width;
         row += 1;
     }
     sum
 }
 
-// The sum of the sizes of all pairs' falls.
-pub fn total_variation_grid(image: &[i32], width: usize, height: usize) -> u64
-    requires { ⌜ RasterLimits width height (now image) ⌝ }
-    ensures { λ r. ⌜ pos r ≡ total (length (gridPairs width height)) (λ j. abs (gridFall width height (now (image .entry)) j)) ⌝ }
+// The sum of all pairs' weights times the sizes of their falls; without weights, each counts once.
+pub fn total_variation_grid(image: &[i32], width: usize, height: usize, weights: &[i32]) -> u64
+    requires { ⌜ FallLimits width height (length (gridPairs width height)) (now image) (now weights) ⌝ }
+    ensures { λ r. ⌜ pos r ≡ total (length (gridPairs width height)) (gridVariation width height (weightAt (pos 1) (now (weights .entry))) (now (image .entry))) ⌝ }
 {
-    pairs::total_variation(image, width, width * (height - 1))
-        + total_variation_rows(image, width, height)
+    let vertical = width * (height - 1);
+    let upper = part_of(weights, 0, vertical);
+    let lower = part_of(weights, vertical, height * (width - 1));
+    pairs::total_variation(image, width, vertical, upper)
+        + total_variation_rows(image, width, height, lower)
 }
 
 // The sum of the horizontal pairs' numbers times their falls.

@@ -25,9 +25,8 @@ pub record StepLimits (flow image : List ℤ) (stride : ℕ) (weight : ℤ) (wei
   pub flow-most : Within (2 ^ 20) flow
   pub image-most : Within (2 ^ 20) image
 
--- the pixels' values, the distance of a pair's pixels, how many pairs there are, and their weights
-pub record VariationLimits (image : List ℤ) (stride count : ℕ) (weights : List ℤ) : Type 0 where
-  pub weights-limits : WeightLimits count weights
+-- the pixels' values, the distance of a pair's pixels, and how many pairs there are
+pub record VariationLimits (image : List ℤ) (stride count : ℕ) : Type 0 where
   pub reach : count + stride ≤ length image
   pub count-most : count ≤ 2 ^ 21
   pub image-most : Within (2 ^ 20) image

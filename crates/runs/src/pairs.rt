@@ -13,7 +13,7 @@ ghost use lib.ListN.{length};
 ghost use Rattle.integers.specs.Sum.{total};
 ghost use Rattle.model.specs.Lists.{at, table, firstWhere};
 ghost use Rattle.model.specs.Rounds.{nearestEighth};
-ghost use Rattle.runs.specs.Limits.{StepLimits, VariationLimits, FallLimits};
+ghost use Rattle.runs.specs.Limits.{WeightLimits, StepLimits, VariationLimits, FallLimits};
 ghost use Rattle.runs.specs.Run.{fallAt, weightAt, stepAt, movesAt, movingOf, variationAt};
 
 // The first pair that would move.
@@ -68,7 +68,7 @@ pub fn first_moving(
 // The sum of the first `count` pairs' weights times the sizes of their falls; without weights, each
 // counts once.
 pub fn total_variation(image: &[i32], stride: usize, count: usize, weights: &[i32]) -> u64
-    requires { ⌜ VariationLimits (now image) stride count (now weights) ⌝ }
+    requires { ⌜ VariationLimits (now image) stride count × WeightLimits count (now weights) ⌝ }
     ensures { λ r. ⌜ pos r ≡ total count (variationAt (weightAt (pos 1) (now (weights .entry))) (now (image .entry)) stride) ⌝ }
 {
     let mut sum = 0;

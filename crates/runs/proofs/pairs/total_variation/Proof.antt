@@ -26,7 +26,7 @@ loop-holds : tie.Need-loop-holds Inv-loop μ-loop
 loop-holds c = (omega arith, sym (total-zero _))
 
 number-or-requires : tie.Need-number-or-requires Inv-loop μ-loop
-number-or-requires c κs = own-inside (c .before .before .pre .weights-limits) (omega arith)
+number-or-requires c κs = own-inside (c .before .before .pre .1) (omega arith)
 
 -- the weight of pair j
 own : (c : tie.After-number-or Inv-loop μ-loop) → let s = c .before .before .before in
@@ -53,9 +53,9 @@ variation-requires c κs =
     let s = c .before .before .before .before .before in
     let j = c .before .before .before .before .loop .j in
     let k = j + s .args .stride in
-    let h = s .pre .image-most in
+    let h = s .pre .0 .image-most in
     rw (own (c .before .before), element (s .args .image .now) h j, element (s .args .image .now) h k)
-    (own-least (s .pre .weights-limits) (pos 1) (0≤pos 1) j, omega (arith, h j, h k))
+    (own-least (s .pre .1) (pos 1) (0≤pos 1) j, omega (arith, h j, h k))
 
 -- pair j's weight times the size of its fall
 term : (c : tie.After-variation Inv-loop μ-loop) → let s = c .before .before .before .before .before .before in
@@ -63,7 +63,7 @@ term : (c : tie.After-variation Inv-loop μ-loop) → let s = c .before .before 
 term c =
     let s = c .before .before .before .before .before .before in
     let j = c .before .before .before .before .before .loop .j in
-    let h = s .pre .image-most in
+    let h = s .pre .0 .image-most in
     c .variation .ensures ∙ rw (own (c .before .before .before), element (s .args .image .now) h j, element (s .args .image .now) h (j + s .args .stride))
 
 add-sum : tie.Need-add-sum Inv-loop μ-loop
@@ -71,8 +71,8 @@ add-sum c =
     let s = c .before .before .before .before .before .before in
     let l = c .before .before .before .before .before .loop in
     let weight = weightAt (pos 1) (s .args .weights .now) in
-    let most = variation-most (s .args .image .now) (s .pre .image-most) (λ j. j) (λ j. j + s .args .stride) weight (own-most (s .pre .weights-limits) (pos 1) (omega arith)) in
-    record { fits = omega (arith, s .pre .count-most, l .inv .0, ap natAbs (l .inv .1), natAbs-total (l .j) (variationAt weight (s .args .image .now) (s .args .stride)) (λ j _. most j), ap natAbs (term c), most (l .j)) }
+    let most = variation-most (s .args .image .now) (s .pre .0 .image-most) (λ j. j) (λ j. j + s .args .stride) weight (own-most (s .pre .1) (pos 1) (omega arith)) in
+    record { fits = omega (arith, s .pre .0 .count-most, l .inv .0, ap natAbs (l .inv .1), natAbs-total (l .j) (variationAt weight (s .args .image .now) (s .args .stride)) (λ j _. most j), ap natAbs (term c), most (l .j)) }
 
 add-j : tie.Need-add-j Inv-loop μ-loop
 add-j c = search needs
