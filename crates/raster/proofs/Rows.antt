@@ -67,14 +67,19 @@ part-by P none a n l h i = by (decLt i n)
 pub part-within : {k : ℕ} (a n : ℕ) (l : List ℤ) → Within k l → Within k (take n (drop a l))
 part-within {k} a n l h = part-by (λ z. natAbs z ≤ k) zero-le a n l h
 
--- the weights of n of m pairs, from a on, as `part_of` gives them
-pub part-weights : {m : ℕ} {weights : List ℤ} → WeightLimits m weights → (a n : ℕ) → a + n ≤ m → WeightLimits n (take n (drop a weights))
-part-weights {m} {weights} w a n h =
-    record {
+-- n of m pairs' weights, from a on, are there, unless none are
+pub part-there : {m : ℕ} {weights : List ℤ} → WeightLimits m weights → (a n : ℕ) → a + n ≤ m → 0 < length weights → a + n ≤ length weights
+part-there w a n h p = omega (arith, w .lent p)
+
+-- .. and are within the limits, as `part_of` gives them
+pub part-weights : {m : ℕ} {weights own : List ℤ} → WeightLimits m weights → (a n : ℕ) → own ≡ take n (drop a weights) → a + n ≤ m → WeightLimits n own
+part-weights {m} {weights} w a n o h =
+    subst (WeightLimits n) (sym o)
+    (record {
       lent = λ p. whole p (decLt 0 (length weights));
       least = part-by (λ z. pos 0 ≤ℤ z) (0≤pos 0) a n weights (w .least);
       most = part-within a n weights (w .most);
-    }
+    })
   where
     whole : 0 < length (take n (drop a weights)) → Dec (0 < length weights) → length (take n (drop a weights)) ≡ n
     whole p (yes q) = part-length a n weights (omega (arith, w .lent q))
@@ -82,12 +87,13 @@ part-weights {m} {weights} w a n h =
         let s : length (take n (drop a weights)) ≤ length weights = simp (length-take, length-drop) (omega arith) in
         absurd (omega (arith, g))
 
-pub part-weight : (weight : ℤ) (weights : List ℤ) (a n k : ℕ) → k < n → weightAt weight (take n (drop a weights)) k ≡ weightAt weight weights (a + k)
-part-weight weight weights a n k b = part-at a n weights k weight b
+-- .. and are theirs
+module _ (weight : ℤ) (weights : List ℤ) {own : List ℤ} where
+  pub part-weight : (a n : ℕ) → own ≡ take n (drop a weights) → (k : ℕ) → k < n → weightAt weight own k ≡ weightAt weight weights (a + k)
+  part-weight a n o k b = ap (λ (l : List ℤ). weightAt weight l k) o ∙ part-at a n weights k weight b
 
--- .. from the first on
-pub front-weight : (weight : ℤ) (weights : List ℤ) (n k : ℕ) → k < n → weightAt weight (take n (drop 0 weights)) k ≡ weightAt weight weights k
-front-weight weight weights n k b = part-weight weight weights 0 n k b ∙ ap (weightAt weight weights) (zero-add k)
+  pub front-weight : (n : ℕ) → own ≡ take n (drop 0 weights) → (k : ℕ) → k < n → weightAt weight own k ≡ weightAt weight weights k
+  front-weight n o k b = part-weight 0 n o k b ∙ ap (weightAt weight weights) (zero-add k)
 
 -- ---- the horizontal pairs of a row of w pixels
 

@@ -21,22 +21,23 @@ size f x y = f *ℤ abs (x -ℤ y)
 abbrev pub work : ℤ → ℤ → ℤ → ℤ
 work f x y = f *ℤ (x -ℤ y)
 
-module _ (weight : ℤ) (weights : List ℤ) where
+module _ (weight : ℤ) (weights : List ℤ) {own : List ℤ} where
   pub row-variation : {w start first : ℕ} {image pixels : List ℤ} (row : ℕ) → start ≡ row * (w - 1) → first ≡ row * w → Stretch image first w pixels →
-      total (w - 1) (variationAt (weightAt weight (take (w - 1) (drop start weights))) pixels 1)
+      own ≡ take (w - 1) (drop start weights) →
+      total (w - 1) (variationAt (weightAt weight own) pixels 1)
       ≡ total (w - 1) (λ k. rowVariation w (weightAt weight weights) image (start + k))
-  row-variation {w} {start} row q r t =
-      row-run total (λ n _ _. total-cong n) size _ (weightAt weight weights) row q r refl (part-weight weight weights start (w - 1)) t
+  row-variation {w} {start} row q r t o =
+      row-run total (λ n _ _. total-cong n) size _ (weightAt weight weights) row q r refl (part-weight weight weights start (w - 1) o) t
 
   module _ (w h : ℕ) (image : List ℤ) where
-    pub vertical-variation :
-        total (vertical w h) (variationAt (weightAt weight (take (vertical w h) (drop 0 weights))) image w)
+    pub vertical-variation : own ≡ take (vertical w h) (drop 0 weights) →
+        total (vertical w h) (variationAt (weightAt weight own) image w)
         ≡ total (vertical w h) (gridVariation w h (weightAt weight weights) image)
-    vertical-variation =
-        vertical-run total (λ n _ _. total-cong n) size _ (weightAt weight weights) w h image refl (front-weight weight weights (vertical w h))
+    vertical-variation o =
+        vertical-run total (λ n _ _. total-cong n) size _ (weightAt weight weights) w h image refl (front-weight weight weights (vertical w h) o)
 
-    pub horizontal-variation :
-        total (h * (w - 1)) (rowVariation w (weightAt weight (take (h * (w - 1)) (drop (vertical w h) weights))) image)
+    pub horizontal-variation : own ≡ take (h * (w - 1)) (drop (vertical w h) weights) →
+        total (h * (w - 1)) (rowVariation w (weightAt weight own) image)
         ≡ total (h * (w - 1)) (λ k. gridVariation w h (weightAt weight weights) image (vertical w h + k))
-    horizontal-variation =
-        horizontal-run total (λ n _ _. total-cong n) size _ (weightAt weight weights) w h image refl (part-weight weight weights (vertical w h) (h * (w - 1)))
+    horizontal-variation o =
+        horizontal-run total (λ n _ _. total-cong n) size _ (weightAt weight weights) w h image refl (part-weight weight weights (vertical w h) (h * (w - 1)) o)

@@ -67,39 +67,39 @@ lent-rest l a n h = rest l a n h (rest-all a l)
 -- ---- what a run is lent is within its limits
 
 module _ {w h : ℕ} {weight : ℤ} {weights flow image : List ℤ} where
-  pub row-limits : AcrossLimits w h weight weights flow image → {start first : ℕ} {part pixels : List ℤ} → length flow ≡ h * (w - 1) → Stretch flow start (w - 1) part → Stretch image first w pixels →
-      StepLimits part pixels 1 weight (take (w - 1) (drop start weights))
-  row-limits p {start} n s t =
+  pub row-limits : AcrossLimits w h weight weights flow image → {start first : ℕ} {part pixels own : List ℤ} → own ≡ take (w - 1) (drop start weights) →
+      Stretch flow start (w - 1) part → Stretch image first w pixels → StepLimits part pixels 1 weight own
+  row-limits p {start} o s t =
       record {
         reach = omega (arith, p .width-least, s .size, t .size);
         weight-most = p .weight-most;
-        weights-limits = rw (s .size) (part-weights (p .weights-limits) start (w - 1) (omega (arith, s .inside, n)));
+        weights-limits = rw (s .size) (part-weights (p .weights-limits) start (w - 1) o (omega (arith, s .inside, p .flow-length)));
         flow-most = s .within (p .flow-most);
         image-most = t .within (p .image-most);
       }
 
   module _ (p : GridLimits w h weight weights flow image) where
-    pub vertical-limits : StepLimits (take (vertical w h) flow) image w weight (take (vertical w h) (drop 0 weights))
-    vertical-limits =
+    pub vertical-limits : {own : List ℤ} → own ≡ take (vertical w h) (drop 0 weights) → StepLimits (take (vertical w h) flow) image w weight own
+    vertical-limits o =
         record {
           reach = rw (length-take-le (vertical w h) flow (vertical-most (p .size))) (le-of-eq (vertical-reach (p .size)));
           weight-most = p .weight-most;
           weights-limits =
               rw (length-take-le (vertical w h) flow (vertical-most (p .size)))
-              (part-weights (p .weights-limits) 0 (vertical w h) (omega (arith, grid-count w h)));
+              (part-weights (p .weights-limits) 0 (vertical w h) o (omega (arith, grid-count w h)));
           flow-most = part-within 0 (vertical w h) flow (p .flow-most);
           image-most = p .image-most;
         }
 
-    pub horizontal-limits : {part : List ℤ} → Stretch flow (vertical w h) (h * (w - 1)) part →
-        AcrossLimits w h weight (take (h * (w - 1)) (drop (vertical w h) weights)) part image
-    horizontal-limits s =
+    pub horizontal-limits : {own part : List ℤ} → own ≡ take (h * (w - 1)) (drop (vertical w h) weights) → Stretch flow (vertical w h) (h * (w - 1)) part →
+        AcrossLimits w h weight own part image
+    horizontal-limits o s =
         record {
           width-least = p .size .width-least;
           flow-length = s .size;
           image-length = p .size .image-length;
           weight-most = p .weight-most;
-          weights-limits = part-weights (p .weights-limits) (vertical w h) (h * (w - 1)) (omega (arith, grid-count w h));
+          weights-limits = part-weights (p .weights-limits) (vertical w h) (h * (w - 1)) o (omega (arith, grid-count w h));
           flow-most = s .within (p .flow-most);
           image-most = p .image-most;
         }

@@ -21,30 +21,30 @@ use Rattle.raster.proofs.Whole.{vertical}
 use Rattle.raster.proofs.Runs.{Stretch, both, byBoth, both-are, row-run, vertical-run, horizontal-run}
 
 module _ (share : ℤ → ℤ) {w start first : ℕ} (row : ℕ) (weight : ℤ) (weights flow image : List ℤ) where
-  pub row-stepped : {now part pixels stepped : List ℤ} → now ≡ filled start (rowStep share w (weightAt weight weights) flow image) flow →
+  pub row-stepped : {now part pixels own stepped : List ℤ} → now ≡ filled start (rowStep share w (weightAt weight weights) flow image) flow →
       start ≡ row * (w - 1) → first ≡ row * w → Stretch flow start (w - 1) part → Stretch image first w pixels →
-      stepped ≡ table (length part) (stepAt share (weightAt weight (take (w - 1) (drop start weights))) part pixels 1) →
+      own ≡ take (w - 1) (drop start weights) → stepped ≡ table (length part) (stepAt share (weightAt weight own) part pixels 1) →
       putMid start (start + (w - 1) - start) now stepped ≡ filled (start + (w - 1)) (rowStep share w (weightAt weight weights) flow image) flow
-  row-stepped p q r s t e =
+  row-stepped p q r s t o e =
       put-part start (w - 1) (rowStep share w (weightAt weight weights) flow image) flow p
       (e ∙ row-run table (λ n _ _. table-cong n) (byBoth (stepValue share)) _ (both (weightAt weight weights) flow) row q r (s .size)
-      (λ k b. both-are (part-weight weight weights start (w - 1) k b) (s .number k b)) t)
+      (λ k b. both-are (part-weight weight weights start (w - 1) o k b) (s .number k b)) t)
 
 module _ (share : ℤ → ℤ) (w h : ℕ) (weight : ℤ) (weights flow image : List ℤ) where
-  pub vertical-stepped : vertical w h ≤ length flow →
-      table (length (take (vertical w h) flow)) (stepAt share (weightAt weight (take (vertical w h) (drop 0 weights))) (take (vertical w h) flow) image w)
+  pub vertical-stepped : {own : List ℤ} → vertical w h ≤ length flow → own ≡ take (vertical w h) (drop 0 weights) →
+      table (length (take (vertical w h) flow)) (stepAt share (weightAt weight own) (take (vertical w h) flow) image w)
       ≡ table (vertical w h) (gridStep share w h (weightAt weight weights) flow image)
-  vertical-stepped l =
+  vertical-stepped l o =
       vertical-run table (λ n _ _. table-cong n) (byBoth (stepValue share)) _ (both (weightAt weight weights) flow) w h image
       (length-take-le (vertical w h) flow l)
-      (λ j b. both-are (front-weight weight weights (vertical w h) j b) (getD-take (vertical w h) flow j (pos 0) b))
+      (λ j b. both-are (front-weight weight weights (vertical w h) o j b) (getD-take (vertical w h) flow j (pos 0) b))
 
-  pub horizontal-stepped : {part : List ℤ} → Stretch flow (vertical w h) (h * (w - 1)) part →
-      table (length part) (rowStep share w (weightAt weight (take (h * (w - 1)) (drop (vertical w h) weights))) part image)
+  pub horizontal-stepped : {part own : List ℤ} → Stretch flow (vertical w h) (h * (w - 1)) part → own ≡ take (h * (w - 1)) (drop (vertical w h) weights) →
+      table (length part) (rowStep share w (weightAt weight own) part image)
       ≡ table (h * (w - 1)) (λ k. gridStep share w h (weightAt weight weights) flow image (vertical w h + k))
-  horizontal-stepped s =
+  horizontal-stepped s o =
       horizontal-run table (λ n _ _. table-cong n) (byBoth (stepValue share)) _ (both (weightAt weight weights) flow) w h image
-      (s .size) (λ k b. both-are (part-weight weight weights (vertical w h) (h * (w - 1)) k b) (s .number k b))
+      (s .size) (λ k b. both-are (part-weight weight weights (vertical w h) (h * (w - 1)) o k b) (s .number k b))
 
 -- A stepped number is no larger than the weight
 pub step-most : (share : ℤ → ℤ) (weight f x y : ℤ) → natAbs (stepValue share weight f x y) ≤ natAbs weight

@@ -10,24 +10,25 @@ use mir.ValLaws.{toZ-ofZ}
 use Rattle.runs.specs.declared.pairs.Moving.the-variants.{At}
 use Rattle.model.specs.Rounds.{nearestEighth}
 use Rattle.stencil.specs.Pair.{moves}
+use Rattle.runs.specs.Run.{weightAt}
 use Rattle.raster.specs.Whole.{rowMoves}
-use Rattle.raster.proofs.Rows.{rows-end}
-use Rattle.raster.proofs.Runs.{Lent, row-part, row-limits, row-run}
+use Rattle.raster.proofs.Rows.{rows-end, part-there, part-weight}
+use Rattle.raster.proofs.Runs.{Lent, row-part, row-limits, both, byBoth, both-are, row-run}
 use Rattle.runs.proofs.Search.{Passed, passed-none}
 use Rattle.raster.proofs.Searches.{answer, answer-cong, first-moves, none-answer, part-none, part-first}
 use Rattle.raster.proofs.grid.first_moving_rows.Statement.{statement}
 use Rattle.raster.proofs.grid.first_moving_rows.Tie as tie
 
 abbrev Inv-loop : tie.InvT-loop
-Inv-loop flow image width height weight across at₀ start₀ row₀ at start row =
-    (row ≤ height) × (at ≡ row * across) × (start ≡ row * width) × Passed (rowMoves nearestEighth width (toZ w32 weight) flow image) at
+Inv-loop flow image width height weight weights across at₀ start₀ row₀ at start row =
+    (row ≤ height) × (at ≡ row * across) × (start ≡ row * width) × Passed (rowMoves nearestEighth width (weightAt (toZ w32 weight) weights) flow image) at
 
 abbrev μ-loop : tie.MeasureT-loop
-μ-loop flow image width height weight across at₀ start₀ row₀ at start row = height - row
+μ-loop flow image width height weight weights across at₀ start₀ row₀ at start row = height - row
 
 -- whether a horizontal pair moves
 abbrev test : tie.Start Inv-loop μ-loop → ℕ → Bool
-test s = rowMoves nearestEighth (s .args .width) (toZ w32 (ofZ w32 (s .args .weight))) (s .args .flow .now) (s .args .image .now)
+test s = rowMoves nearestEighth (s .args .width) (weightAt (toZ w32 (ofZ w32 (s .args .weight))) (s .args .weights .now)) (s .args .flow .now) (s .args .image .now)
 
 sub-across : tie.Need-sub-across Inv-loop μ-loop
 sub-across c = search needs
@@ -43,11 +44,16 @@ module _ (c : tie.Else1 Inv-loop μ-loop) where
 loop-holds : tie.Need-loop-holds Inv-loop μ-loop
 loop-holds c = (omega arith, omega arith, omega arith, passed-none _)
 
+part-of-requires : tie.Need-part-of-requires Inv-loop μ-loop
+part-of-requires c κs =
+    let p = c .before .before .pre in
+    part-there (p .weights-limits) _ _ (omega (arith, flow-part c .inside, p .flow-length))
+
 add-first-moving : tie.Need-add-first-moving Inv-loop μ-loop
-add-first-moving c = omega (arith, flow-part c .inside)
+add-first-moving c = omega (arith, flow-part (c .before) .inside)
 
 mul-first-moving : tie.Need-mul-first-moving Inv-loop μ-loop
-mul-first-moving c = omega (arith, flow-part c .inside, c .before .before .good .0 .1)
+mul-first-moving c = omega (arith, flow-part (c .before) .inside, c .before .before .before .good .0 .1)
 
 sub-first-moving : tie.Need-sub-first-moving Inv-loop μ-loop
 sub-first-moving c = search needs
@@ -56,13 +62,13 @@ part-first-moving-start : tie.Need-part-first-moving-start Inv-loop μ-loop
 part-first-moving-start c = search needs
 
 part-first-moving-end : tie.Need-part-first-moving-end Inv-loop μ-loop
-part-first-moving-end c = flow-part c .inside
+part-first-moving-end c = flow-part (c .before) .inside
 
 add-first-moving-2 : tie.Need-add-first-moving-2 Inv-loop μ-loop
-add-first-moving-2 c = omega (arith, image-part (c .before) .inside)
+add-first-moving-2 c = omega (arith, image-part (c .before .before) .inside)
 
 mul-first-moving-2 : tie.Need-mul-first-moving-2 Inv-loop μ-loop
-mul-first-moving-2 c = omega (arith, image-part (c .before) .inside, c .before .before .before .good .1 .0 .1)
+mul-first-moving-2 c = omega (arith, image-part (c .before .before) .inside, c .before .before .before .before .good .1 .0 .1)
 
 sub-first-moving-2 : tie.Need-sub-first-moving-2 Inv-loop μ-loop
 sub-first-moving-2 c = search needs
@@ -71,41 +77,45 @@ part-first-moving-start-2 : tie.Need-part-first-moving-start-2 Inv-loop μ-loop
 part-first-moving-start-2 c = search needs
 
 part-first-moving-end-2 : tie.Need-part-first-moving-end-2 Inv-loop μ-loop
-part-first-moving-end-2 c = image-part (c .before) .inside
+part-first-moving-end-2 c = image-part (c .before .before) .inside
 
 first-moving-requires : tie.Need-first-moving-requires Inv-loop μ-loop
 first-moving-requires c κs =
-    let i = c .before .before in
+    let i = c .before .before .before in
     let s = i .before .before in
-    rw (toZ-ofZ w32 _ (s .fits .weight)) (row-limits (s .pre) (flow-part i) (image-part i))
+    rw (toZ-ofZ w32 _ (s .fits .weight)) (row-limits (s .pre) (c .before .before .part-of .ensures) (flow-part i) (image-part i))
 
 -- the answer for this row, as a stretch of all horizontal pairs
-row-answer : (c : tie.After-first-moving Inv-loop μ-loop) → let s = c .before .before .before .before .before in
-    c .first-moving .result ≡ answer (s .args .width - 1) (λ k. test s (c .before .before .before .before .loop .at + k))
+row-answer : (c : tie.After-first-moving Inv-loop μ-loop) → let s = c .before .before .before .before .before .before in
+    c .first-moving .result ≡ answer (s .args .width - 1) (λ k. test s (c .before .before .before .before .before .loop .at + k))
 row-answer c =
-    let i = c .before .before .before in
+    let i = c .before .before .before .before in
+    let s = i .before .before in
     let l = i .before .loop in
-    c .first-moving .ensures ∙ row-run answer answer-cong (moves nearestEighth _) (l .row) (l .inv .1) (l .inv .2) (flow-part i) (image-part i)
+    let own = part-weight (toZ w32 (ofZ w32 (s .args .weight))) (s .args .weights .now) (l .at) (s .args .width - 1) (c .before .before .before .part-of .ensures) in
+    c .first-moving .ensures
+    ∙ row-run answer answer-cong (byBoth (moves nearestEighth)) _ (both (weightAt (toZ w32 (ofZ w32 (s .args .weight))) (s .args .weights .now)) (s .args .flow .now)) (l .row) (l .inv .1) (l .inv .2)
+    (flow-part i .size) (λ k b. both-are (own k b) (flow-part i .number k b)) (image-part i)
 
 enum-known-found : tie.Need-enum-known-found Inv-loop μ-loop
 enum-known-found c = search needs
 
 -- one of this row's pairs moves
-moved : (c : tie.After-known-told Inv-loop μ-loop) → let i = c .before .before .before .before .before .before in let s = i .before .before in
+moved : (c : tie.After-known-told Inv-loop μ-loop) → let i = c .before .before .before .before .before .before .before in let s = i .before .before in
     answer (s .args .width - 1) (λ k. test s (i .before .loop .at + k)) ≡ At (c .before .found .given .0 .0)
 moved c = sym (row-answer (c .before .before .before)) ∙ c .before .found .given .1
 
-add-t26 : tie.Need-add-t26 Inv-loop μ-loop
-add-t26 c = omega (arith, first-moves _ _ (moved c) .0, flow-part (c .before .before .before .before .before .before) .inside)
+add-t28 : tie.Need-add-t28 Inv-loop μ-loop
+add-t28 c = omega (arith, first-moves _ _ (moved c) .0, flow-part (c .before .before .before .before .before .before .before) .inside)
 
 enum-told : tie.Need-enum-told Inv-loop μ-loop
 enum-told c = search needs
 
 add-at : tie.Need-add-at Inv-loop μ-loop
-add-at c = omega (arith, flow-part (c .before .before .before .before .before) .inside)
+add-at c = omega (arith, flow-part (c .before .before .before .before .before .before) .inside)
 
 add-start : tie.Need-add-start Inv-loop μ-loop
-add-start c = omega (arith, image-part (c .before .before .before .before .before) .inside)
+add-start c = omega (arith, image-part (c .before .before .before .before .before .before) .inside)
 
 add-row : tie.Need-add-row Inv-loop μ-loop
 add-row c = search needs
@@ -115,7 +125,7 @@ loop-less c = search needs
 
 loop-again : tie.Need-loop-again Inv-loop μ-loop
 loop-again c =
-    let l = c .before .before .before .before .before .before .loop in (
+    let l = c .before .before .before .before .before .before .before .loop in (
       omega arith,
       omega (arith, l .inv .1),
       omega (arith, l .inv .2),
@@ -131,7 +141,7 @@ returns c =
 
 returns-2 : tie.Need-returns-2 Inv-loop μ-loop
 returns-2 c =
-    let i = c .before .before .before .before .before .before in
+    let i = c .before .before .before .before .before .before .before in
     let l = i .before .loop in
     rw (toZ-ofZ w32 _ (i .before .before .fits .weight)) at
     (part-first _ (l .at) _ (l .inv .3) (moved c) (flow-part i .inside))
@@ -144,6 +154,7 @@ first-moving-rows-spec =
     μ-loop
     sub-across
     loop-holds
+    part-of-requires
     add-first-moving
     mul-first-moving
     sub-first-moving
@@ -156,7 +167,7 @@ first-moving-rows-spec =
     part-first-moving-end-2
     first-moving-requires
     enum-known-found
-    add-t26
+    add-t28
     enum-told
     add-at
     add-start

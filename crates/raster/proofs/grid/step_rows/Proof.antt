@@ -10,20 +10,22 @@ use mir.ValLaws.{toZ-ofZ}
 use Rattle.model.specs.Lists.{table}
 use Rattle.model.proofs.Lists.{length-table}
 use Rattle.model.specs.Rounds.{nearestEighth}
+use Rattle.runs.specs.Run.{weightAt}
 use Rattle.raster.specs.Whole.{rowStep}
 use Rattle.runs.proofs.Fill.{filled, filled-none, length-filled, filled-all}
-use Rattle.raster.proofs.Rows.{rows-end}
+use Rattle.raster.proofs.Rows.{rows-end, part-there}
 use Rattle.raster.proofs.Runs.{Lent, row-part, unfilled, row-limits}
 use Rattle.raster.proofs.Steps.{row-stepped}
 use Rattle.raster.proofs.grid.step_rows.Statement.{statement}
 use Rattle.raster.proofs.grid.step_rows.Tie as tie
 
 abbrev Inv-loop : tie.InvT-loop
-Inv-loop flow₀ image width height weight across at₀ start₀ row₀ flow at start row =
-    (row ≤ height) × (at ≡ row * across) × (start ≡ row * width) × (flow ≡ filled at (rowStep nearestEighth width (toZ w32 weight) flow₀ image) flow₀)
+Inv-loop flow₀ image width height weight weights across at₀ start₀ row₀ flow at start row =
+    (row ≤ height) × (at ≡ row * across) × (start ≡ row * width)
+    × (flow ≡ filled at (rowStep nearestEighth width (weightAt (toZ w32 weight) weights) flow₀ image) flow₀)
 
 abbrev μ-loop : tie.MeasureT-loop
-μ-loop flow₀ image width height weight across at₀ start₀ row₀ flow at start row = height - row
+μ-loop flow₀ image width height weight weights across at₀ start₀ row₀ flow at start row = height - row
 
 sub-across : tie.Need-sub-across Inv-loop μ-loop
 sub-across c = search needs
@@ -42,11 +44,16 @@ module _ (c : tie.In-loop Inv-loop μ-loop) where
 loop-holds : tie.Need-loop-holds Inv-loop μ-loop
 loop-holds c = (omega arith, omega arith, omega arith, sym (filled-none _ _))
 
+part-of-requires : tie.Need-part-of-requires Inv-loop μ-loop
+part-of-requires c κs =
+    let p = c .before .before .pre in
+    part-there (p .weights-limits) _ _ (omega (arith, flow-part c .inside, p .flow-length))
+
 add-step-pairs : tie.Need-add-step-pairs Inv-loop μ-loop
-add-step-pairs c = omega (arith, flow-part c .inside)
+add-step-pairs c = omega (arith, flow-part (c .before) .inside)
 
 mul-step-pairs : tie.Need-mul-step-pairs Inv-loop μ-loop
-mul-step-pairs c = omega (arith, flow-part c .inside, c .before .before .good .0 .1)
+mul-step-pairs c = omega (arith, flow-part (c .before) .inside, c .before .before .before .good .0 .1)
 
 sub-step-pairs : tie.Need-sub-step-pairs Inv-loop μ-loop
 sub-step-pairs c = search needs
@@ -55,13 +62,13 @@ part-step-pairs-start : tie.Need-part-step-pairs-start Inv-loop μ-loop
 part-step-pairs-start c = search needs
 
 part-step-pairs-end : tie.Need-part-step-pairs-end Inv-loop μ-loop
-part-step-pairs-end c = omega (arith, flow-part c .inside, same-size c)
+part-step-pairs-end c = omega (arith, flow-part (c .before) .inside, same-size (c .before))
 
 add-step-pairs-2 : tie.Need-add-step-pairs-2 Inv-loop μ-loop
-add-step-pairs-2 c = omega (arith, image-part (c .before) .inside)
+add-step-pairs-2 c = omega (arith, image-part (c .before .before) .inside)
 
 mul-step-pairs-2 : tie.Need-mul-step-pairs-2 Inv-loop μ-loop
-mul-step-pairs-2 c = omega (arith, image-part (c .before) .inside, c .before .before .before .good .1 .0 .1)
+mul-step-pairs-2 c = omega (arith, image-part (c .before .before) .inside, c .before .before .before .before .good .1 .0 .1)
 
 sub-step-pairs-2 : tie.Need-sub-step-pairs-2 Inv-loop μ-loop
 sub-step-pairs-2 c = search needs
@@ -70,19 +77,20 @@ part-step-pairs-start-2 : tie.Need-part-step-pairs-start-2 Inv-loop μ-loop
 part-step-pairs-start-2 c = search needs
 
 part-step-pairs-end-2 : tie.Need-part-step-pairs-end-2 Inv-loop μ-loop
-part-step-pairs-end-2 c = image-part (c .before) .inside
+part-step-pairs-end-2 c = image-part (c .before .before) .inside
 
 step-pairs-requires : tie.Need-step-pairs-requires Inv-loop μ-loop
 step-pairs-requires c κs =
-    let i = c .before .before in
+    let i = c .before .before .before in
     let s = i .before .before in
-    rw (toZ-ofZ w32 _ (s .fits .weight)) (row-limits (s .pre) (unfilled _ (i .before .loop .inv .3) (flow-part i)) (image-part i))
+    rw (toZ-ofZ w32 _ (s .fits .weight))
+    (row-limits (s .pre) (c .before .before .part-of .ensures) (unfilled _ (i .before .loop .inv .3) (flow-part i)) (image-part i))
 
 add-at : tie.Need-add-at Inv-loop μ-loop
-add-at c = omega (arith, flow-part (c .before .before .before .before) .inside)
+add-at c = omega (arith, flow-part (c .before .before .before .before .before) .inside)
 
 add-start : tie.Need-add-start Inv-loop μ-loop
-add-start c = omega (arith, image-part (c .before .before .before .before) .inside)
+add-start c = omega (arith, image-part (c .before .before .before .before .before) .inside)
 
 add-row : tie.Need-add-row Inv-loop μ-loop
 add-row c = search needs
@@ -92,24 +100,25 @@ loop-less c = search needs
 
 loop-again : tie.Need-loop-again Inv-loop μ-loop
 loop-again c =
-    let i = c .before .before .before .before in
+    let i = c .before .before .before .before .before in
     let s = i .before .before in
     let l = i .before .loop in (
       omega arith,
       omega (arith, l .inv .1),
       omega (arith, l .inv .2),
-      row-stepped nearestEighth (l .row) (toZ w32 (ofZ w32 (s .args .weight))) (s .args .flow .now) (s .args .image .now)
-          (l .inv .3) (l .inv .1) (l .inv .2) (unfilled _ (l .inv .3) (flow-part i)) (image-part i) (c .before .step-pairs .ensures),
+      row-stepped nearestEighth (l .row) (toZ w32 (ofZ w32 (s .args .weight))) (s .args .weights .now) (s .args .flow .now) (s .args .image .now)
+          (l .inv .3) (l .inv .1) (l .inv .2) (unfilled _ (l .inv .3) (flow-part i)) (image-part i)
+          (c .before .before .before .before .part-of .ensures) (c .before .step-pairs .ensures),
     )
 
 -- all rows are done: the whole flow is stepped
 ended : (c : tie.After-loop Inv-loop μ-loop) → let s = c .before .before in
     (length (c .before .loop .flow) ≡ length (s .args .flow .now))
-    × (c .before .loop .flow ≡ table (length (s .args .flow .now)) (rowStep nearestEighth (s .args .width) (toZ w32 (ofZ w32 (s .args .weight))) (s .args .flow .now) (s .args .image .now)))
+    × (c .before .loop .flow ≡ table (length (s .args .flow .now)) (rowStep nearestEighth (s .args .width) (weightAt (toZ w32 (ofZ w32 (s .args .weight))) (s .args .weights .now)) (s .args .flow .now) (s .args .image .now)))
 ended c =
     let s = c .before .before in
     let l = c .before .loop in
-    let g = rowStep nearestEighth (s .args .width) (toZ w32 (ofZ w32 (s .args .weight))) (s .args .flow .now) (s .args .image .now) in
+    let g = rowStep nearestEighth (s .args .width) (weightAt (toZ w32 (ofZ w32 (s .args .weight))) (s .args .weights .now)) (s .args .flow .now) (s .args .image .now) in
     let n = rows-end (l .row) _ _ _ _ (l .inv .0) (c .loop-test .left) (l .inv .1) (s .pre .flow-length) in
     let f = l .inv .3 ∙ ap (λ (k : ℕ). filled k g (s .args .flow .now)) n ∙ filled-all g (s .args .flow .now) in
     (ap length f ∙ length-table (length (s .args .flow .now)) g, f)
@@ -128,6 +137,7 @@ step-rows-spec =
     μ-loop
     sub-across
     loop-holds
+    part-of-requires
     add-step-pairs
     mul-step-pairs
     sub-step-pairs

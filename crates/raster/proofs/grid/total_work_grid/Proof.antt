@@ -3,9 +3,9 @@ use mathlib.Core.Path.{_≡_, sym, ap, _∙_}
 use Prim.Native.Nat.{ℕ, _+_, _-_, _*_, _≤_}
 use native.Mathlib.Omega.{arith}
 use borrow.Author.Needs.{needs}
-use lib.IntN.{ℤ, _*ℤ_}
+use lib.IntN.{ℤ, pos, _*ℤ_}
 use lib.ListN.{length, take, drop}
-use lib.Seq.{length-take-le}
+use lib.Seq.{length-take-le, getD-take}
 use mir.Syntax.{w64}
 use mir.Val.{toZ, ofZ}
 use Rattle.integers.specs.Sum.{total}
@@ -76,13 +76,14 @@ module _ (c : tie.After-total-work-rows) where
   upper =
       let s = c .before .before .before .before in
       read w64 (c .before .before .total-work .ok) ∙ c .before .before .total-work .ensures
-      ∙ vertical-run total (λ n _ _. total-cong n) work _ _ _ (s .args .image .now) (above-most s)
+      ∙ vertical-run total (λ n _ _. total-cong n) work _ (at (s .args .flow .now)) (s .args .width) (s .args .height) (s .args .image .now)
+      (length-take-le (above s) (s .args .flow .now) (above-most s)) (λ j b. getD-take (above s) (s .args .flow .now) j (pos 0) b)
 
   lower : let s = c .before .before .before .before in toZ w64 (ofZ w64 (c .total-work-rows .result)) ≡ total (across s) (λ k. term s (above s + k))
   lower =
       let s = c .before .before .before .before in
       read w64 (c .total-work-rows .ok) ∙ c .total-work-rows .ensures
-      ∙ horizontal-run total (λ n _ _. total-cong n) work _ _ _ (s .args .image .now) (lower-part s)
+      ∙ horizontal-run total (λ n _ _. total-cong n) work _ (at (s .args .flow .now)) (s .args .width) (s .args .height) (s .args .image .now) (lower-part s .size) (lower-part s .number)
 
 add-wide-requires : tie.Need-add-wide-requires
 add-wide-requires c κs =

@@ -85,7 +85,7 @@ row-sum : (c : tie.After-total-work Inv-loop μ-loop) → let s = c .before .bef
 row-sum c =
     let i = c .before .before .before in
     let l = i .before .loop in
-    read w64 (c .total-work .ok) ∙ c .total-work .ensures ∙ row-run total (λ n _ _. total-cong n) work (l .row) (l .inv .1) (l .inv .2) (flow-part i) (image-part i)
+    read w64 (c .total-work .ok) ∙ c .total-work .ensures ∙ row-run total (λ n _ _. total-cong n) work _ (at (i .before .before .args .flow .now)) (l .row) (l .inv .1) (l .inv .2) (flow-part i .size) (flow-part i .number) (image-part i)
 
 add-wide-requires : tie.Need-add-wide-requires Inv-loop μ-loop
 add-wide-requires c κs =
