@@ -67,6 +67,9 @@ part-by P none a n l h i = by (decLt i n)
 pub part-within : {k : ℕ} (a n : ℕ) (l : List ℤ) → Within k l → Within k (take n (drop a l))
 part-within {k} a n l h = part-by (λ z. natAbs z ≤ k) zero-le a n l h
 
+pub lent-within : {k : ℕ} (a n : ℕ) (l : List ℤ) {part : List ℤ} → part ≡ take n (drop a l) → Within k l → Within k part
+lent-within {k} a n l o h = subst (Within k) (sym o) (part-within a n l h)
+
 -- n of m pairs' weights, from a on, are there, unless none are
 pub part-there : {m : ℕ} {weights : List ℤ} → WeightLimits m weights → (a n : ℕ) → a + n ≤ m → 0 < length weights → a + n ≤ length weights
 part-there w a n h p = omega (arith, w .lent p)

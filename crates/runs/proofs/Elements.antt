@@ -43,9 +43,12 @@ pub own-inside : {n : ℕ} {weights : List ℤ} → WeightLimits n weights → {
 own-inside w l p = omega (arith, w .lent p)
 
 -- the number that stands for it is the one that stands for all, or its own
+pub own-within : {k : ℕ} (weight : ℤ) (weights : List ℤ) → natAbs weight ≤ k → Within k weights → (j : ℕ) → natAbs (weightAt weight weights j) ≤ k
+own-within {k} weight weights h m = getD-by (λ z. natAbs z ≤ k) weights weight (pos 0) h (λ i _. m i)
+
 module _ {n : ℕ} {weights : List ℤ} (w : WeightLimits n weights) (weight : ℤ) where
   pub own-most : natAbs weight ≤ 2 ^ 20 → (j : ℕ) → natAbs (weightAt weight weights j) ≤ 2 ^ 20
-  own-most h = getD-by (λ z. natAbs z ≤ 2 ^ 20) weights weight (pos 0) h (λ i _. w .most i)
+  own-most h = own-within weight weights h (w .most)
 
   pub own-least : pos 0 ≤ℤ weight → (j : ℕ) → pos 0 ≤ℤ weightAt weight weights j
   own-least h = getD-by (λ z. pos 0 ≤ℤ z) weights weight (pos 0) h (λ i _. w .least i)

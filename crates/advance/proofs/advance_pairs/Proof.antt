@@ -13,8 +13,8 @@ use mir.ValLaws.{toZ-ofZ}
 use Rattle.integers.proofs.Machine.{read, called}
 use Rattle.model.specs.Lists.{at}
 use Rattle.model.specs.Rounds.{eighth}
-use Rattle.runs.specs.Run.{stepAt}
-use Rattle.runs.proofs.Elements.{element, pair-limits}
+use Rattle.runs.specs.Run.{weightAt, stepAt}
+use Rattle.runs.proofs.Elements.{element, own-inside, own-within, pair-limits}
 use Rattle.raster.proofs.Steps.{step-most}
 use Rattle.runs.specs.Limits.{Within}
 use Rattle.runs.proofs.Fill.{Filling, filling-none, filling-more, filling-all, filling-rest}
@@ -24,30 +24,39 @@ use Rattle.advance.proofs.advance_pairs.Statement.{statement}
 use Rattle.advance.proofs.advance_pairs.Tie as tie
 
 abbrev Inv-loop : tie.InvT-loop
-Inv-loop flow₀ ahead₀ image stride weight m j₀ flow ahead j =
-    Filling (stepAt eighth (toZ w32 weight) ahead₀ image stride) flow₀ j flow × Filling (aheadAt eighth (toZ w32 weight) m flow₀ ahead₀ image stride) ahead₀ j ahead
+Inv-loop flow₀ ahead₀ image stride weight weights m j₀ flow ahead j =
+    Filling (stepAt eighth (weightAt (toZ w32 weight) weights) ahead₀ image stride) flow₀ j flow
+    × Filling (aheadAt eighth (weightAt (toZ w32 weight) weights) m flow₀ ahead₀ image stride) ahead₀ j ahead
 
 abbrev μ-loop : tie.MeasureT-loop
-μ-loop flow₀ ahead₀ image stride weight m j₀ flow ahead j = length flow₀ - j
+μ-loop flow₀ ahead₀ image stride weight weights m j₀ flow ahead j = length flow₀ - j
 
 -- a number of a buffer within the weights' limit, as the machine reads it back
 small : (l : List ℤ) → Within 65280 l → (i : ℕ) → toZ w32 (ofZ w32 (at l i)) ≡ at l i
 small l h = element l (λ i. omega (arith, h i))
 
+-- the weight of pair j
+own : (c : tie.After-number-or Inv-loop μ-loop) → let s = c .before .before .before in
+    toZ w32 (ofZ w32 (c .number-or .result)) ≡ weightAt (toZ w32 (ofZ w32 (s .args .weight))) (s .args .weights .now) (c .before .before .loop .j)
+own c = read w32 (c .number-or .ok) ∙ c .number-or .ensures
+
 -- the stepped number, as the next operation reads it
 next-is : (c : tie.After-step-value Inv-loop μ-loop) →
-    let s = c .before .before .before .before .before .before in
+    let s = c .before .before .before .before .before .before .before in
     toZ w32 (ofZ w32 (c .step-value .result))
-    ≡ stepAt eighth (toZ w32 (ofZ w32 (s .args .weight))) (s .args .ahead .now) (s .args .image .now) (s .args .stride) (c .before .before .before .before .before .loop .j)
+    ≡ stepAt eighth (weightAt (toZ w32 (ofZ w32 (s .args .weight))) (s .args .weights .now)) (s .args .ahead .now) (s .args .image .now) (s .args .stride) (c .before .before .before .before .before .before .loop .j)
 next-is c =
-    let s = c .before .before .before .before .before .before in
-    let l = c .before .before .before .before .before .loop in
+    let s = c .before .before .before .before .before .before .before in
+    let l = c .before .before .before .before .before .before .loop in
     let p = s .pre .step in
     called w32 (c .step-value .ok) (λ z. z) (c .step-value .ensures)
-    (rw (filling-rest (l .inv .1) (l .j) (pos 0) (le-refl (l .j)), element (s .args .ahead .now) (p .flow-most) (l .j), element (s .args .image .now) (p .image-most) (l .j), element (s .args .image .now) (p .image-most) (l .j + s .args .stride)))
+    (rw (own (c .before .before .before .before), filling-rest (l .inv .1) (l .j) (pos 0) (le-refl (l .j)), element (s .args .ahead .now) (p .flow-most) (l .j), element (s .args .image .now) (p .image-most) (l .j), element (s .args .image .now) (p .image-most) (l .j + s .args .stride)))
 
 loop-holds : tie.Need-loop-holds Inv-loop μ-loop
 loop-holds c = (filling-none _ _, filling-none _ _)
+
+number-or-requires : tie.Need-number-or-requires Inv-loop μ-loop
+number-or-requires c κs = let p = c .before .before .pre in own-inside (p .step .weights-limits) (omega (arith, p .same-length))
 
 mul-step-value : tie.Need-mul-step-value Inv-loop μ-loop
 mul-step-value c = search needs
@@ -72,10 +81,10 @@ shared-slice-copy-out-step-value-2 c = search needs
 
 step-value-requires : tie.Need-step-value-requires Inv-loop μ-loop
 step-value-requires c κs =
-    let s = c .before .before .before .before .before in
-    let l = c .before .before .before .before .loop in
+    let s = c .before .before .before .before .before .before in
+    let l = c .before .before .before .before .before .loop in
     let p = s .pre .step in
-    rw (toZ-ofZ w32 (s .args .weight) (s .fits .weight), filling-rest (l .inv .1) (l .j) (pos 0) (le-refl (l .j)), element (s .args .ahead .now) (p .flow-most) (l .j), element (s .args .image .now) (p .image-most) (l .j), element (s .args .image .now) (p .image-most) (l .j + s .args .stride))
+    rw (own (c .before .before .before), toZ-ofZ w32 (s .args .weight) (s .fits .weight), filling-rest (l .inv .1) (l .j) (pos 0) (le-refl (l .j)), element (s .args .ahead .now) (p .flow-most) (l .j), element (s .args .image .now) (p .image-most) (l .j), element (s .args .image .now) (p .image-most) (l .j + s .args .stride))
     (pair-limits p (l .j))
 
 mul-extrapolated : tie.Need-mul-extrapolated Inv-loop μ-loop
@@ -87,15 +96,16 @@ slice-copy-out-extrapolated c = search needs
 extrapolated-requires : tie.Need-extrapolated-requires Inv-loop μ-loop
 extrapolated-requires c κs =
     let v = c .before in
-    let s = v .before .before .before .before .before .before in
-    let l = v .before .before .before .before .before .loop in (
+    let s = v .before .before .before .before .before .before .before in
+    let l = v .before .before .before .before .before .before .loop in (
       rw (filling-rest (l .inv .0) (l .j) (pos 0) (le-refl (l .j)), small (s .args .flow .now) (s .pre .flow-most) (l .j)) (s .pre .flow-most (l .j)),
-      rw (next-is v) (le-trans (step-most eighth (toZ w32 (ofZ w32 (s .args .weight))) _ _ _) (rw (toZ-ofZ w32 (s .args .weight) (s .fits .weight)) (s .pre .weight-most))),
+      rw (next-is v) (le-trans (step-most eighth (weightAt (toZ w32 (ofZ w32 (s .args .weight))) (s .args .weights .now) (l .j)) _ _ _)
+      (own-within _ (s .args .weights .now) (rw (toZ-ofZ w32 (s .args .weight) (s .fits .weight)) (s .pre .weight-most)) (s .pre .weights-most) (l .j))),
       s .pre .factor-most,
     )
 
-mul-t18 : tie.Need-mul-t18 Inv-loop μ-loop
-mul-t18 c = search needs
+mul-t20 : tie.Need-mul-t20 Inv-loop μ-loop
+mul-t20 c = search needs
 
 slice-set-from-ahead : tie.Need-slice-set-from-ahead Inv-loop μ-loop
 slice-set-from-ahead c = search needs
@@ -115,8 +125,8 @@ loop-less c = search needs
 loop-again : tie.Need-loop-again Inv-loop μ-loop
 loop-again c =
     let v = c .before .before in
-    let s = v .before .before .before .before .before .before in
-    let l = v .before .before .before .before .before .loop in (
+    let s = v .before .before .before .before .before .before .before in
+    let l = v .before .before .before .before .before .before .loop in (
       filling-more (l .inv .0) (omega arith) (next-is v),
       filling-more (l .inv .1) (omega (arith, s .pre .same-length))
           (read w32 (c .extrapolated .ok) ∙ c .extrapolated .ensures
@@ -146,6 +156,7 @@ advance-pairs-spec =
     Inv-loop
     μ-loop
     loop-holds
+    number-or-requires
     mul-step-value
     slice-copy-out-step-value
     mul-step-value-2
@@ -157,7 +168,7 @@ advance-pairs-spec =
     mul-extrapolated
     slice-copy-out-extrapolated
     extrapolated-requires
-    mul-t18
+    mul-t20
     slice-set-from-ahead
     mul-next
     slice-set-from-next

@@ -10,9 +10,10 @@ use mir.ValLaws.{toZ-ofZ}
 use Rattle.model.specs.Lists.{table}
 use Rattle.model.proofs.Lists.{length-table}
 use Rattle.model.specs.Rounds.{eighth}
+use Rattle.runs.specs.Run.{weightAt}
 use Rattle.raster.specs.Whole.{rowStep}
 use Rattle.runs.proofs.Fill.{filled, filled-none, length-filled, filled-done}
-use Rattle.raster.proofs.Rows.{row-end, put-part}
+use Rattle.raster.proofs.Rows.{row-end, put-part, lent-within, part-there}
 use Rattle.raster.proofs.Runs.{Stretch, cut, lent, unfilled, row-limits}
 use Rattle.advance.specs.Ahead.{rowAhead}
 use Rattle.advance.proofs.Runs.{row-iterate, row-ahead}
@@ -20,13 +21,13 @@ use Rattle.advance.proofs.advance_rows.Statement.{statement}
 use Rattle.advance.proofs.advance_rows.Tie as tie
 
 abbrev Inv-loop : tie.InvT-loop
-Inv-loop flow₀ ahead₀ image width height weight m across at₀ start₀ row₀ flow ahead at start row =
+Inv-loop flow₀ ahead₀ image width height weight weights m across at₀ start₀ row₀ flow ahead at start row =
     (row ≤ height) × (at ≡ row * across) × (start ≡ row * width)
-    × (flow ≡ filled at (rowStep eighth width (toZ w32 weight) ahead₀ image) flow₀)
-    × (ahead ≡ filled at (rowAhead eighth width (toZ w32 weight) m flow₀ ahead₀ image) ahead₀)
+    × (flow ≡ filled at (rowStep eighth width (weightAt (toZ w32 weight) weights) ahead₀ image) flow₀)
+    × (ahead ≡ filled at (rowAhead eighth width (weightAt (toZ w32 weight) weights) m flow₀ ahead₀ image) ahead₀)
 
 abbrev μ-loop : tie.MeasureT-loop
-μ-loop flow₀ ahead₀ image width height weight m across at₀ start₀ row₀ flow ahead at start row = height - row
+μ-loop flow₀ ahead₀ image width height weight weights m across at₀ start₀ row₀ flow ahead at start row = height - row
 
 sub-across : tie.Need-sub-across Inv-loop μ-loop
 sub-across c = search needs
@@ -68,11 +69,16 @@ module _ (c : tie.In-loop Inv-loop μ-loop) where
 loop-holds : tie.Need-loop-holds Inv-loop μ-loop
 loop-holds c = (omega arith, omega arith, omega arith, sym (filled-none _ _), sym (filled-none _ _))
 
+part-of-requires : tie.Need-part-of-requires Inv-loop μ-loop
+part-of-requires c κs =
+    let p = c .before .before .pre in
+    part-there (p .rows .weights-limits) _ _ (omega (arith, stretch c, p .same-length, p .rows .flow-length))
+
 add-advance-pairs : tie.Need-add-advance-pairs Inv-loop μ-loop
-add-advance-pairs c = omega (arith, stretch c)
+add-advance-pairs c = omega (arith, stretch (c .before))
 
 mul-advance-pairs : tie.Need-mul-advance-pairs Inv-loop μ-loop
-mul-advance-pairs c = omega (arith, stretch c, c .before .before .good .0 .1)
+mul-advance-pairs c = omega (arith, stretch (c .before), c .before .before .before .good .0 .1)
 
 sub-advance-pairs : tie.Need-sub-advance-pairs Inv-loop μ-loop
 sub-advance-pairs c = search needs
@@ -81,13 +87,13 @@ part-advance-pairs-start : tie.Need-part-advance-pairs-start Inv-loop μ-loop
 part-advance-pairs-start c = search needs
 
 part-advance-pairs-end : tie.Need-part-advance-pairs-end Inv-loop μ-loop
-part-advance-pairs-end c = omega (arith, stretch c, same-flow c)
+part-advance-pairs-end c = omega (arith, stretch (c .before), same-flow (c .before))
 
 add-advance-pairs-2 : tie.Need-add-advance-pairs-2 Inv-loop μ-loop
-add-advance-pairs-2 c = omega (arith, stretch (c .before))
+add-advance-pairs-2 c = omega (arith, stretch (c .before .before))
 
 mul-advance-pairs-2 : tie.Need-mul-advance-pairs-2 Inv-loop μ-loop
-mul-advance-pairs-2 c = omega (arith, stretch (c .before), c .before .before .before .good .0 .1)
+mul-advance-pairs-2 c = omega (arith, stretch (c .before .before), c .before .before .before .before .good .0 .1)
 
 sub-advance-pairs-2 : tie.Need-sub-advance-pairs-2 Inv-loop μ-loop
 sub-advance-pairs-2 c = search needs
@@ -96,13 +102,13 @@ part-advance-pairs-start-2 : tie.Need-part-advance-pairs-start-2 Inv-loop μ-loo
 part-advance-pairs-start-2 c = search needs
 
 part-advance-pairs-end-2 : tie.Need-part-advance-pairs-end-2 Inv-loop μ-loop
-part-advance-pairs-end-2 c = omega (arith, stretch (c .before), same-ahead (c .before), c .before .before .before .pre .same-length)
+part-advance-pairs-end-2 c = omega (arith, stretch (c .before .before), same-ahead (c .before .before), c .before .before .before .before .pre .same-length)
 
 add-advance-pairs-3 : tie.Need-add-advance-pairs-3 Inv-loop μ-loop
-add-advance-pairs-3 c = omega (arith, pixels (c .before .before))
+add-advance-pairs-3 c = omega (arith, pixels (c .before .before .before))
 
 mul-advance-pairs-3 : tie.Need-mul-advance-pairs-3 Inv-loop μ-loop
-mul-advance-pairs-3 c = omega (arith, pixels (c .before .before), c .before .before .before .before .good .1 .1 .0 .1)
+mul-advance-pairs-3 c = omega (arith, pixels (c .before .before .before), c .before .before .before .before .before .good .1 .1 .0 .1)
 
 sub-advance-pairs-3 : tie.Need-sub-advance-pairs-3 Inv-loop μ-loop
 sub-advance-pairs-3 c = search needs
@@ -111,26 +117,27 @@ part-advance-pairs-start-3 : tie.Need-part-advance-pairs-start-3 Inv-loop μ-loo
 part-advance-pairs-start-3 c = search needs
 
 part-advance-pairs-end-3 : tie.Need-part-advance-pairs-end-3 Inv-loop μ-loop
-part-advance-pairs-end-3 c = pixels (c .before .before)
+part-advance-pairs-end-3 c = pixels (c .before .before .before)
 
 advance-pairs-requires : tie.Need-advance-pairs-requires Inv-loop μ-loop
 advance-pairs-requires c κs =
-    let i = c .before .before .before in
+    let i = c .before .before .before .before in
     let s = i .before .before in
     let p = s .pre in
     record {
-      step = rw (toZ-ofZ w32 _ (s .fits .weight)) (row-limits (p .rows) (ahead-part i) (image-part i));
+      step = rw (toZ-ofZ w32 _ (s .fits .weight)) (row-limits (p .rows) (c .before .before .before .part-of .ensures) (ahead-part i) (image-part i));
       same-length = flow-part i .size ∙ sym (ahead-part i .size);
       weight-most = rw (toZ-ofZ w32 _ (s .fits .weight)) (p .weight-most);
+      weights-most = lent-within (i .before .loop .at) (s .args .width - 1) (s .args .weights .now) (c .before .before .before .part-of .ensures) (p .weights-most);
       flow-most = flow-part i .within (p .flow-most);
       factor-most = p .factor-most;
     }
 
 add-at : tie.Need-add-at Inv-loop μ-loop
-add-at c = omega (arith, stretch (c .before .before .before .before .before .before))
+add-at c = omega (arith, stretch (c .before .before .before .before .before .before .before))
 
 add-start : tie.Need-add-start Inv-loop μ-loop
-add-start c = omega (arith, pixels (c .before .before .before .before .before .before))
+add-start c = omega (arith, pixels (c .before .before .before .before .before .before .before))
 
 add-row : tie.Need-add-row Inv-loop μ-loop
 add-row c = search needs
@@ -140,7 +147,8 @@ loop-less c = search needs
 
 loop-again : tie.Need-loop-again Inv-loop μ-loop
 loop-again c =
-    let i = c .before .before .before .before .before .before in
+    let i = c .before .before .before .before .before .before .before in
+    let own = c .before .before .before .before .before .before .part-of .ensures in
     let s = i .before .before in
     let l = i .before .loop in
     let w = s .args .width in
@@ -150,16 +158,16 @@ loop-again c =
       omega (arith, l .inv .2),
       put-part (l .at) (w - 1) _ (s .args .flow .now) (l .inv .3)
           (c .before .before .advance-pairs .ensures .0
-          ∙ row-iterate eighth (l .row) (s .args .m) weight (l .inv .1) (l .inv .2) (flow-part i) (ahead-part i) (image-part i)),
+          ∙ row-iterate eighth (l .row) (s .args .m) weight (s .args .weights .now) (l .inv .1) (l .inv .2) own (flow-part i) (ahead-part i) (image-part i)),
       put-part (l .at) (w - 1) _ (s .args .ahead .now) (l .inv .4)
           (c .before .before .advance-pairs .ensures .1
-          ∙ row-ahead eighth (l .row) (s .args .m) weight (l .inv .1) (l .inv .2) (flow-part i) (ahead-part i) (image-part i)),
+          ∙ row-ahead eighth (l .row) (s .args .m) weight (s .args .weights .now) (l .inv .1) (l .inv .2) own (flow-part i) (ahead-part i) (image-part i)),
     )
 
 -- all rows are done
 ended : (c : tie.After-loop Inv-loop μ-loop) → let s = c .before .before in
     let n = length (s .args .flow .now) in
-    let weight = toZ w32 (ofZ w32 (s .args .weight)) in
+    let weight = weightAt (toZ w32 (ofZ w32 (s .args .weight))) (s .args .weights .now) in
     (length (c .before .loop .flow) ≡ n)
     × (length (c .before .loop .ahead) ≡ length (s .args .ahead .now))
     × (c .before .loop .flow ≡ table n (rowStep eighth (s .args .width) weight (s .args .ahead .now) (s .args .image .now)))
@@ -196,6 +204,7 @@ advance-rows-spec =
     μ-loop
     sub-across
     loop-holds
+    part-of-requires
     add-advance-pairs
     mul-advance-pairs
     sub-advance-pairs
