@@ -2,25 +2,30 @@
 use mathlib.Core.Path.{_≡_, sym, ap, ap₂, _∙_}
 use mathlib.Core.Bool.{not}
 use mathlib.Core.List.{List, []}
-use Prim.Native.Nat.{ℕ, _*_, _/_, _%_, _<_}
+use mathlib.Core.Logic.{⊎-elim}
+use Prim.Native.Nat.{ℕ, _*_, _/_, _%_, _^_, _≤_, _<_, zero-le}
 use native.Mathlib.Nat.{div-add-mod', div-lt-iff-lt-mul, mod-lt}
 use native.Mathlib.Omega.{arith}
-use lib.IntN.{ℤ, pos, negℤ, _+ℤ_, _-ℤ_, _*ℤ_}
-use lib.ListN.{getD}
+use lib.IntN.{ℤ, pos, natAbs, negℤ, _+ℤ_, _-ℤ_, _*ℤ_}
+use lib.ListN.{length, getD}
+use lib.Signed.{_≤ℤ_}
 use Rattle.integers.specs.Whole.{abs, square, clamp, sameZ}
 use Rattle.integers.specs.Sum.{total}
+use Rattle.integers.proofs.Order.{0≤pos}
+use Rattle.integers.proofs.Absolute.{natAbs-upto}
 use Rattle.integers.proofs.Total.{total-cong}
 use Rattle.model.specs.declared.Terms.{Terms}
 use Rattle.model.specs.Lists.{at, table, firstWhere}
 use Rattle.model.specs.Problem.{pairCount, firstOf, secondOf, fall, misfit, pull, image}
 use Rattle.model.specs.Grid.{readingOf, lowEnd, highEnd, grid}
 use Rattle.model.specs.Rounds.{stepped, step, wouldMove, firstMoving}
-use Rattle.model.specs.Calls.{imageOf}
+use Rattle.model.specs.Calls.{pairsOf, imageOf}
 use Rattle.model.specs.Accepted.{WeightsAllowed}
 use Rattle.model.proofs.Answers.{held-image}
 use Rattle.model.proofs.Weights.{weight-is}
-use Rattle.model.proofs.Lists.{firstWhere-cong}
+use Rattle.model.proofs.Lists.{firstWhere-cong, getD-by}
 use Rattle.model.proofs.Pairs.{neighbours, first-inside, second-inside}
+use Rattle.runs.specs.Limits.{Within, WeightLimits}
 use Rattle.runs.specs.Ends.{BoxEnds}
 use Rattle.runs.specs.Run.{weightAt}
 use Rattle.primal.specs.Image.{imageValue}
@@ -29,7 +34,7 @@ use Rattle.raster.specs.Whole.{gridStep, gridMoves, gridFall}
 use Rattle.runs.proofs.Fill.{table-cong}
 use Rattle.primal.proofs.Stencil.{pull-gathered}
 
-module _ (t : Terms) (samples : List ℕ) (weights : List ℤ) where
+module _ (t : Terms) (samples : List ℕ) where
   -- pixel i at its row and column
   placed : (i : ℕ) → i < t .width * t .height → (i / t .width < t .height) × (i % t .width < t .width)
   placed i l = (div-lt-iff-lt-mul broad .1 (omega arith), mod-lt i broad)
@@ -50,6 +55,21 @@ module _ (t : Terms) (samples : List ℕ) (weights : List ℤ) where
       (sym (pull-gathered t samples [] (at flow) (i / t .width) (i % t .width) (placed i l .0) (placed i l .1))
       ∙ ap (pull (grid t samples []) (at flow)) (div-add-mod' i (t .width)))))
 
+-- The weights of an allowed job are within the limits of the passes
+module _ (t : Terms) (weights : List ℤ) (own : WeightsAllowed t weights) where
+  pub weights-within : Within 65280 weights
+  weights-within =
+      getD-by (λ z. natAbs z ≤ 65280) weights (pos 0) (pos 0) zero-le (λ j l. natAbs-upto (own .range j l .0) (own .range j l .1))
+
+  pub weight-limits : WeightLimits (pairsOf t) weights
+  weight-limits =
+      record {
+        lent = λ p. ⊎-elim (λ (z : length weights ≡ 0). absurd (omega arith)) (λ e. e) (own .count);
+        least = getD-by (λ z. pos 0 ≤ℤ z) weights (pos 0) (pos 0) (0≤pos 0) (λ j l. own .range j l .0);
+        most = λ i. omega (arith, weights-within i);
+      }
+
+module _ (t : Terms) (samples : List ℕ) (weights : List ℤ) where
   module _ (flow : List ℤ) {values : List ℤ} (e : values ≡ imageOf t samples flow) where
     value-at : (i : ℕ) → i < t .width * t .height → at values i ≡ image (grid t samples weights) (at flow) i
     value-at = held-image t samples weights flow e

@@ -1,5 +1,5 @@
--- What quick rounds keep, whatever share of a fall their steps add: P within the weight and R within three times the weight.
--- Assumes nothing.
+-- What quick rounds keep, whatever share of a fall their steps add: P within the limit of weights, and R within three times
+-- that. Assumes nothing.
 use mathlib.Core.Path.{subst}
 use mathlib.Core.List.{List}
 use Prim.Native.Nat.{ℕ, zero, suc, _*_, zero-le}
@@ -10,6 +10,7 @@ use Rattle.model.specs.Lists.{at}
 use Rattle.model.specs.Problem.{pairCount}
 use Rattle.model.specs.Grid.{grid}
 use Rattle.model.specs.Rounds.{step, nextMomentum, Quick, quickStart, quickRound, quickRounds}
+use Rattle.model.specs.Accepted.{TermsAllowed, WeightsAllowed}
 use Rattle.model.proofs.Lists.{table-constant}
 use Rattle.model.proofs.Root.{momentum-least}
 use Rattle.runs.specs.Limits.{Within}
@@ -20,19 +21,19 @@ use Rattle.rounds.proofs.Model.{step-within}
 zeros-within : (n w : ℕ) → Within w (replicate n (pos 0))
 zeros-within n w = subst (Within w) (table-constant n (pos 0)) (within-table n (λ _. pos 0) (λ _ _. zero-le))
 
-module _ (share : ℤ → ℤ) (t : Terms) (samples : List ℕ) where
-  pub iterate-within : (k : ℕ) → Within (t .weight) (quickRounds share (grid t samples) k .iterate)
+module _ (share : ℤ → ℤ) (t : Terms) (samples : List ℕ) (weights : List ℤ) (limits : TermsAllowed t) (own : WeightsAllowed t weights) where
+  pub iterate-within : (k : ℕ) → Within 65280 (quickRounds share (grid t samples weights) k .iterate)
   unfolding quickRounds quickStart quickRound
-  iterate-within zero = zeros-within (pairCount (grid t samples)) (t .weight)
-  iterate-within (suc k) = step-within t samples share (quickRounds share (grid t samples) k .extrapolated)
+  iterate-within zero = zeros-within (pairCount (grid t samples weights)) 65280
+  iterate-within (suc k) = step-within t samples weights limits own share (quickRounds share (grid t samples weights) k .extrapolated)
 
-  pub ahead-within : (k : ℕ) → Within (3 * t .weight) (quickRounds share (grid t samples) k .extrapolated)
+  pub ahead-within : (k : ℕ) → Within (3 * 65280) (quickRounds share (grid t samples weights) k .extrapolated)
   unfolding quickRounds quickStart quickRound
-  ahead-within zero = zeros-within (pairCount (grid t samples)) (3 * t .weight)
+  ahead-within zero = zeros-within (pairCount (grid t samples weights)) (3 * 65280)
   ahead-within (suc k) =
-      let s : Quick = quickRounds share (grid t samples) k in
-      let low = momentum-low share (grid t samples) k in
-      within-table (pairCount (grid t samples)) _ (λ j _.
-      extrapolate-bound (s .momentum) (nextMomentum (s .momentum)) (t .weight) (at (s .iterate) j)
-      (at (step share (grid t samples) (s .extrapolated)) j) low (momentum-least (s .momentum) low) (iterate-within k j)
-      (step-within t samples share (s .extrapolated) j))
+      let s : Quick = quickRounds share (grid t samples weights) k in
+      let low = momentum-low share (grid t samples weights) k in
+      within-table (pairCount (grid t samples weights)) _ (λ j _.
+      extrapolate-bound (s .momentum) (nextMomentum (s .momentum)) 65280 (at (s .iterate) j)
+      (at (step share (grid t samples weights) (s .extrapolated)) j) low (momentum-least (s .momentum) low) (iterate-within k j)
+      (step-within t samples weights limits own share (s .extrapolated) j))

@@ -1,6 +1,6 @@
 -- A quick round in buffers is the model's, on document 01's grid. Assumes nothing.
 use mathlib.Core.Path.{_≡_, sym, ap, _∙_}
-use mathlib.Core.List.{List}
+use mathlib.Core.List.{List, []}
 use Prim.Native.Nat.{ℕ, _-_, _*_, _^_, _≤_, _<_}
 use native.Mathlib.Nat.{mul-le-mul, le-of-mul-le-mul-right, le-trans}
 use native.Mathlib.Omega.{arith}
@@ -11,13 +11,16 @@ use Rattle.integers.proofs.Clamp.{clamp-size, natAbs-clamp}
 use Rattle.model.specs.declared.Terms.{Terms}
 use Rattle.model.specs.Lists.{at, table}
 use Rattle.model.specs.Problem.{pairCount, image}
-use Rattle.model.specs.Grid.{lowEnd, highEnd, grid}
+use Rattle.model.specs.Grid.{weightOf, lowEnd, highEnd, grid}
 use Rattle.model.specs.Rounds.{stepped, step, nextMomentum, quickRound}
 use Rattle.model.specs.Calls.{imageOf}
+use Rattle.model.specs.Accepted.{TermsAllowed, WeightsAllowed}
 use Rattle.model.proofs.Lists.{getD-table}
+use Rattle.model.proofs.Weights.{weight-most}
 use Rattle.model.proofs.Range.{widest-fits, low-size, high-size}
 use Rattle.model.proofs.Root.{momentum-grows, momentum-least}
 use Rattle.runs.specs.Limits.{Within}
+use Rattle.runs.specs.Run.{weightAt}
 use Rattle.raster.specs.Whole.{gridStep}
 use Rattle.runs.proofs.Elements.{within-table}
 use Rattle.runs.proofs.Fill.{table-cong}
@@ -45,48 +48,51 @@ factor-most momentum m h l r =
     le-of-mul-le-mul-right {k = nextMomentum momentum} (omega (arith, r .near, b .2)) (b .0)
 
 module _ (t : Terms) (samples : List ℕ) where
-  -- a flow's image is within the limits of a pass, and a step within the weight
+  -- a flow's image is within the limits of a pass
   pub image-most : t .low < 256 → t .high < 256 → (flow : List ℤ) → Within (2 ^ 20) (imageOf t samples flow)
   unfolding imageOf image
   image-most l u flow =
-      within-table (t .width * t .height) (image (grid t samples) (at flow))
+      within-table (t .width * t .height) (image (grid t samples []) (at flow))
       (λ i _. le-trans (clamp-size (lowEnd (t .low)) (highEnd (t .high)) _ (low-size (t .low) l) (high-size (t .high) u)) (le-trans widest-fits (lit≤ tt)))
 
-  pub step-within : (share : ℤ → ℤ) (flow : List ℤ) → Within (t .weight) (step share (grid t samples) flow)
+module _ (t : Terms) (samples : List ℕ) (weights : List ℤ) (limits : TermsAllowed t) (own : WeightsAllowed t weights) where
+  -- and a step within that of weights
+  pub step-within : (share : ℤ → ℤ) (flow : List ℤ) → Within 65280 (step share (grid t samples weights) flow)
   unfolding step stepped
   step-within share flow =
-      within-table (pairCount (grid t samples)) (stepped share (grid t samples) (at flow)) (λ j _. natAbs-clamp (t .weight) _)
+      within-table (pairCount (grid t samples weights)) (stepped share (grid t samples weights) (at flow)) (λ j _.
+      le-trans (natAbs-clamp (weightOf t weights j) _) (weight-most t weights own (limits .weight-most) j))
 
   module _ (share : ℤ → ℤ) (flow ahead : List ℤ) (momentum : ℕ) {values : List ℤ} (e : values ≡ imageOf t samples ahead) where
-    pub iterate-is : table (pairCount (grid t samples)) (gridStep share (t .width) (t .height) (pos (t .weight)) ahead values)
-        ≡ quickRound share (grid t samples) (held flow ahead momentum) .iterate
+    pub iterate-is : table (pairCount (grid t samples weights)) (gridStep share (t .width) (t .height) (weightAt (pos (t .weight)) weights) ahead values)
+        ≡ quickRound share (grid t samples weights) (held flow ahead momentum) .iterate
     unfolding quickRound
-    iterate-is = stepped-is t samples ahead e share
+    iterate-is = stepped-is t samples weights ahead e share own
 
-    now-is : (j : ℕ) → j < pairCount (grid t samples) →
-        gridStep share (t .width) (t .height) (pos (t .weight)) ahead values j ≡ at (step share (grid t samples) ahead) j
+    now-is : (j : ℕ) → j < pairCount (grid t samples weights) →
+        gridStep share (t .width) (t .height) (weightAt (pos (t .weight)) weights) ahead values j ≡ at (step share (grid t samples weights) ahead) j
     unfolding step
     now-is j l =
-        step-is t samples ahead e share j l
-        ∙ sym (getD-table (pairCount (grid t samples)) (stepped share (grid t samples) (at ahead)) j (pos 0) l)
+        step-is t samples weights ahead e share own j l
+        ∙ sym (getD-table (pairCount (grid t samples weights)) (stepped share (grid t samples weights) (at ahead)) j (pos 0) l)
 
-    module _ (m : ℕ) (weight-most : t .weight ≤ 65280) (flow-most : Within 65280 flow) (least : 65536 ≤ momentum)
+    module _ (m : ℕ) (flow-most : Within 65280 flow) (least : 65536 ≤ momentum)
         (most : momentum < 2 ^ 29 - 65536) (r : Reciprocal (momentum - 65536) (nextMomentum momentum) m)
       where
-        small : (j : ℕ) → natAbs (at (step share (grid t samples) ahead) j -ℤ at flow j) * nextMomentum momentum < 70368744177664
+        small : (j : ℕ) → natAbs (at (step share (grid t samples weights) ahead) j -ℤ at flow j) * nextMomentum momentum < 70368744177664
         small j =
-            let now : ℤ = at (step share (grid t samples) ahead) j in
+            let now : ℤ = at (step share (grid t samples weights) ahead) j in
             let d : natAbs (now -ℤ at flow j) ≤ 130560 =
             omega (arith, natAbs-difference now (at flow j), step-within share ahead j, flow-most j)
             in
             let n : nextMomentum momentum ≤ 2 ^ 29 = omega (arith, next-range momentum least most .2) in
             omega (arith, mul-le-mul d n)
 
-        pub ahead-is : table (pairCount (grid t samples)) (gridAhead share (t .width) (t .height) (pos (t .weight)) m flow ahead values)
-            ≡ quickRound share (grid t samples) (held flow ahead momentum) .extrapolated
+        pub ahead-is : table (pairCount (grid t samples weights)) (gridAhead share (t .width) (t .height) (weightAt (pos (t .weight)) weights) m flow ahead values)
+            ≡ quickRound share (grid t samples weights) (held flow ahead momentum) .extrapolated
         unfolding quickRound
         ahead-is =
-            table-cong (pairCount (grid t samples)) (λ j l.
+            table-cong (pairCount (grid t samples weights)) (λ j l.
             ap (aheadOf m (at flow j)) (now-is j l)
-            ∙ extrapolate-is momentum (nextMomentum momentum) m (at flow j) (at (step share (grid t samples) ahead) j) least
+            ∙ extrapolate-is momentum (nextMomentum momentum) m (at flow j) (at (step share (grid t samples weights) ahead) j) least
             (next-range momentum least most .0) r (small j))

@@ -1,6 +1,6 @@
 -- What the passes of a round ask and leave: the image of a flow, then all pairs. Assumes nothing.
 use mathlib.Core.Path.{_≡_, ap, _∙_, sym, subst}
-use mathlib.Core.List.{List}
+use mathlib.Core.List.{List, []}
 use Prim.Native.Nat.{ℕ, _*_, _^_, _<_}
 use native.Mathlib.Omega.{arith}
 use lib.IntN.{ℤ, pos}
@@ -15,13 +15,14 @@ use Rattle.model.proofs.Pairs.{grid-count}
 use Rattle.runs.specs.Limits.{Within}
 use Rattle.primal.specs.Limits.{ImageLimits}
 use Rattle.raster.specs.Whole.{GridLimits}
-use Rattle.model.specs.Accepted.{TermsAllowed}
+use Rattle.model.specs.Accepted.{TermsAllowed, WeightsAllowed}
+use Rattle.raster.proofs.Model.{weight-limits}
 use Rattle.rounds.proofs.Model.{image-most}
 
 -- an image has a value for each pixel
 pub image-size : (t : Terms) (samples : List ℕ) (flow : List ℤ) {values : List ℤ} → values ≡ imageOf t samples flow → length values ≡ t .width * t .height
 unfolding imageOf
-image-size t samples flow e = ap length e ∙ length-table (t .width * t .height) (image (grid t samples) (at flow))
+image-size t samples flow e = ap length e ∙ length-table (t .width * t .height) (image (grid t samples []) (at flow))
 
 module _ (t : Terms) (samples : List ℕ) {flow values : List ℤ} (limits : TermsAllowed t)
     (flow-length : length flow ≡ length (gridPairs (t .width) (t .height))) (flow-most : Within (2 ^ 20) flow)
@@ -38,9 +39,9 @@ module _ (t : Terms) (samples : List ℕ) {flow values : List ℤ} (limits : Ter
           flow-most = flow-most;
         }
 
-    pub grid-limits : t .low < 256 → t .high < 256 → values ≡ imageOf t samples flow →
-        GridLimits (t .width) (t .height) (pos (t .weight)) flow values
-    grid-limits l u e =
+    pub grid-limits : (weights : List ℤ) → WeightsAllowed t weights → t .low < 256 → t .high < 256 → values ≡ imageOf t samples flow →
+        GridLimits (t .width) (t .height) (pos (t .weight)) weights flow values
+    grid-limits weights own l u e =
         record {
           size =
               record {
@@ -51,6 +52,7 @@ module _ (t : Terms) (samples : List ℕ) {flow values : List ℤ} (limits : Ter
                 image-length = image-size t samples flow e;
               };
           weight-most = omega (arith, limits .weight-most);
+          weights-limits = weight-limits t weights own;
           flow-most = flow-most;
           image-most = subst (Within (2 ^ 20)) (sym e) (image-most t samples l u flow);
         }

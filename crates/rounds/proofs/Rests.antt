@@ -102,17 +102,18 @@ module _ {share : ℤ → ℤ} {p : Problem} {allowance : ℕ} {flow₀ : List �
       by false e h = rests share p flow (allowance - k) (sym e)
 
 -- the buffers after a round: a step on the flow, and an image of the length that it had
-pub ready-more : (share : ℤ → ℤ) {t : Terms} {samples : List ℕ} {flow image : List ℤ} → SteadyReady t samples flow image →
-    {flow₁ image₁ : List ℤ} → flow₁ ≡ step share (grid t samples) flow → length image₁ ≡ t .width * t .height →
-    SteadyReady t samples flow₁ image₁
-ready-more share {t} {samples} {flow} r s l =
+pub ready-more : (share : ℤ → ℤ) {t : Terms} {samples : List ℕ} {weights flow image : List ℤ} → SteadyReady t samples weights flow image →
+    {flow₁ image₁ : List ℤ} → flow₁ ≡ step share (grid t samples weights) flow → length image₁ ≡ t .width * t .height →
+    SteadyReady t samples weights flow₁ image₁
+ready-more share {t} {samples} {weights} {flow} r s l =
     record {
       limits = r .limits;
+      pair-weights = r .pair-weights;
       lengths =
           record {
             samples-length = r .lengths .samples-length;
-            flow-length = ap length s ∙ step-size share (grid t samples) flow;
+            flow-length = ap length s ∙ step-size share (grid t samples weights) flow;
             image-length = l;
           };
-      flow-most = subst (Within (t .weight)) (sym s) (step-within t samples share flow);
+      flow-most = subst (Within 65280) (sym s) (step-within t samples weights (r .limits) (r .pair-weights) share flow);
     }

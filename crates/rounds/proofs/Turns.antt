@@ -20,17 +20,17 @@ use Rattle.model.proofs.Sizes.{iterate-size, ahead-size}
 use Rattle.rounds.proofs.Kept.{iterate-within, ahead-within}
 
 -- after k rounds: the flow holds P, the work buffer the earlier P and R, the image that of the R stepped on last
-pub record Turned (t : Terms) (quick : ℕ) (samples : List ℕ) (image₀ : List ℤ) (k : ℕ) (flow image work : List ℤ) (momentum : ℕ) : Type 0 where
+pub record Turned (t : Terms) (quick : ℕ) (samples : List ℕ) (weights image₀ : List ℤ) (k : ℕ) (flow image work : List ℤ) (momentum : ℕ) : Type 0 where
   pub round-most : k ≤ quick
   pub image-length : length image ≡ t .width * t .height
-  pub flow-is : flow ≡ quickRounds eighth (grid t samples) k .iterate
-  pub image-is : image ≡ quickImage t samples k image₀
-  pub work-is : work ≡ quickWork (grid t samples) k
-  pub momentum-is : momentum ≡ quickRounds eighth (grid t samples) k .momentum
+  pub flow-is : flow ≡ quickRounds eighth (grid t samples weights) k .iterate
+  pub image-is : image ≡ quickImage t samples weights k image₀
+  pub work-is : work ≡ quickWork (grid t samples weights) k
+  pub momentum-is : momentum ≡ quickRounds eighth (grid t samples weights) k .momentum
 
 -- before the first round
-pub turned-none : {t : Terms} {quick : ℕ} {samples : List ℕ} {flow₀ image work₀ flow work : List ℤ} → QuickJob t quick samples flow₀ image work₀ →
-    flow ≡ replicate (length flow₀) (pos 0) → work ≡ replicate (length work₀) (pos 0) → Turned t quick samples image 0 flow image work 65536
+pub turned-none : {t : Terms} {quick : ℕ} {samples : List ℕ} {weights flow₀ image work₀ flow work : List ℤ} → QuickJob t quick samples weights flow₀ image work₀ →
+    flow ≡ replicate (length flow₀) (pos 0) → work ≡ replicate (length work₀) (pos 0) → Turned t quick samples weights image 0 flow image work 65536
 unfolding quickRounds quickStart
 turned-none {t} {flow₀ = flow₀} {work₀ = work₀} {flow = flow} j e f =
     let m : ℕ = length (gridPairs (t .width) (t .height)) in
@@ -49,52 +49,53 @@ earlier-size : (p : Problem) (k : ℕ) → length (earlier p k) ≡ pairCount p
 earlier-size p zero = length-replicate (pairCount p) (pos 0)
 earlier-size p (suc k) = iterate-size eighth p k
 
-module _ {t : Terms} {quick : ℕ} {samples : List ℕ} {image₀ : List ℤ} {k : ℕ} {flow image work : List ℤ} {momentum : ℕ} (r : Turned t quick samples image₀ k flow image work momentum) where
-  pub turned-length : length flow ≡ pairCount (grid t samples)
-  turned-length = ap length (r .flow-is) ∙ iterate-size eighth (grid t samples) k
+module _ {t : Terms} {quick : ℕ} {samples : List ℕ} {weights image₀ : List ℤ} {k : ℕ} {flow image work : List ℤ} {momentum : ℕ} (r : Turned t quick samples weights image₀ k flow image work momentum) where
+  pub turned-length : length flow ≡ pairCount (grid t samples weights)
+  turned-length = ap length (r .flow-is) ∙ iterate-size eighth (grid t samples weights) k
 
-  ahead-is : drop (length flow) work ≡ quickRounds eighth (grid t samples) k .extrapolated
+  ahead-is : drop (length flow) work ≡ quickRounds eighth (grid t samples weights) k .extrapolated
   ahead-is =
       ap (drop (length flow)) (r .work-is)
-      ∙ drop-at (earlier (grid t samples) k) _ (length flow) (earlier-size (grid t samples) k ∙ sym turned-length)
+      ∙ drop-at (earlier (grid t samples weights) k) _ (length flow) (earlier-size (grid t samples weights) k ∙ sym turned-length)
 
   -- the work buffer has two halves
   pub turned-work : length work ≡ 2 * length flow
   turned-work =
       ap length (r .work-is)
-      ∙ length-append (earlier (grid t samples) k) _
-      ∙ omega (arith, earlier-size (grid t samples) k, ahead-size eighth (grid t samples) k, turned-length)
+      ∙ length-append (earlier (grid t samples weights) k) _
+      ∙ omega (arith, earlier-size (grid t samples weights) k, ahead-size eighth (grid t samples weights) k, turned-length)
 
-  pub turned-state : held flow (drop (length flow) work) momentum ≡ quickRounds eighth (grid t samples) k
+  pub turned-state : held flow (drop (length flow) work) momentum ≡ quickRounds eighth (grid t samples weights) k
   turned-state =
       ap₂ (λ (a b : List ℤ). held a b momentum) (r .flow-is) ahead-is
-      ∙ ap (λ (n : ℕ). held (quickRounds eighth (grid t samples) k .iterate) (quickRounds eighth (grid t samples) k .extrapolated) n) (r .momentum-is)
+      ∙ ap (λ (n : ℕ). held (quickRounds eighth (grid t samples weights) k .iterate) (quickRounds eighth (grid t samples weights) k .extrapolated) n) (r .momentum-is)
 
   -- ready for the next round
-  pub turned-ready : {flow₀ image₀ work₀ : List ℤ} → QuickJob t quick samples flow₀ image₀ work₀ → k < quick →
-      QuickReady t samples flow (drop (length flow) work) image momentum
+  pub turned-ready : {flow₀ image₀ work₀ : List ℤ} → QuickJob t quick samples weights flow₀ image₀ work₀ → k < quick →
+      QuickReady t samples weights flow (drop (length flow) work) image momentum
   turned-ready j l =
       record {
         limits = j .limits;
+        pair-weights = j .pair-weights;
         lengths = record { samples-length = j .lengths .samples-length; flow-length = turned-length; image-length = r .image-length };
-        same-length = turned-length ∙ sym (ap length (ahead-is) ∙ ahead-size eighth (grid t samples) k);
-        flow-most = λ i. rw (r .flow-is) (le-trans (iterate-within eighth t samples k i) (j .limits .weight-most));
-        ahead-most = λ i. rw (ahead-is) (le-trans (ahead-within eighth t samples k i) (omega (arith, j .limits .weight-most)));
-        momentum-least = rw (r .momentum-is) (momentum-low eighth (grid t samples) k);
-        momentum-most = rw (r .momentum-is) (omega (arith, momentum-high eighth (grid t samples) k, j .quick-most));
+        same-length = turned-length ∙ sym (ap length (ahead-is) ∙ ahead-size eighth (grid t samples weights) k);
+        flow-most = λ i. rw (r .flow-is) (iterate-within eighth t samples weights (j .limits) (j .pair-weights) k i);
+        ahead-most = λ i. rw (ahead-is) (le-trans (ahead-within eighth t samples weights (j .limits) (j .pair-weights) k i) (omega arith));
+        momentum-least = rw (r .momentum-is) (momentum-low eighth (grid t samples weights) k);
+        momentum-most = rw (r .momentum-is) (omega (arith, momentum-high eighth (grid t samples weights) k, j .quick-most));
       }
 
   -- and after it
   pub turned-more : {flow₁ image₁ work₁ : List ℤ} {momentum₁ : ℕ} → k < quick →
       length image₁ ≡ length image →
-      flow₁ ≡ quickRound eighth (grid t samples) (held flow (drop (length flow) work) momentum) .iterate →
-      work₁ ≡ flow ++ quickRound eighth (grid t samples) (held flow (drop (length flow) work) momentum) .extrapolated →
-      momentum₁ ≡ quickRound eighth (grid t samples) (held flow (drop (length flow) work) momentum) .momentum →
+      flow₁ ≡ quickRound eighth (grid t samples weights) (held flow (drop (length flow) work) momentum) .iterate →
+      work₁ ≡ flow ++ quickRound eighth (grid t samples weights) (held flow (drop (length flow) work) momentum) .extrapolated →
+      momentum₁ ≡ quickRound eighth (grid t samples weights) (held flow (drop (length flow) work) momentum) .momentum →
       image₁ ≡ imageOf t samples (drop (length flow) work) →
-      Turned t quick samples image₀ (k + 1) flow₁ image₁ work₁ momentum₁
+      Turned t quick samples weights image₀ (k + 1) flow₁ image₁ work₁ momentum₁
   turned-more l same a b c d =
-      let next : quickRound eighth (grid t samples) (held flow (drop (length flow) work) momentum) ≡ quickRounds eighth (grid t samples) (suc k) =
-      unfold quickRounds in ap (quickRound eighth (grid t samples)) turned-state
+      let next : quickRound eighth (grid t samples weights) (held flow (drop (length flow) work) momentum) ≡ quickRounds eighth (grid t samples weights) (suc k) =
+      unfold quickRounds in ap (quickRound eighth (grid t samples weights)) turned-state
       in
       rw (add-one k)
       (record {

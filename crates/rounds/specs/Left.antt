@@ -19,6 +19,6 @@ abbrev pub quickWork : Problem → ℕ → List ℤ
 quickWork p k = earlier p k ++ quickRounds eighth p k .extrapolated
 
 -- The image buffer: the image of the last Rₖ that was stepped on; its former values where no round was made
-abbrev pub quickImage : Terms → List ℕ → ℕ → List ℤ → List ℤ
-quickImage t samples zero former = former
-quickImage t samples (suc k) former = imageOf t samples (quickRounds eighth (grid t samples) k .extrapolated)
+abbrev pub quickImage : Terms → List ℕ → List ℤ → ℕ → List ℤ → List ℤ
+quickImage t samples weights zero former = former
+quickImage t samples weights (suc k) former = imageOf t samples (quickRounds eighth (grid t samples weights) k .extrapolated)

@@ -24,15 +24,16 @@ fn advance_round(
     lower: i32,
     upper: i32,
     samples: &[u8],
+    weights: &[i32],
     flow: &mut [i32],
     ahead: &mut [i32],
     image: &mut [i32],
     momentum: u64,
 ) -> u64
-    requires { ⌜ BoxEnds t lower upper × QuickReady t (now samples) (now flow) (now ahead) (now image) momentum ⌝ }
-    ensures { λ _. ⌜ now (flow .exit) ≡ quickRound eighth (grid t (now (samples .entry))) (held (now (flow .entry)) (now (ahead .entry)) momentum) .iterate ⌝ }
-    ensures { λ _. ⌜ now (ahead .exit) ≡ quickRound eighth (grid t (now (samples .entry))) (held (now (flow .entry)) (now (ahead .entry)) momentum) .extrapolated ⌝ }
-    ensures { λ r. ⌜ r ≡ quickRound eighth (grid t (now (samples .entry))) (held (now (flow .entry)) (now (ahead .entry)) momentum) .momentum ⌝ }
+    requires { ⌜ BoxEnds t lower upper × QuickReady t (now samples) (now weights) (now flow) (now ahead) (now image) momentum ⌝ }
+    ensures { λ _. ⌜ now (flow .exit) ≡ quickRound eighth (grid t (now (samples .entry)) (now (weights .entry))) (held (now (flow .entry)) (now (ahead .entry)) momentum) .iterate ⌝ }
+    ensures { λ _. ⌜ now (ahead .exit) ≡ quickRound eighth (grid t (now (samples .entry)) (now (weights .entry))) (held (now (flow .entry)) (now (ahead .entry)) momentum) .extrapolated ⌝ }
+    ensures { λ r. ⌜ r ≡ quickRound eighth (grid t (now (samples .entry)) (now (weights .entry))) (held (now (flow .entry)) (now (ahead .entry)) momentum) .momentum ⌝ }
     ensures { λ _. ⌜ now (image .exit) ≡ imageOf t (now (samples .entry)) (now (ahead .entry)) ⌝ }
 {
     let w = t.width as usize;
@@ -40,7 +41,16 @@ fn advance_round(
     fill_image(image, samples, ahead, w, h, lower, upper);
     let next = momentum::next_momentum(momentum);
     let factor = momentum::reciprocal(momentum - 65536, next);
-    advance_grid(flow, ahead, image, w, h, signed::natural(t.weight), factor);
+    advance_grid(
+        flow,
+        ahead,
+        image,
+        w,
+        h,
+        signed::natural(t.weight),
+        weights,
+        factor,
+    );
     next
 }
 
@@ -51,15 +61,16 @@ fn quick_round(
     lower: i32,
     upper: i32,
     samples: &[u8],
+    weights: &[i32],
     flow: &mut [i32],
     image: &mut [i32],
     work: &mut [i32],
     momentum: u64,
 ) -> u64
-    requires { ⌜ BoxEnds t lower upper × (length (now work) ≡ 2 * length (now flow)) × QuickReady t (now samples) (now flow) (drop (length (now flow)) (now work)) (now image) momentum ⌝ }
-    ensures { λ _. ⌜ now (flow .exit) ≡ quickRound eighth (grid t (now (samples .entry))) (held (now (flow .entry)) (drop (length (now (flow .entry))) (now (work .entry))) momentum) .iterate ⌝ }
-    ensures { λ _. ⌜ now (work .exit) ≡ now (flow .entry) ++ quickRound eighth (grid t (now (samples .entry))) (held (now (flow .entry)) (drop (length (now (flow .entry))) (now (work .entry))) momentum) .extrapolated ⌝ }
-    ensures { λ r. ⌜ r ≡ quickRound eighth (grid t (now (samples .entry))) (held (now (flow .entry)) (drop (length (now (flow .entry))) (now (work .entry))) momentum) .momentum ⌝ }
+    requires { ⌜ BoxEnds t lower upper × (length (now work) ≡ 2 * length (now flow)) × QuickReady t (now samples) (now weights) (now flow) (drop (length (now flow)) (now work)) (now image) momentum ⌝ }
+    ensures { λ _. ⌜ now (flow .exit) ≡ quickRound eighth (grid t (now (samples .entry)) (now (weights .entry))) (held (now (flow .entry)) (drop (length (now (flow .entry))) (now (work .entry))) momentum) .iterate ⌝ }
+    ensures { λ _. ⌜ now (work .exit) ≡ now (flow .entry) ++ quickRound eighth (grid t (now (samples .entry)) (now (weights .entry))) (held (now (flow .entry)) (drop (length (now (flow .entry))) (now (work .entry))) momentum) .extrapolated ⌝ }
+    ensures { λ r. ⌜ r ≡ quickRound eighth (grid t (now (samples .entry)) (now (weights .entry))) (held (now (flow .entry)) (drop (length (now (flow .entry))) (now (work .entry))) momentum) .momentum ⌝ }
     ensures { λ _. ⌜ now (image .exit) ≡ imageOf t (now (samples .entry)) (drop (length (now (flow .entry))) (now (work .entry))) ⌝ }
 {
     let m = flow.len();
@@ -69,6 +80,7 @@ fn quick_round(
         lower,
         upper,
         samples,
+        weights,
         flow,
         &mut work[m..],
         image,
@@ -84,21 +96,22 @@ pub fn quick_rounds(
     upper: i32,
     quick: u32,
     samples: &[u8],
+    weights: &[i32],
     flow: &mut [i32],
     image: &mut [i32],
     work: &mut [i32],
 )
-    requires { ⌜ BoxEnds t lower upper × QuickJob t quick (now samples) (now flow) (now image) (now work) ⌝ }
-    ensures { λ _. ⌜ now (flow .exit) ≡ quickRounds eighth (grid t (now (samples .entry))) quick .iterate ⌝ }
-    ensures { λ _. ⌜ now (image .exit) ≡ quickImage t (now (samples .entry)) quick (now (image .entry)) ⌝ }
-    ensures { λ _. ⌜ now (work .exit) ≡ quickWork (grid t (now (samples .entry))) quick ⌝ }
+    requires { ⌜ BoxEnds t lower upper × QuickJob t quick (now samples) (now weights) (now flow) (now image) (now work) ⌝ }
+    ensures { λ _. ⌜ now (flow .exit) ≡ quickRounds eighth (grid t (now (samples .entry)) (now (weights .entry))) quick .iterate ⌝ }
+    ensures { λ _. ⌜ now (image .exit) ≡ quickImage t (now (samples .entry)) (now (weights .entry)) quick (now (image .entry)) ⌝ }
+    ensures { λ _. ⌜ now (work .exit) ≡ quickWork (grid t (now (samples .entry)) (now (weights .entry))) quick ⌝ }
 {
     buffers::clear(flow);
     buffers::clear(work);
     let mut momentum = 65536;
     let mut k = 0;
     while k < quick {
-        momentum = quick_round(t, lower, upper, samples, flow, image, work, momentum);
+        momentum = quick_round(t, lower, upper, samples, weights, flow, image, work, momentum);
         k += 1;
     }
 }

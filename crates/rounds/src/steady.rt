@@ -27,17 +27,19 @@ fn some_moves(
     lower: i32,
     upper: i32,
     samples: &[u8],
+    weights: &[i32],
     flow: &[i32],
     image: &mut [i32],
 ) -> bool
-    requires { ⌜ BoxEnds t lower upper × SteadyReady t (now samples) (now flow) (now image) ⌝ }
+    requires { ⌜ BoxEnds t lower upper × SteadyReady t (now samples) (now weights) (now flow) (now image) ⌝ }
     ensures { λ _. ⌜ now (image .exit) ≡ imageOf t (now (samples .entry)) (now (flow .entry)) ⌝ }
-    ensures { λ r. ⌜ r ≡ ltb (firstMoving nearestEighth (theGrid t (now (samples .entry))) (at (now (flow .entry)))) (pairCount (theGrid t (now (samples .entry)))) ⌝ }
+    ensures { λ r. ⌜ r ≡ ltb (firstMoving nearestEighth (theGrid t (now (samples .entry)) (now (weights .entry))) (at (now (flow .entry)))) (pairCount (theGrid t (now (samples .entry)) (now (weights .entry)))) ⌝ }
 {
     let w = t.width as usize;
     let h = t.height as usize;
     fill_image(image, samples, flow, w, h, lower, upper);
-    let first = grid::first_moving_grid(flow, image, w, h, signed::natural(t.weight));
+    let first =
+        grid::first_moving_grid(flow, image, w, h, signed::natural(t.weight), weights);
     match first {
         Moving::At(_) => true,
         Moving::Nothing => false,
@@ -51,14 +53,15 @@ pub fn steady_rounds(
     upper: i32,
     allowance: u16,
     samples: &[u8],
+    weights: &[i32],
     flow: &mut [i32],
     image: &mut [i32],
 ) -> Steady
-    requires { ⌜ BoxEnds t lower upper × SteadyReady t (now samples) (now flow) (now image) ⌝ }
-    ensures { λ _. ⌜ now (flow .exit) ≡ steadyRounds nearestEighth (theGrid t (now (samples .entry))) allowance (now (flow .entry)) .flow ⌝ }
+    requires { ⌜ BoxEnds t lower upper × SteadyReady t (now samples) (now weights) (now flow) (now image) ⌝ }
+    ensures { λ _. ⌜ now (flow .exit) ≡ steadyRounds nearestEighth (theGrid t (now (samples .entry)) (now (weights .entry))) allowance (now (flow .entry)) .flow ⌝ }
     ensures { λ _. ⌜ now (image .exit) ≡ imageOf t (now (samples .entry)) (now (flow .exit)) ⌝ }
-    ensures { λ r. ⌜ r .moved ≡ steadyRounds nearestEighth (theGrid t (now (samples .entry))) allowance (now (flow .entry)) .moved ⌝ }
-    ensures { λ r. ⌜ r .settled ≡ steadyRounds nearestEighth (theGrid t (now (samples .entry))) allowance (now (flow .entry)) .settled ⌝ }
+    ensures { λ r. ⌜ r .moved ≡ steadyRounds nearestEighth (theGrid t (now (samples .entry)) (now (weights .entry))) allowance (now (flow .entry)) .moved ⌝ }
+    ensures { λ r. ⌜ r .settled ≡ steadyRounds nearestEighth (theGrid t (now (samples .entry)) (now (weights .entry))) allowance (now (flow .entry)) .settled ⌝ }
 {
     let w = t.width as usize;
     let h = t.height as usize;
@@ -66,14 +69,14 @@ pub fn steady_rounds(
     let most = allowance as u32;
     let mut moved: u32 = 0;
     loop {
-        let moving = some_moves(t, lower, upper, samples, flow, image);
+        let moving = some_moves(t, lower, upper, samples, weights, flow, image);
         if !moving || most <= moved {
             return Steady {
                 moved: moved,
                 settled: !moving,
             };
         }
-        grid::step_grid(flow, image, w, h, weight);
+        grid::step_grid(flow, image, w, h, weight, weights);
         moved += 1;
     }
 }

@@ -10,7 +10,7 @@ use Rattle.model.specs.Grid.{gridPairs}
 use Rattle.model.specs.Rounds.{eighth, nextMomentum, quickRound}
 use Rattle.model.specs.Calls.{imageOf}
 use Rattle.momentum.specs.Reciprocal.{Reciprocal}
-use Rattle.raster.proofs.Model.{image-is}
+use Rattle.raster.proofs.Model.{image-is, weights-within}
 use Rattle.rounds.proofs.Model.{next-range, factor-most, iterate-is, ahead-is}
 use Rattle.rounds.proofs.Passes.{fill-limits, grid-limits}
 use Rattle.rounds.proofs.quick.advance_round.Statement.{statement}
@@ -71,10 +71,11 @@ advance-grid-requires c κs =
     rw (read w32 (c .natural .ok), c .natural .ensures)
     (record {
       grid =
-          grid-limits (s .args .t) (s .args .samples .now) (p .limits) (ahead-length s) (p .ahead-most) (k .1 .1 .1 .0 .fits)
+          grid-limits (s .args .t) (s .args .samples .now) (p .limits) (ahead-length s) (p .ahead-most) (s .args .weights .now) (p .pair-weights) (k .1 .1 .1 .0 .fits)
           (k .1 .1 .1 .1 .0 .fits) (image-filled f);
       same-length = p .same-length;
       weight-most = p .limits .weight-most;
+      weights-most = weights-within (s .args .t) (s .args .weights .now) (p .pair-weights);
       flow-most = p .flow-most;
       factor-most = factor-most _ _ (p .momentum-least) (p .momentum-most) (by-next c);
     })
@@ -98,10 +99,10 @@ returns c =
     let a = s .args in
     let e = image-filled f in (
       rw (read w32 (n .natural .ok), n .natural .ensures, p .lengths .flow-length) at (g .advance-grid .ensures .0)
-          ∙ iterate-is (a .t) (a .samples .now) eighth (a .flow .now) (a .ahead .now) (a .momentum) e,
+          ∙ iterate-is (a .t) (a .samples .now) (a .weights .now) (p .limits) (p .pair-weights) eighth (a .flow .now) (a .ahead .now) (a .momentum) e,
       (
         rw (read w32 (n .natural .ok), n .natural .ensures, p .lengths .flow-length) at (g .advance-grid .ensures .1)
-            ∙ ahead-is (a .t) (a .samples .now) eighth (a .flow .now) (a .ahead .now) (a .momentum) e _ (p .limits .weight-most) (p .flow-most)
+            ∙ ahead-is (a .t) (a .samples .now) (a .weights .now) (p .limits) (p .pair-weights) eighth (a .flow .now) (a .ahead .now) (a .momentum) e _ (p .flow-most)
             (p .momentum-least) (p .momentum-most) (by-next n),
         (unfold quickRound in n .before .before .before .before .before .next-momentum .ensures, e),
       ),

@@ -45,7 +45,7 @@ advance-round-requires c κs =
     let s = k .before .before .before .before in (
       rw (toZ-ofZ w32 _ (s .fits .lower), toZ-ofZ w32 _ (s .fits .upper)) (s .pre .0),
       subst
-          (λ (ahead : List ℤ). QuickReady (s .args .t) (s .args .samples .now) (s .args .flow .now) ahead (s .args .image .now) (s .args .momentum))
+          (λ (ahead : List ℤ). QuickReady (s .args .t) (s .args .samples .now) (s .args .weights .now) (s .args .flow .now) ahead (s .args .image .now) (s .args .momentum))
           (sym (second-half (k .copy .last .0) (s .args .work .now) (ap length (k .copy .ensures))))
           (s .pre .2),
     )

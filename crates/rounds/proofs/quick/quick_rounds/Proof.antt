@@ -10,10 +10,10 @@ use Rattle.rounds.proofs.quick.quick_rounds.Statement.{statement}
 use Rattle.rounds.proofs.quick.quick_rounds.Tie as tie
 
 abbrev Inv-loop : tie.InvT-loop
-Inv-loop t lower upper quick samples flow₀ image₀ work₀ momentum₀ k₀ flow image work momentum k = Turned t quick samples image₀ k flow image work momentum
+Inv-loop t lower upper quick samples weights flow₀ image₀ work₀ momentum₀ k₀ flow image work momentum k = Turned t quick samples weights image₀ k flow image work momentum
 
 abbrev μ-loop : tie.MeasureT-loop
-μ-loop t lower upper quick samples flow₀ image₀ work₀ momentum₀ k₀ flow image work momentum k = quick - k
+μ-loop t lower upper quick samples weights flow₀ image₀ work₀ momentum₀ k₀ flow image work momentum k = quick - k
 
 clear-requires : tie.Need-clear-requires Inv-loop μ-loop
 clear-requires c κs = search needs

@@ -21,7 +21,7 @@ use Rattle.rounds.proofs.steady.some_moves.Statement.{statement}
 use Rattle.rounds.proofs.steady.some_moves.Tie as tie
 
 flow-most : (c : tie.Start) → Within (2 ^ 20) (c .args .flow .now)
-flow-most c i = omega (arith, c .pre .1 .flow-most i, c .pre .1 .limits .weight-most)
+flow-most c i = omega (arith, c .pre .1 .flow-most i)
 
 cast-w : tie.Need-cast-w
 cast-w c = search needs
@@ -51,14 +51,14 @@ first-moving-grid-requires c κs =
     let s = f .before .before .before .before .before in
     let k = f .before .before .before .struct-known .given in
     rw (read w32 (c .natural .ok), c .natural .ensures)
-    (grid-limits (s .args .t) (s .args .samples .now) (s .pre .1 .limits) (s .pre .1 .lengths .flow-length) (flow-most s) (k .1 .1 .1 .0 .fits) (k .1 .1 .1 .1 .0 .fits) (image-filled f))
+    (grid-limits (s .args .t) (s .args .samples .now) (s .pre .1 .limits) (s .pre .1 .lengths .flow-length) (flow-most s) (s .args .weights .now) (s .pre .1 .pair-weights) (k .1 .1 .1 .0 .fits) (k .1 .1 .1 .1 .0 .fits) (image-filled f))
 
 -- how many pairs there are, and the first that would move
 abbrev count : tie.Start → ℕ
-count s = pairCount (grid (s .args .t) (s .args .samples .now))
+count s = pairCount (grid (s .args .t) (s .args .samples .now) (s .args .weights .now))
 
 abbrev first : tie.Start → ℕ
-first s = firstMoving nearestEighth (grid (s .args .t) (s .args .samples .now)) (at (s .args .flow .now))
+first s = firstMoving nearestEighth (grid (s .args .t) (s .args .samples .now) (s .args .weights .now)) (at (s .args .flow .now))
 
 -- the answer of the search
 answer-is : (c : tie.After-first-moving-grid) →
@@ -69,7 +69,7 @@ answer-is c =
     let f = c .before .before .before .before in
     let s = f .before .before .before .before .before in
     rw (read w32 (n .ok), n .ensures, s .pre .1 .lengths .flow-length) at (c .first-moving-grid .ensures)
-    ∙ ap (movingOf (count s)) (moving-is (s .args .t) (s .args .samples .now) (s .args .flow .now) (image-filled f) nearestEighth)
+    ∙ ap (movingOf (count s)) (moving-is (s .args .t) (s .args .samples .now) (s .args .weights .now) (s .args .flow .now) (image-filled f) nearestEighth (s .pre .1 .pair-weights))
 
 enum-told : tie.Need-enum-told
 enum-told c = search needs

@@ -22,11 +22,11 @@ use Rattle.rounds.proofs.steady.steady_rounds.Statement.{statement}
 use Rattle.rounds.proofs.steady.steady_rounds.Tie as tie
 
 abbrev Inv-loop : tie.InvT-loop
-Inv-loop t lower upper allowance samples flow₀ image₀ w h weight most moved₀ flow image moved =
-    SteadyReady t samples flow image × Rested nearestEighth (grid t samples) allowance flow₀ moved flow
+Inv-loop t lower upper allowance samples weights flow₀ image₀ w h weight most moved₀ flow image moved =
+    SteadyReady t samples weights flow image × Rested nearestEighth (grid t samples weights) allowance flow₀ moved flow
 
 abbrev μ-loop : tie.MeasureT-loop
-μ-loop t lower upper allowance samples flow₀ image₀ w h weight most moved₀ flow image moved = allowance - moved
+μ-loop t lower upper allowance samples weights flow₀ image₀ w h weight most moved₀ flow image moved = allowance - moved
 
 cast-w : tie.Need-cast-w Inv-loop μ-loop
 cast-w c = search needs
@@ -37,13 +37,13 @@ cast-h c = search needs
 natural-requires : tie.Need-natural-requires Inv-loop μ-loop
 natural-requires c κs = search needs
 
-flow-most : (s : tie.Start Inv-loop μ-loop) (flow : List ℤ) → Within (s .args .t .weight) flow → Within (2 ^ 20) flow
-flow-most s flow h i = omega (arith, h i, s .pre .1 .limits .weight-most)
+flow-most : (flow : List ℤ) → Within 65280 flow → Within (2 ^ 20) flow
+flow-most flow h i = omega (arith, h i)
 
 loop-holds : tie.Need-loop-holds Inv-loop μ-loop
 loop-holds c =
     let s = c .before .before .before .before in
-    (s .pre .1, rested-none nearestEighth (grid (s .args .t) (s .args .samples .now)) (s .args .allowance) (s .args .flow .now))
+    (s .pre .1, rested-none nearestEighth (grid (s .args .t) (s .args .samples .now) (s .args .weights .now)) (s .args .allowance) (s .args .flow .now))
 
 some-moves-requires : tie.Need-some-moves-requires Inv-loop μ-loop
 some-moves-requires c κs =
@@ -91,20 +91,20 @@ step-grid-requires c κs =
     let n = i .before in
     let k = n .before .before .struct-known .given in
     rw (read w32 (n .natural .ok), n .natural .ensures)
-    (grid-limits (s .args .t) (s .args .samples .now) (s .pre .1 .limits) (i .loop .inv .0 .lengths .flow-length) (flow-most s (i .loop .flow) (i .loop .inv .0 .flow-most)) (k .1 .1 .1 .0 .fits) (k .1 .1 .1 .1 .0 .fits) (m .some-moves .ensures .0))
+    (grid-limits (s .args .t) (s .args .samples .now) (s .pre .1 .limits) (i .loop .inv .0 .lengths .flow-length) (flow-most (i .loop .flow) (i .loop .inv .0 .flow-most)) (s .args .weights .now) (s .pre .1 .pair-weights) (k .1 .1 .1 .0 .fits) (k .1 .1 .1 .1 .0 .fits) (m .some-moves .ensures .0))
 
 -- a step on the flow
 stepped : (c : tie.After-step-grid Inv-loop μ-loop) →
     let i = c .before .before .before .before .before .before .before .before .before in
     let s = i .before .before .before .before .before in
-    c .step-grid .last .0 ≡ step nearestEighth (grid (s .args .t) (s .args .samples .now)) (i .loop .flow)
+    c .step-grid .last .0 ≡ step nearestEighth (grid (s .args .t) (s .args .samples .now) (s .args .weights .now)) (i .loop .flow)
 stepped c =
     let m = c .before .before .before .before .before .before in
     let i = m .before .before .before in
     let s = i .before .before .before .before .before in
     let n = i .before in
     rw (read w32 (n .natural .ok), n .natural .ensures, i .loop .inv .0 .lengths .flow-length) at (c .step-grid .ensures)
-    ∙ stepped-is (s .args .t) (s .args .samples .now) (i .loop .flow) (m .some-moves .ensures .0) nearestEighth
+    ∙ stepped-is (s .args .t) (s .args .samples .now) (s .args .weights .now) (i .loop .flow) (m .some-moves .ensures .0) nearestEighth (s .pre .1 .pair-weights)
 
 add-moved : tie.Need-add-moved Inv-loop μ-loop
 add-moved c =
