@@ -20,10 +20,14 @@ use Rattle.runs.specs.Ends.{BoxEnds}
 use Rattle.judges.specs.Lengths.{pixelsDue, pairsDue, lengthRows}
 use Rattle.judges.specs.Outside.{outsideRow}
 
--- a search's row, by the index that it has found
-pub found-at : (number end : ℕ) {v : Verdict} {place index : ℕ} → v ≡ firstRefusal (row (ltb place end) number place ∷ []) → place ≡ index →
-    v ≡ firstRefusal (row (ltb index end) number index ∷ [])
-found-at number end e f = e ∙ ap (λ (k : ℕ). firstRefusal (row (ltb k end) number k ∷ [])) f
+-- a row, by an equal number
+pub row-by : (r : ℕ → Row) {v : Verdict} {n m : ℕ} → v ≡ firstRefusal (r n ∷ []) → n ≡ m → v ≡ firstRefusal (r m ∷ [])
+row-by r e f = e ∙ ap (λ (k : ℕ). firstRefusal (r k ∷ [])) f
+
+-- the row of a search, by what it finds
+pub found-at : (number end : ℕ) {v : Verdict} {n m : ℕ} → v ≡ firstRefusal (row (ltb n end) number n ∷ []) → n ≡ m →
+    v ≡ firstRefusal (row (ltb m end) number m ∷ [])
+found-at number end = row-by (λ k. row (ltb k end) number k)
 
 module _ (t : Terms) where
   abbrev pub termsRows : List Row
@@ -37,11 +41,11 @@ module _ (t : Terms) where
     pub pairs-due : pairsDue t ≡ pairsOf t
     pairs-due = ap (λ (b : Bool). cond b (pairsOf t) 0) h
 
-    pub lengths-due : (samples weights flow image : ℕ) →
-        firstRefusal (lengthRows (pixelsDue t) (pairsDue t) samples weights flow image)
-        ≡ firstRefusal (lengthRows (pixelsOf t) (pairsOf t) samples weights flow image)
-    lengths-due samples weights flow image =
-        ap₂ (λ (n m : ℕ). firstRefusal (lengthRows n m samples weights flow image)) pixels-due pairs-due
+    pub lengths-due : (samples weights flow image : ℕ) {v : Verdict} →
+        v ≡ firstRefusal (lengthRows (pixelsDue t) (pairsDue t) samples weights flow image) →
+        v ≡ firstRefusal (lengthRows (pixelsOf t) (pairsOf t) samples weights flow image)
+    lengths-due samples weights flow image e =
+        e ∙ ap₂ (λ (n m : ℕ). firstRefusal (lengthRows n m samples weights flow image)) pixels-due pairs-due
 
   pub pairs-few : pairsDue t ≤ 2097152
   pairs-few = go (sizeAllowed (t .width) (t .height)) refl

@@ -43,8 +43,10 @@ judged : (c : tie.After-first) → let a = c .before .before .before .args in
     c .first .result ≡ firstRefusal (rows (a .t) (a .samples) (a .weights .now) (a .flow .now) (a .image))
 judged c =
     let a = c .before .before .before .args in
-    under-terms (a .t) _ (c .first .ensures) (c .before .before .judge-terms .ensures) (λ h.
-    c .before .judge-lengths .ensures ∙ lengths-due (a .t) h (a .samples) (length (a .weights .now)) (length (a .flow .now)) (a .image))
+    let n = length (a .weights .now) in
+    let m = length (a .flow .now) in
+    under-terms (a .t) (lengthRows (pixelsOf (a .t)) (pairsOf (a .t)) (a .samples) n m (a .image)) (c .first .ensures)
+    (c .before .before .judge-terms .ensures) (λ h. lengths-due (a .t) h (a .samples) n m (a .image) (cc))
 
 enum-told : tie.Need-enum-told
 enum-told c = search needs

@@ -1,11 +1,7 @@
 -- `judges::judge_lengths` meets its contract. Assumes nothing.
-use mathlib.Core.Path.{ap, _∙_}
-use mathlib.Core.List.{[], _∷_}
-use Prim.Native.Nat.{ℕ}
-use Rattle.model.specs.declared.Verdict.{Verdict}
-use Rattle.model.specs.Verdict.{Row, firstRefusal}
 use Rattle.model.proofs.Refusals.{joined}
-use Rattle.judges.specs.Lengths.{exactRow, exactOrNoneRow, pixelsDue, pairsDue}
+use Rattle.judges.specs.Lengths.{exactRow, exactOrNoneRow}
+use Rattle.judges.proofs.Rows.{row-by}
 use borrow.Author.Needs.{needs}
 use Rattle.judges.proofs.judge_lengths.Statement.{statement}
 use Rattle.judges.proofs.judge_lengths.Tie as tie
@@ -46,17 +42,10 @@ returns c =
     let a = due .before .args in
     let pixels = due .lengths-due .ensures .0 in
     let pairs = due .lengths-due .ensures .1 in
-    let four : ℕ → Row = exactRow 4 (a .samples) in
-    let five : ℕ → Row = exactRow 5 (a .flow) in
-    let nineteen : ℕ → Row = exactOrNoneRow 19 (a .weights) in
-    let six : ℕ → Row = exactRow 6 (a .image) in
-    let n = pixelsDue (a .t) in
-    let m = pairsDue (a .t) in
-    let alone : (ℕ → Row) → ℕ → Verdict = λ r k. firstRefusal (r k ∷ []) in
-    joined (four n ∷ []) (five m ∷ nineteen m ∷ six n ∷ []) (c .first3 .ensures) (samples .exact3 .ensures ∙ ap (alone four) pixels)
-    (joined (five m ∷ []) (nineteen m ∷ six n ∷ []) (middle .first2 .ensures) (flow .exact .ensures ∙ ap (alone five) pairs)
-    (joined (nineteen m ∷ []) (six n ∷ []) (last .first .ensures) (weights .exact-or-none .ensures ∙ ap (alone nineteen) pairs)
-    (image .exact2 .ensures ∙ ap (alone six) pixels)))
+    joined _ _ (c .first3 .ensures) (row-by (exactRow _ (a .samples)) (samples .exact3 .ensures) pixels)
+    (joined _ _ (middle .first2 .ensures) (row-by (exactRow _ (a .flow)) (flow .exact .ensures) pairs)
+    (joined _ _ (last .first .ensures) (row-by (exactOrNoneRow _ (a .weights)) (weights .exact-or-none .ensures) pairs)
+    (row-by (exactRow _ (a .image)) (image .exact2 .ensures) pixels)))
 
 pub judge-lengths-spec : {M : Type 1} → statement M
 judge-lengths-spec =

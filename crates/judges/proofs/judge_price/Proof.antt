@@ -1,5 +1,5 @@
 -- `judges::judge_price` meets its contract. Assumes nothing.
-use mathlib.Core.Path.{_≡_, ap, ap₂, _∙_}
+use mathlib.Core.Path.{_≡_, ap₂, _∙_}
 use mathlib.Core.List.{List, [], _∷_, _++_}
 use Prim.Native.Nat.{ℕ}
 use lib.IntN.{ℤ}
@@ -7,13 +7,12 @@ use lib.ListN.{length}
 use mir.Syntax.{w32}
 use mir.ValLaws.{toZ-ofZ}
 use Rattle.model.specs.declared.Terms.{Terms}
-use Rattle.model.specs.declared.Verdict.{Verdict}
 use Rattle.model.specs.Verdict.{Row, firstRefusal}
 use Rattle.model.specs.Calls.{pixelsOf, pairsOf}
 use Rattle.model.proofs.Refusals.{joined, stopped, went-on}
 use Rattle.judges.specs.Lengths.{exactRow, exactOrNoneRow}
 use Rattle.judges.specs.Outside.{outsideRow}
-use Rattle.judges.proofs.Rows.{termsRows, pixels-due, pairs-due, under-terms}
+use Rattle.judges.proofs.Rows.{row-by, termsRows, pixels-due, pairs-due, under-terms}
 use borrow.Author.Needs.{needs}
 use Rattle.judges.proofs.judge_price.Statement.{statement}
 use Rattle.judges.proofs.judge_price.Tie as tie
@@ -57,16 +56,12 @@ judged c =
     let weights = samples .before in
     let due = weights .before in
     let a = due .before .args in
-    let four : ℕ → Row = exactRow 4 (a .samples) in
-    let nineteen : ℕ → Row = exactOrNoneRow 19 (length (a .weights .now)) in
-    let six : ℕ → Row = exactRow 6 (length (a .image .now)) in
-    let alone : (ℕ → Row) → ℕ → Verdict = λ r k. firstRefusal (r k ∷ []) in
     under-terms (a .t) _ (c .first3 .ensures) (c .before .judge-terms .ensures) (λ h.
     let pixels = due .lengths-due .ensures .0 ∙ pixels-due (a .t) h in
     let pairs = due .lengths-due .ensures .1 ∙ pairs-due (a .t) h in
-    joined _ _ (all .first2 .ensures) (samples .exact .ensures ∙ ap (alone four) pixels)
-    (joined _ _ (last .first .ensures) (weights .exact-or-none .ensures ∙ ap (alone nineteen) pairs)
-    (image .exact2 .ensures ∙ ap (alone six) pixels)))
+    joined _ _ (all .first2 .ensures) (row-by (exactRow _ (a .samples)) (samples .exact .ensures) pixels)
+    (joined _ _ (last .first .ensures) (row-by (exactOrNoneRow _ (length (a .weights .now))) (weights .exact-or-none .ensures) pairs)
+    (row-by (exactRow _ (length (a .image .now))) (image .exact2 .ensures) pixels)))
 
 enum-told : tie.Need-enum-told
 enum-told c = search needs

@@ -1,6 +1,6 @@
 -- `judges::judge_run` meets its contract. Assumes nothing.
 use native.Mathlib.Omega.{arith}
-use mathlib.Core.Path.{_≡_, ap, _∙_}
+use mathlib.Core.Path.{_≡_, _∙_}
 use mathlib.Core.List.{List, [], _∷_, _++_}
 use Prim.Native.Nat.{ℕ, _*_}
 use lib.Dec.{ltb}
@@ -10,7 +10,7 @@ use Rattle.model.specs.Verdict.{Row, row, firstRefusal}
 use Rattle.model.specs.Calls.{pixelsOf, pairsOf}
 use Rattle.model.proofs.Refusals.{joined, stopped, went-on}
 use Rattle.judges.specs.Lengths.{exactRow, lengthRows}
-use Rattle.judges.proofs.Rows.{termsRows, pairs-due, lengths-due, pairs-few, under-terms}
+use Rattle.judges.proofs.Rows.{row-by, termsRows, pairs-due, lengths-due, pairs-few, under-terms}
 use borrow.Author.Needs.{needs}
 use Rattle.judges.proofs.judge_run.Statement.{statement}
 use Rattle.judges.proofs.judge_run.Tie as tie
@@ -62,9 +62,8 @@ judged c =
     let t = a .t in
     under-terms t _ (c .first3 .ensures) (terms .judge-terms .ensures) (λ h.
     joined _ _ (below .first2 .ensures) (rounds .judge-rounds .ensures)
-    (joined _ _ (all .first .ensures)
-    (lengths .judge-lengths .ensures ∙ lengths-due t h (a .samples) (length (a .weights .now)) (a .flow) (a .image))
-    (work .exact .ensures ∙ ap (λ (m : ℕ). firstRefusal (exactRow 7 (a .work) (2 * m) ∷ [])) (counted .lengths-due .ensures .1 ∙ pairs-due t h))))
+    (joined _ _ (all .first .ensures) (lengths-due t h (a .samples) (length (a .weights .now)) (a .flow) (a .image) (lengths .judge-lengths .ensures))
+    (row-by (λ m. exactRow 7 (a .work) (2 * m)) (work .exact .ensures) (counted .lengths-due .ensures .1 ∙ pairs-due t h))))
 
 enum-told : tie.Need-enum-told
 enum-told c = search needs
