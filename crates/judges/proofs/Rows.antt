@@ -1,5 +1,5 @@
--- The rows of a call's table: those of the terms, then those below them, whose lengths are counted for an allowed size; and
--- the rows of a price, for the ends of the box. Assumes nothing.
+-- The rows of a call's table: one row, by an equal number; those of the terms, then those below them, whose lengths are counted
+-- for an allowed size; and the rows of a price, for the ends of the box. Assumes nothing.
 use mathlib.Core.Path.{_≡_, refl, sym, ap, ap₂, _∙_}
 use mathlib.Core.Bool.{Bool, true, false, cond}
 use mathlib.Core.List.{List, [], _∷_, _++_}

@@ -35,7 +35,7 @@ fn exact(lent: usize, due: usize, number: u32) -> Verdict
     }
 }
 
-// A lent length, which must be exact, or 0, which is none.
+// The same of a buffer that need not be lent: exact, or 0.
 fn exact_or_none(lent: usize, due: usize, number: u32) -> Verdict
     ensures { λ r. ⌜ r ≡ firstRefusal (exactOrNoneRow number lent due ∷ []) ⌝ }
 {
@@ -46,7 +46,7 @@ fn exact_or_none(lent: usize, due: usize, number: u32) -> Verdict
     }
 }
 
-// What a search found: the first index, or the end where there is none.
+// What a search found: an index before the end is refused there.
 fn found(place: usize, end: usize, number: u32) -> Verdict
     ensures { λ r. ⌜ r ≡ firstRefusal (row (ltb place end) number place ∷ []) ⌝ }
 {
@@ -94,7 +94,7 @@ fn judge_lengths(t: Terms, samples: usize, weights: usize, flow: usize, image: u
     )
 }
 
-// 2: a pair weight over the limit, at the first index.
+// 2: a pair weight that is not allowed, at the first index.
 fn judge_weights(weights: &[i32]) -> Verdict
     ensures { λ r. ⌜ r ≡ firstRefusal (pairWeightsRow (now (weights .entry)) ∷ []) ⌝ }
 {
@@ -109,8 +109,8 @@ fn judge_flow(t: Terms, weights: &[i32], flow: &[i32]) -> Verdict
     found(terms::first_beyond(t, weights, flow), flow.len(), 8)
 }
 
-// Check: 1, 2, 3; 4, 5, 19, 6; 2, 8. Of the image only its length counts, and weights and flow are read only
-// where terms and lengths have passed.
+// Check: 1, 2, 3; 4, 5, 19, 6; 2, 8. Of the image only its length counts, and weights and flow are
+// read only where terms and lengths have passed.
 pub fn judge_check(t: Terms, samples: usize, weights: &[i32], flow: &[i32], image: usize) -> Verdict
     ensures { λ r. ⌜ r ≡ firstRefusal (sizeRow t 0 ∷ weightRow (t .weight) 0 ∷ boxRow t 0 ∷ exactRow 4 samples (pixelsOf t) ∷ lengthRow 5 (now (flow .entry)) (pairsOf t) ∷ optionalRow 19 (now (weights .entry)) (pairsOf t) ∷ exactRow 6 image (pixelsOf t) ∷ pairWeightsRow (now (weights .entry)) ∷ flowRow (weightOf t (now (weights .entry))) (now (flow .entry)) ∷ []) ⌝ }
 {
@@ -131,8 +131,8 @@ fn judge_image(image: &[i32], lower: i32, upper: i32) -> Verdict
     found(first_outside(image, lower, upper), image.len(), 9)
 }
 
-// Price: 1, 2, 3; 4, 19, 6; 2, 9, by the ends that it is handed. Weights and image are read only where
-// terms and lengths have passed.
+// Price: 1, 2, 3; 4, 19, 6; 2, 9, by the ends that it is handed. Weights and image are read only
+// where terms and lengths have passed.
 pub fn judge_price(
     t: Terms,
     lower: i32,
@@ -171,8 +171,8 @@ fn judge_rounds(quick: u32) -> Verdict
     }
 }
 
-// Run: 1, 2, 3; 10; 4, 5, 19, 6, 7; 2. Of its other buffers only the lengths count, and the weights are
-// read only where all of these have passed.
+// Run: 1, 2, 3; 10; 4, 5, 19, 6, 7; 2. Of the other buffers only the lengths count, and the weights
+// are read only where terms, rounds and lengths have passed.
 pub fn judge_run(
     t: Terms,
     quick: u32,
