@@ -1,18 +1,18 @@
--- The rows of a call's table: those of the terms, then those below them, whose lengths are counted for an allowed size; and
--- the rows of a price, for the ends of the box. Assumes nothing.
+-- The rows of a call's table: one row, by an equal number; those of the terms, then those below them, whose lengths are counted
+-- for an allowed size; and the rows of a price, for the ends of the box. Assumes nothing.
 use mathlib.Core.Path.{_≡_, refl, sym, ap, ap₂, _∙_}
-use mathlib.Core.Bool.{Bool, true, false, not, cond}
+use mathlib.Core.Bool.{Bool, true, false, cond}
 use mathlib.Core.List.{List, [], _∷_, _++_}
 use Prim.Native.Nat.{ℕ, _≤_}
 use native.Mathlib.Omega.{arith}
-use lib.Dec.{eqb}
+use lib.Dec.{ltb}
 use lib.IntN.{ℤ}
 use lib.ListN.{length}
 use Rattle.model.specs.declared.Terms.{Terms}
 use Rattle.model.specs.declared.Verdict.{Verdict}
 use Rattle.model.specs.Grid.{sizeAllowed}
 use Rattle.model.specs.Verdict.{Row, row, firstRefusal, decided}
-use Rattle.model.specs.Calls.{pixelsOf, pairsOf, sizeRow, weightRow, boxRow, firstOutside, priceVerdict}
+use Rattle.model.specs.Calls.{pixelsOf, pairsOf, sizeRow, weightRow, boxRow, lengthRow, optionalRow, pairWeightsRow, firstOutside, priceVerdict}
 use Rattle.model.proofs.Refusals.{firstRefusal-append}
 use Rattle.terms.proofs.Size.{allowed-size}
 use Rattle.terms.proofs.Accepted.{accepted-size}
@@ -20,13 +20,18 @@ use Rattle.runs.specs.Ends.{BoxEnds}
 use Rattle.judges.specs.Lengths.{pixelsDue, pairsDue, lengthRows}
 use Rattle.judges.specs.Outside.{outsideRow}
 
--- a length that has to be exact
-abbrev pub exactRow : ℕ → ℕ → ℕ → Row
-exactRow number lent due = row (not (eqb lent due)) number 0
+-- a row, by an equal number
+pub row-by : (r : ℕ → Row) {v : Verdict} {n m : ℕ} → v ≡ firstRefusal (r n ∷ []) → n ≡ m → v ≡ firstRefusal (r m ∷ [])
+row-by r e f = e ∙ ap (λ (k : ℕ). firstRefusal (r k ∷ [])) f
+
+-- the row of a search, by what it finds
+pub found-at : (number end : ℕ) {v : Verdict} {n m : ℕ} → v ≡ firstRefusal (row (ltb n end) number n ∷ []) → n ≡ m →
+    v ≡ firstRefusal (row (ltb m end) number m ∷ [])
+found-at number end = row-by (λ k. row (ltb k end) number k)
 
 module _ (t : Terms) where
   abbrev pub termsRows : List Row
-  termsRows = sizeRow t 0 ∷ weightRow t 0 ∷ boxRow t 0 ∷ []
+  termsRows = sizeRow t 0 ∷ weightRow (t .weight) 0 ∷ boxRow t 0 ∷ []
 
   -- what is counted where the size is allowed
   module _ (h : sizeAllowed (t .width) (t .height) ≡ true) where
@@ -36,11 +41,11 @@ module _ (t : Terms) where
     pub pairs-due : pairsDue t ≡ pairsOf t
     pairs-due = ap (λ (b : Bool). cond b (pairsOf t) 0) h
 
-    pub lengths-due : (samples flow image : ℕ) →
-        firstRefusal (lengthRows t samples flow image)
-        ≡ firstRefusal (exactRow 4 samples (pixelsOf t) ∷ exactRow 5 flow (pairsOf t) ∷ exactRow 6 image (pixelsOf t) ∷ [])
-    lengths-due samples flow image =
-        ap₂ (λ (n m : ℕ). firstRefusal (exactRow 4 samples n ∷ exactRow 5 flow m ∷ exactRow 6 image n ∷ [])) pixels-due pairs-due
+    pub lengths-due : (samples weights flow image : ℕ) {v : Verdict} →
+        v ≡ firstRefusal (lengthRows (pixelsDue t) (pairsDue t) samples weights flow image) →
+        v ≡ firstRefusal (lengthRows (pixelsOf t) (pairsOf t) samples weights flow image)
+    lengths-due samples weights flow image e =
+        e ∙ ap₂ (λ (n m : ℕ). firstRefusal (lengthRows n m samples weights flow image)) pixels-due pairs-due
 
   pub pairs-few : pairsDue t ≤ 2097152
   pairs-few = go (sizeAllowed (t .width) (t .height)) refl
@@ -62,13 +67,19 @@ module _ (t : Terms) where
       go Verdict.Accept h = g (accepted-size t h)
       go (Verdict.Refuse number place) h = refl
 
-  module _ (samples : List ℕ) (values : List ℤ) where
+  module _ (samples : List ℕ) (weights values : List ℤ) where
     -- the rows of a price, by two ends
     abbrev priceRows : ℤ → ℤ → List Row
     priceRows low high =
-        termsRows ++ (exactRow 4 (length samples) (pixelsOf t) ∷ exactRow 6 (length values) (pixelsOf t) ∷ outsideRow low high values ∷ [])
+        termsRows
+        ++ (lengthRow 4 samples (pixelsOf t)
+        ∷ optionalRow 19 weights (pairsOf t)
+        ∷ lengthRow 6 values (pixelsOf t)
+        ∷ pairWeightsRow weights
+        ∷ outsideRow low high values
+        ∷ [])
 
     -- by those of the box they give the model's verdict
-    pub price-verdict : {low high : ℤ} → BoxEnds t low high → firstRefusal (priceRows low high) ≡ priceVerdict t samples values
+    pub price-verdict : {low high : ℤ} → BoxEnds t low high → firstRefusal (priceRows low high) ≡ priceVerdict t samples weights values
     unfolding firstOutside priceVerdict
     price-verdict ends = ap₂ (λ (a b : ℤ). firstRefusal (priceRows a b)) (ends .low-is) (ends .high-is)

@@ -1,5 +1,6 @@
--- The lengths that the buffers of a job have to have, as the code counts them: 0 where the size is refused.
-use mathlib.Core.Bool.{not, cond}
+-- The rows of lent lengths, by numbers; and the lengths that the buffers of a job have to have, as the code counts them: 0 where
+-- the size is refused.
+use mathlib.Core.Bool.{not, _&&_, cond}
 use mathlib.Core.List.{List, [], _∷_}
 use Prim.Native.Nat.{ℕ}
 use lib.Dec.{eqb}
@@ -8,16 +9,25 @@ use Rattle.model.specs.Grid.{sizeAllowed}
 use Rattle.model.specs.Verdict.{Row, row}
 use Rattle.model.specs.Calls.{pixelsOf, pairsOf}
 
+-- A length that has to be exact
+abbrev pub exactRow : ℕ → ℕ → ℕ → Row
+exactRow number lent due = row (not (eqb lent due)) number 0
+
+-- .. or, of a buffer that need not be lent, exact or 0
+abbrev pub exactOrNoneRow : ℕ → ℕ → ℕ → Row
+exactOrNoneRow number lent due = row (not (eqb lent 0) && not (eqb lent due)) number 0
+
 abbrev pub pixelsDue : Terms → ℕ
 pixelsDue t = cond (sizeAllowed (t .width) (t .height)) (pixelsOf t) 0
 
 abbrev pub pairsDue : Terms → ℕ
 pairsDue t = cond (sizeAllowed (t .width) (t .height)) (pairsOf t) 0
 
--- 4 samples; 5 flow; 6 image
-abbrev pub lengthRows : Terms → ℕ → ℕ → ℕ → List Row
-lengthRows t samples flow image =
-    row (not (eqb samples (pixelsDue t))) 4 0
-    ∷ row (not (eqb flow (pairsDue t))) 5 0
-    ∷ row (not (eqb image (pixelsDue t))) 6 0
+-- 4 samples; 5 flow; 19 weights; 6 image
+abbrev pub lengthRows : ℕ → ℕ → ℕ → ℕ → ℕ → ℕ → List Row
+lengthRows pixels pairs samples weights flow image =
+    exactRow 4 samples pixels
+    ∷ exactRow 5 flow pairs
+    ∷ exactOrNoneRow 19 weights pairs
+    ∷ exactRow 6 image pixels
     ∷ []

@@ -3,15 +3,15 @@
 use model::Terms;
 use model::Verdict;
 use runs::pixels::first_outside;
-ghost use Prim.Native.Nat.{_*_};
+ghost use Prim.Native.Nat.{_*_, _<_, _≤_};
 ghost use mathlib.Core.Path.{_≡_};
-ghost use mathlib.Core.Bool.{not};
 ghost use mathlib.Core.List.{[], _∷_};
-ghost use lib.Dec.{eqb, ltb};
+ghost use lib.Dec.{ltb};
 ghost use lib.ListN.{length};
 ghost use Rattle.model.specs.Verdict.{row, firstRefusal, decided};
-ghost use Rattle.model.specs.Calls.{pixelsOf, pairsOf, sizeRow, weightRow, boxRow, flowRow};
-ghost use Rattle.judges.specs.Lengths.{pixelsDue, pairsDue, lengthRows};
+ghost use Rattle.model.specs.Grid.{weightOf};
+ghost use Rattle.model.specs.Calls.{pixelsOf, pairsOf, sizeRow, weightRow, boxRow, lengthRow, optionalRow, pairWeightsRow, flowRow};
+ghost use Rattle.judges.specs.Lengths.{exactRow, exactOrNoneRow, pixelsDue, pairsDue, lengthRows};
 ghost use Rattle.judges.specs.Outside.{outsideRow};
 
 // The first of two verdicts that refuses.
@@ -26,12 +26,34 @@ fn first(above: Verdict, below: Verdict) -> Verdict
 
 // A lent length, which must be exact.
 fn exact(lent: usize, due: usize, number: u32) -> Verdict
-    ensures { λ r. ⌜ r ≡ firstRefusal (row (not (eqb lent due)) number 0 ∷ []) ⌝ }
+    ensures { λ r. ⌜ r ≡ firstRefusal (exactRow number lent due ∷ []) ⌝ }
 {
     if lent == due {
         Verdict::Accept
     } else {
         Verdict::Refuse { number, place: 0 }
+    }
+}
+
+// The same of a buffer that need not be lent: exact, or 0.
+fn exact_or_none(lent: usize, due: usize, number: u32) -> Verdict
+    ensures { λ r. ⌜ r ≡ firstRefusal (exactOrNoneRow number lent due ∷ []) ⌝ }
+{
+    if lent == 0 {
+        Verdict::Accept
+    } else {
+        exact(lent, due, number)
+    }
+}
+
+// What a search found: an index before the end is refused there.
+fn found(place: usize, end: usize, number: u32) -> Verdict
+    ensures { λ r. ⌜ r ≡ firstRefusal (row (ltb place end) number place ∷ []) ⌝ }
+{
+    if place < end {
+        Verdict::Refuse { number, place }
+    } else {
+        Verdict::Accept
     }
 }
 
@@ -58,67 +80,81 @@ fn lengths_due(t: Terms) -> Due
     }
 }
 
-// 4, 5, 6: the lengths of samples, flow and image.
-fn judge_lengths(t: Terms, samples: usize, flow: usize, image: usize) -> Verdict
-    ensures { λ r. ⌜ r ≡ firstRefusal (lengthRows t samples flow image) ⌝ }
+// 4, 5, 19, 6: the lengths of samples, flow, weights and image.
+fn judge_lengths(t: Terms, samples: usize, weights: usize, flow: usize, image: usize) -> Verdict
+    ensures { λ r. ⌜ r ≡ firstRefusal (lengthRows (pixelsDue t) (pairsDue t) samples weights flow image) ⌝ }
 {
     let due = lengths_due(t);
+    let by_flow = exact(flow, due.pairs, 5);
+    let by_weights = exact_or_none(weights, due.pairs, 19);
+    let by_image = exact(image, due.pixels, 6);
     first(
         exact(samples, due.pixels, 4),
-        first(exact(flow, due.pairs, 5), exact(image, due.pixels, 6)),
+        first(by_flow, first(by_weights, by_image)),
     )
 }
 
-// 8: a flow number beyond ±weight, at the first index.
-fn judge_flow(flow: &[i32], weight: u32) -> Verdict
-    ensures { λ r. ⌜ r ≡ firstRefusal (flowRow weight (now (flow .entry)) ∷ []) ⌝ }
+// 2: a pair weight that is not allowed, at the first index.
+fn judge_weights(weights: &[i32]) -> Verdict
+    ensures { λ r. ⌜ r ≡ firstRefusal (pairWeightsRow (now (weights .entry)) ∷ []) ⌝ }
 {
-    let place = terms::first_beyond(flow, weight);
-    if place < flow.len() {
-        Verdict::Refuse { number: 8, place }
-    } else {
-        Verdict::Accept
-    }
+    found(terms::first_over(weights), weights.len(), 2)
 }
 
-// Check: 1, 2, 3; 4, 5, 6; 8. Of the image only its length counts, and the flow is read only where
-// terms and lengths have passed.
-pub fn judge_check(t: Terms, samples: usize, flow: &[i32], image: usize) -> Verdict
-    ensures { λ r. ⌜ r ≡ firstRefusal (sizeRow t 0 ∷ weightRow t 0 ∷ boxRow t 0 ∷ row (not (eqb samples (pixelsOf t))) 4 0 ∷ row (not (eqb (length (now (flow .entry))) (pairsOf t))) 5 0 ∷ row (not (eqb image (pixelsOf t))) 6 0 ∷ flowRow (t .weight) (now (flow .entry)) ∷ []) ⌝ }
+// 8: a flow number beyond ± its pair's weight, at the first index.
+fn judge_flow(t: Terms, weights: &[i32], flow: &[i32]) -> Verdict
+    requires { ⌜ (0 < length (now weights) → length (now flow) ≤ length (now weights)) ⌝ }
+    ensures { λ r. ⌜ r ≡ firstRefusal (flowRow (weightOf t (now (weights .entry))) (now (flow .entry)) ∷ []) ⌝ }
+{
+    found(terms::first_beyond(t, weights, flow), flow.len(), 8)
+}
+
+// Check: 1, 2, 3; 4, 5, 19, 6; 2, 8. Of the image only its length counts, and weights and flow are
+// read only where terms and lengths have passed.
+pub fn judge_check(t: Terms, samples: usize, weights: &[i32], flow: &[i32], image: usize) -> Verdict
+    ensures { λ r. ⌜ r ≡ firstRefusal (sizeRow t 0 ∷ weightRow (t .weight) 0 ∷ boxRow t 0 ∷ exactRow 4 samples (pixelsOf t) ∷ lengthRow 5 (now (flow .entry)) (pairsOf t) ∷ optionalRow 19 (now (weights .entry)) (pairsOf t) ∷ exactRow 6 image (pixelsOf t) ∷ pairWeightsRow (now (weights .entry)) ∷ flowRow (weightOf t (now (weights .entry))) (now (flow .entry)) ∷ []) ⌝ }
 {
     let above = first(
         terms::judge_terms(t),
-        judge_lengths(t, samples, flow.len(), image),
+        judge_lengths(t, samples, weights.len(), flow.len(), image),
     );
     let Verdict::Accept = above else {
         return above;
     };
-    judge_flow(flow, t.weight)
+    first(judge_weights(weights), judge_flow(t, weights, flow))
 }
 
 // 9: an image value outside a range, which is the box for a price, at the first index.
 fn judge_image(image: &[i32], lower: i32, upper: i32) -> Verdict
     ensures { λ r. ⌜ r ≡ firstRefusal (outsideRow lower upper (now (image .entry)) ∷ []) ⌝ }
 {
-    let place = first_outside(image, lower, upper);
-    if place < image.len() {
-        Verdict::Refuse { number: 9, place }
-    } else {
-        Verdict::Accept
-    }
+    found(first_outside(image, lower, upper), image.len(), 9)
 }
 
-// Price: 1, 2, 3; 4, 6; 9, by the ends that it is handed. The image is read only where terms and lengths have passed.
-pub fn judge_price(t: Terms, lower: i32, upper: i32, samples: usize, image: &[i32]) -> Verdict
-    ensures { λ r. ⌜ r ≡ firstRefusal (sizeRow t 0 ∷ weightRow t 0 ∷ boxRow t 0 ∷ row (not (eqb samples (pixelsOf t))) 4 0 ∷ row (not (eqb (length (now (image .entry))) (pixelsOf t))) 6 0 ∷ outsideRow lower upper (now (image .entry)) ∷ []) ⌝ }
+// Price: 1, 2, 3; 4, 19, 6; 2, 9, by the ends that it is handed. Weights and image are read only
+// where terms and lengths have passed.
+pub fn judge_price(
+    t: Terms,
+    lower: i32,
+    upper: i32,
+    samples: usize,
+    weights: &[i32],
+    image: &[i32],
+) -> Verdict
+    ensures { λ r. ⌜ r ≡ firstRefusal (sizeRow t 0 ∷ weightRow (t .weight) 0 ∷ boxRow t 0 ∷ exactRow 4 samples (pixelsOf t) ∷ optionalRow 19 (now (weights .entry)) (pairsOf t) ∷ lengthRow 6 (now (image .entry)) (pixelsOf t) ∷ pairWeightsRow (now (weights .entry)) ∷ outsideRow lower upper (now (image .entry)) ∷ []) ⌝ }
 {
-    let n = lengths_due(t).pixels;
-    let lengths = first(exact(samples, n, 4), exact(image.len(), n, 6));
+    let due = lengths_due(t);
+    let n = due.pixels;
+    let by_weights = exact_or_none(weights.len(), due.pairs, 19);
+    let lengths = first(
+        exact(samples, n, 4),
+        first(by_weights, exact(image.len(), n, 6)),
+    );
     let above = first(terms::judge_terms(t), lengths);
     let Verdict::Accept = above else {
         return above;
     };
-    judge_image(image, lower, upper)
+    first(judge_weights(weights), judge_image(image, lower, upper))
 }
 
 // 10: quick rounds over 4,096.
@@ -135,21 +171,27 @@ fn judge_rounds(quick: u32) -> Verdict
     }
 }
 
-// Run: 1, 2, 3; 10; 4, 5, 6, 7. Of its buffers only the lengths count.
+// Run: 1, 2, 3; 10; 4, 5, 19, 6, 7; 2. Of the other buffers only the lengths count, and the weights
+// are read only where terms, rounds and lengths have passed.
 pub fn judge_run(
     t: Terms,
     quick: u32,
     samples: usize,
+    weights: &[i32],
     flow: usize,
     image: usize,
     work: usize,
 ) -> Verdict
-    ensures { λ r. ⌜ r ≡ firstRefusal (sizeRow t 0 ∷ weightRow t 0 ∷ boxRow t 0 ∷ row (ltb 4096 quick) 10 0 ∷ row (not (eqb samples (pixelsOf t))) 4 0 ∷ row (not (eqb flow (pairsOf t))) 5 0 ∷ row (not (eqb image (pixelsOf t))) 6 0 ∷ row (not (eqb work (2 * pairsOf t))) 7 0 ∷ []) ⌝ }
+    ensures { λ r. ⌜ r ≡ firstRefusal (sizeRow t 0 ∷ weightRow (t .weight) 0 ∷ boxRow t 0 ∷ row (ltb 4096 quick) 10 0 ∷ exactRow 4 samples (pixelsOf t) ∷ exactRow 5 flow (pairsOf t) ∷ optionalRow 19 (now (weights .entry)) (pairsOf t) ∷ exactRow 6 image (pixelsOf t) ∷ exactRow 7 work (2 * pairsOf t) ∷ pairWeightsRow (now (weights .entry)) ∷ []) ⌝ }
 {
     let work_due = 2 * lengths_due(t).pairs;
     let lengths = first(
-        judge_lengths(t, samples, flow, image),
+        judge_lengths(t, samples, weights.len(), flow, image),
         exact(work, work_due, 7),
     );
-    first(terms::judge_terms(t), first(judge_rounds(quick), lengths))
+    let above = first(terms::judge_terms(t), first(judge_rounds(quick), lengths));
+    let Verdict::Accept = above else {
+        return above;
+    };
+    judge_weights(weights)
 }

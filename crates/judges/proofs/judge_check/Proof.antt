@@ -1,16 +1,34 @@
 -- `judges::judge_check` meets its contract. Assumes nothing.
-use mathlib.Core.Path.{_≡_, _∙_}
+use mathlib.Core.Path.{_≡_, sym, _∙_}
 use mathlib.Core.List.{List, [], _∷_, _++_}
-use Prim.Native.Nat.{ℕ}
+use mathlib.Core.Logic.{⊎-elim}
+use Prim.Native.Nat.{ℕ, _<_, _≤_}
+use native.Mathlib.Omega.{arith}
+use lib.IntN.{ℤ}
 use lib.ListN.{length}
 use Rattle.model.specs.declared.Terms.{Terms}
+use Rattle.model.specs.declared.Verdict.{Verdict}
 use Rattle.model.specs.Verdict.{Row, firstRefusal}
-use Rattle.model.specs.Calls.{pixelsOf, pairsOf, flowRow}
-use Rattle.model.proofs.Refusals.{stopped, went-on}
-use Rattle.judges.proofs.Rows.{exactRow, termsRows, lengths-due, under-terms}
+use Rattle.model.specs.Calls.{pixelsOf, pairsOf}
+use Rattle.model.proofs.Refusals.{accepted-rows, joined, stopped, went-on}
+use Rattle.model.proofs.Accepted.{length-passes, optional-passes}
+use Rattle.judges.specs.Lengths.{lengthRows}
+use Rattle.judges.proofs.Rows.{termsRows, lengths-due, under-terms}
 use borrow.Author.Needs.{needs}
 use Rattle.judges.proofs.judge_check.Statement.{statement}
 use Rattle.judges.proofs.judge_check.Tie as tie
+
+module _ (t : Terms) (samples : ℕ) (weights flow : List ℤ) (image : ℕ) where
+  -- the rows of the terms and of the lengths
+  abbrev rows : List Row
+  rows = termsRows t ++ lengthRows (pixelsOf t) (pairsOf t) samples (length weights) (length flow) image
+
+  -- past them, where weights are lent, each number of the flow has its own
+  each-weighed : firstRefusal rows ≡ Verdict.Accept → 0 < length weights → length flow ≤ length weights
+  each-weighed h l =
+      let n = accepted-rows rows h .1 .1 .1 .1 in
+      let f : length flow ≡ pairsOf t = length-passes 5 flow (pairsOf t) .0 (n .0) in
+      ⊎-elim (λ (e : length weights ≡ 0). omega arith) (λ (e : length weights ≡ pairsOf t). omega arith) (optional-passes 19 weights (pairsOf t) .0 (n .1 .0))
 
 judge-terms-requires : tie.Need-judge-terms-requires
 judge-terms-requires c κs = search needs
@@ -21,19 +39,14 @@ judge-lengths-requires c κs = search needs
 first-requires : tie.Need-first-requires
 first-requires c κs = search needs
 
--- the rows of the terms and of the lengths
-abbrev rows : Terms → ℕ → ℕ → ℕ → List Row
-rows t samples flow image =
-    termsRows t ++ (exactRow 4 samples (pixelsOf t) ∷ exactRow 5 flow (pairsOf t) ∷ exactRow 6 image (pixelsOf t) ∷ [])
-
 judged : (c : tie.After-first) → let a = c .before .before .before .args in
-    c .first .result ≡ firstRefusal (rows (a .t) (a .samples) (length (a .flow .now)) (a .image))
+    c .first .result ≡ firstRefusal (rows (a .t) (a .samples) (a .weights .now) (a .flow .now) (a .image))
 judged c =
     let a = c .before .before .before .args in
-    let n = length (a .flow .now) in
-    under-terms (a .t) (exactRow 4 (a .samples) (pixelsOf (a .t)) ∷ exactRow 5 n (pairsOf (a .t)) ∷ exactRow 6 (a .image) (pixelsOf (a .t)) ∷ [])
-    (c .first .ensures) (c .before .before .judge-terms .ensures)
-    (λ h. c .before .judge-lengths .ensures ∙ lengths-due (a .t) h (a .samples) n (a .image))
+    let n = length (a .weights .now) in
+    let m = length (a .flow .now) in
+    under-terms (a .t) (lengthRows (pixelsOf (a .t)) (pairsOf (a .t)) (a .samples) n m (a .image)) (c .first .ensures)
+    (c .before .before .judge-terms .ensures) (λ h. lengths-due (a .t) h (a .samples) n m (a .image) (cc))
 
 enum-told : tie.Need-enum-told
 enum-told c = search needs
@@ -42,21 +55,26 @@ enum-told-2 : tie.Need-enum-told-2
 enum-told-2 c = search needs
 
 returns : tie.Need-returns
-returns c =
-    let first = c .before .before in
-    let a = first .before .before .before .args in
-    stopped (rows (a .t) (a .samples) (length (a .flow .now)) (a .image)) (flowRow (a .t .weight) (a .flow .now) ∷ []) (judged first)
-    (c .enum-told2 .given .1)
+returns c = stopped _ _ (judged (c .before .before)) (c .enum-told2 .given .1)
+
+judge-weights-requires : tie.Need-judge-weights-requires
+judge-weights-requires c κs = search needs
 
 judge-flow-requires : tie.Need-judge-flow-requires
-judge-flow-requires c κs = search needs
+judge-flow-requires c κs =
+    let first = c .before .before .before in
+    let a = first .before .before .before .args in
+    each-weighed (a .t) (a .samples) (a .weights .now) (a .flow .now) (a .image) (sym (judged first) ∙ c .before .enum-told .given .1)
+
+first-requires-2 : tie.Need-first-requires-2
+first-requires-2 c κs = search needs
 
 returns-2 : tie.Need-returns-2
 returns-2 c =
-    let first = c .before .before .before in
-    let a = first .before .before .before .args in
-    went-on (rows (a .t) (a .samples) (length (a .flow .now)) (a .image)) (flowRow (a .t .weight) (a .flow .now) ∷ []) (judged first)
-    (c .before .enum-told .given .1) (c .judge-flow .ensures)
+    let flow = c .before in
+    let weights = flow .before in
+    went-on _ _ (judged (weights .before .before .before)) (weights .before .enum-told .given .1)
+    (joined _ _ (c .first2 .ensures) (weights .judge-weights .ensures) (flow .judge-flow .ensures))
 
 pub judge-check-spec : {M : Type 1} → statement M
 judge-check-spec =
@@ -68,5 +86,7 @@ judge-check-spec =
     enum-told
     enum-told-2
     returns
+    judge-weights-requires
     judge-flow-requires
+    first-requires-2
     returns-2)

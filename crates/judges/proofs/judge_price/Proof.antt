@@ -1,5 +1,5 @@
 -- `judges::judge_price` meets its contract. Assumes nothing.
-use mathlib.Core.Path.{_≡_, ap, ap₂, _∙_}
+use mathlib.Core.Path.{_≡_, ap₂, _∙_}
 use mathlib.Core.List.{List, [], _∷_, _++_}
 use Prim.Native.Nat.{ℕ}
 use lib.IntN.{ℤ}
@@ -7,18 +7,21 @@ use lib.ListN.{length}
 use mir.Syntax.{w32}
 use mir.ValLaws.{toZ-ofZ}
 use Rattle.model.specs.declared.Terms.{Terms}
-use Rattle.model.specs.declared.Verdict.{Verdict}
 use Rattle.model.specs.Verdict.{Row, firstRefusal}
-use Rattle.model.specs.Calls.{pixelsOf}
+use Rattle.model.specs.Calls.{pixelsOf, pairsOf}
 use Rattle.model.proofs.Refusals.{joined, stopped, went-on}
+use Rattle.judges.specs.Lengths.{exactRow, exactOrNoneRow}
 use Rattle.judges.specs.Outside.{outsideRow}
-use Rattle.judges.proofs.Rows.{exactRow, termsRows, pixels-due, under-terms}
+use Rattle.judges.proofs.Rows.{row-by, termsRows, pixels-due, pairs-due, under-terms}
 use borrow.Author.Needs.{needs}
 use Rattle.judges.proofs.judge_price.Statement.{statement}
 use Rattle.judges.proofs.judge_price.Tie as tie
 
 lengths-due-requires : tie.Need-lengths-due-requires
 lengths-due-requires c κs = search needs
+
+exact-or-none-requires : tie.Need-exact-or-none-requires
+exact-or-none-requires c κs = search needs
 
 exact-requires : tie.Need-exact-requires
 exact-requires c κs = search needs
@@ -29,33 +32,36 @@ exact-requires-2 c κs = search needs
 first-requires : tie.Need-first-requires
 first-requires c κs = search needs
 
-judge-terms-requires : tie.Need-judge-terms-requires
-judge-terms-requires c κs = search needs
-
 first-requires-2 : tie.Need-first-requires-2
 first-requires-2 c κs = search needs
 
--- the rows of the terms and of the lengths
-abbrev rows : Terms → ℕ → ℕ → List Row
-rows t samples image = termsRows t ++ (exactRow 4 samples (pixelsOf t) ∷ exactRow 6 image (pixelsOf t) ∷ [])
+judge-terms-requires : tie.Need-judge-terms-requires
+judge-terms-requires c κs = search needs
 
-judged : (c : tie.After-first2) → let a = c .before .before .before .before .before .before .args in
-    c .first2 .result ≡ firstRefusal (rows (a .t) (a .samples) (length (a .image .now)))
+first-requires-3 : tie.Need-first-requires-3
+first-requires-3 c κs = search needs
+
+-- the rows of the terms and of the lengths
+abbrev rows : Terms → ℕ → ℕ → ℕ → List Row
+rows t samples weights image =
+    termsRows t ++ (exactRow 4 samples (pixelsOf t) ∷ exactOrNoneRow 19 weights (pairsOf t) ∷ exactRow 6 image (pixelsOf t) ∷ [])
+
+judged : (c : tie.After-first3) → let a = c .before .before .before .before .before .before .before .before .args in
+    c .first3 .result ≡ firstRefusal (rows (a .t) (a .samples) (length (a .weights .now)) (length (a .image .now)))
 judged c =
-    let lengths = c .before .before in
-    let image = lengths .before in
+    let all = c .before .before in
+    let last = all .before in
+    let image = last .before in
     let samples = image .before in
-    let due = samples .before in
+    let weights = samples .before in
+    let due = weights .before in
     let a = due .before .args in
-    let t = a .t in
-    let n = length (a .image .now) in
-    let verdict : (number lent : ℕ) → ℕ → Verdict = λ number lent m. firstRefusal (exactRow number lent m ∷ []) in
-    under-terms t (exactRow 4 (a .samples) (pixelsOf t) ∷ exactRow 6 n (pixelsOf t) ∷ []) (c .first2 .ensures) (c .before .judge-terms .ensures) (λ h.
-    let e = due .lengths-due .ensures .0 ∙ pixels-due t h in
-    joined (exactRow 4 (a .samples) (pixelsOf t) ∷ []) (exactRow 6 n (pixelsOf t) ∷ [])
-    (lengths .first .ensures)
-    (samples .exact .ensures ∙ ap (verdict 4 (a .samples)) e)
-    (image .exact2 .ensures ∙ ap (verdict 6 n) e))
+    under-terms (a .t) _ (c .first3 .ensures) (c .before .judge-terms .ensures) (λ h.
+    let pixels = due .lengths-due .ensures .0 ∙ pixels-due (a .t) h in
+    let pairs = due .lengths-due .ensures .1 ∙ pairs-due (a .t) h in
+    joined _ _ (all .first2 .ensures) (row-by (exactRow _ (a .samples)) (samples .exact .ensures) pixels)
+    (joined _ _ (last .first .ensures) (row-by (exactOrNoneRow _ (length (a .weights .now))) (weights .exact-or-none .ensures) pairs)
+    (row-by (exactRow _ (length (a .image .now))) (image .exact2 .ensures) pixels)))
 
 enum-told : tie.Need-enum-told
 enum-told c = search needs
@@ -64,36 +70,44 @@ enum-told-2 : tie.Need-enum-told-2
 enum-told-2 c = search needs
 
 returns : tie.Need-returns
-returns c =
-    let first = c .before .before in
-    let a = first .before .before .before .before .before .before .args in
-    stopped (rows (a .t) (a .samples) (length (a .image .now))) (outsideRow (a .lower) (a .upper) (a .image .now) ∷ []) (judged first) (c .enum-told2 .given .1)
+returns c = stopped _ _ (judged (c .before .before)) (c .enum-told2 .given .1)
+
+judge-weights-requires : tie.Need-judge-weights-requires
+judge-weights-requires c κs = search needs
 
 judge-image-requires : tie.Need-judge-image-requires
 judge-image-requires c κs = search needs
 
+first-requires-4 : tie.Need-first-requires-4
+first-requires-4 c κs = search needs
+
 returns-2 : tie.Need-returns-2
 returns-2 c =
-    let first = c .before .before .before in
-    let s = first .before .before .before .before .before .before in
-    let a = s .args in
-    went-on (rows (a .t) (a .samples) (length (a .image .now))) (outsideRow (a .lower) (a .upper) (a .image .now) ∷ []) (judged first)
-    (c .before .enum-told .given .1)
-    (c .judge-image .ensures
-    ∙ ap₂ (λ (x y : ℤ). firstRefusal (outsideRow x y (a .image .now) ∷ [])) (toZ-ofZ w32 _ (s .fits .lower)) (toZ-ofZ w32 _ (s .fits .upper)))
+    let image = c .before in
+    let weights = image .before in
+    let first = weights .before .before .before in
+    let s = first .before .before .before .before .before .before .before .before in
+    went-on _ _ (judged first) (weights .before .enum-told .given .1)
+    (joined _ _ (c .first4 .ensures) (weights .judge-weights .ensures)
+    (image .judge-image .ensures
+    ∙ ap₂ (λ (x y : ℤ). firstRefusal (outsideRow x y (s .args .image .now) ∷ [])) (toZ-ofZ w32 _ (s .fits .lower)) (toZ-ofZ w32 _ (s .fits .upper))))
 
 pub judge-price-spec : {M : Type 1} → statement M
 judge-price-spec =
     tie.close
     (tie.spec
     lengths-due-requires
+    exact-or-none-requires
     exact-requires
     exact-requires-2
     first-requires
-    judge-terms-requires
     first-requires-2
+    judge-terms-requires
+    first-requires-3
     enum-told
     enum-told-2
     returns
+    judge-weights-requires
     judge-image-requires
+    first-requires-4
     returns-2)

@@ -1,13 +1,16 @@
 -- `judges::judge_run` meets its contract. Assumes nothing.
 use native.Mathlib.Omega.{arith}
-use mathlib.Core.Path.{ap, _∙_}
-use mathlib.Core.List.{[], _∷_, _++_}
+use mathlib.Core.Path.{_≡_, _∙_}
+use mathlib.Core.List.{List, [], _∷_, _++_}
 use Prim.Native.Nat.{ℕ, _*_}
 use lib.Dec.{ltb}
-use Rattle.model.specs.Verdict.{row, firstRefusal}
+use lib.ListN.{length}
+use Rattle.model.specs.declared.Terms.{Terms}
+use Rattle.model.specs.Verdict.{Row, row, firstRefusal}
 use Rattle.model.specs.Calls.{pixelsOf, pairsOf}
-use Rattle.model.proofs.Refusals.{joined}
-use Rattle.judges.proofs.Rows.{exactRow, pairs-due, lengths-due, pairs-few, under-terms}
+use Rattle.model.proofs.Refusals.{joined, stopped, went-on}
+use Rattle.judges.specs.Lengths.{exactRow, lengthRows}
+use Rattle.judges.proofs.Rows.{row-by, termsRows, pairs-due, lengths-due, pairs-few, under-terms}
 use borrow.Author.Needs.{needs}
 use Rattle.judges.proofs.judge_run.Statement.{statement}
 use Rattle.judges.proofs.judge_run.Tie as tie
@@ -39,8 +42,15 @@ first-requires-2 c κs = search needs
 first-requires-3 : tie.Need-first-requires-3
 first-requires-3 c κs = search needs
 
-returns : tie.Need-returns
-returns c =
+-- the rows of the terms, of the rounds and of the lengths
+abbrev rows : Terms → ℕ → ℕ → ℕ → ℕ → ℕ → ℕ → List Row
+rows t quick samples weights flow image work =
+    termsRows t
+    ++ (row (ltb 4096 quick) 10 0 ∷ (lengthRows (pixelsOf t) (pairsOf t) samples weights flow image ++ (exactRow 7 work (2 * pairsOf t) ∷ [])))
+
+judged : (c : tie.After-first3) → let a = c .before .before .before .before .before .before .before .before .before .args in
+    c .first3 .result ≡ firstRefusal (rows (a .t) (a .quick) (a .samples) (length (a .weights .now)) (a .flow) (a .image) (a .work))
+judged c =
     let below = c .before in
     let rounds = below .before in
     let terms = rounds .before in
@@ -50,14 +60,25 @@ returns c =
     let counted = lengths .before .before in
     let a = counted .before .args in
     let t = a .t in
-    let due = exactRow 4 (a .samples) (pixelsOf t) ∷ exactRow 5 (a .flow) (pairsOf t) ∷ exactRow 6 (a .image) (pixelsOf t) ∷ [] in
-    let last = exactRow 7 (a .work) (2 * pairsOf t) ∷ [] in
-    let quick = row (ltb 4096 (a .quick)) 10 0 ∷ [] in
-    under-terms t (quick ++ (due ++ last)) (c .first3 .ensures) (terms .judge-terms .ensures) (λ h.
-    joined quick (due ++ last) (below .first2 .ensures) (rounds .judge-rounds .ensures)
-    (joined due last (all .first .ensures)
-    (lengths .judge-lengths .ensures ∙ lengths-due t h (a .samples) (a .flow) (a .image))
-    (work .exact .ensures ∙ ap (λ (m : ℕ). firstRefusal (exactRow 7 (a .work) (2 * m) ∷ [])) (counted .lengths-due .ensures .1 ∙ pairs-due t h))))
+    under-terms t _ (c .first3 .ensures) (terms .judge-terms .ensures) (λ h.
+    joined _ _ (below .first2 .ensures) (rounds .judge-rounds .ensures)
+    (joined _ _ (all .first .ensures) (lengths-due t h (a .samples) (length (a .weights .now)) (a .flow) (a .image) (lengths .judge-lengths .ensures))
+    (row-by (λ m. exactRow 7 (a .work) (2 * m)) (work .exact .ensures) (counted .lengths-due .ensures .1 ∙ pairs-due t h))))
+
+enum-told : tie.Need-enum-told
+enum-told c = search needs
+
+enum-told-2 : tie.Need-enum-told-2
+enum-told-2 c = search needs
+
+returns : tie.Need-returns
+returns c = stopped _ _ (judged (c .before .before)) (c .enum-told2 .given .1)
+
+judge-weights-requires : tie.Need-judge-weights-requires
+judge-weights-requires c κs = search needs
+
+returns-2 : tie.Need-returns-2
+returns-2 c = went-on _ _ (judged (c .before .before .before)) (c .before .enum-told .given .1) (c .judge-weights .ensures)
 
 pub judge-run-spec : {M : Type 1} → statement M
 judge-run-spec =
@@ -72,4 +93,8 @@ judge-run-spec =
     judge-rounds-requires
     first-requires-2
     first-requires-3
-    returns)
+    enum-told
+    enum-told-2
+    returns
+    judge-weights-requires
+    returns-2)
