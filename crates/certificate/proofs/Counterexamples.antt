@@ -9,8 +9,8 @@ use mathlib.Core.List.{map}
 use Rattle.integers.specs.Whole.{clamp, nearest}
 use Rattle.integers.specs.Sum.{total}
 use Rattle.model.specs.Lists.{table, chain, firstWhere}
-use Rattle.model.specs.Problem.{Problem, InBox, fall, misfit, price, pull, image, floor, slack, distance}
-use Rattle.model.specs.Grid.{readingOf, lowEnd, highEnd, verticalPairs, horizontalPairs, gridPairs}
+use Rattle.model.specs.Problem.{Problem, InBox, fall, misfit, price, pull, image, floor, slack, distance, weightSum}
+use Rattle.model.specs.Grid.{weightOf, readingOf, lowEnd, highEnd, verticalPairs, horizontalPairs, gridPairs}
 use Rattle.model.specs.Root.{rootBy, root}
 use Rattle.model.specs.Rounds.{eighth, nearestEighth, stepped, step, nextMomentum, extrapolate, quickStart, quickRound, quickRounds, wouldMove, firstMoving, steadyRounds}
 use Rattle.certificate.specs.Demand.{WithinSlacks, Certified}
@@ -20,7 +20,7 @@ use Rattle.certificate.specs.Counterexamples.{Alteration, distanceRows, 
 pub counterexamples : (map (λ (r : Alteration). r .statement) rows ≡ map (λ _. true) rows)
     × (map (λ (r : Alteration). r .altered) rows ≡ map (λ _. false) rows)
     × (metExactly ≡ map (λ _. true) metExactly)
-unfolding clamp nearest total table chain firstWhere fall misfit price pull image floor slack distance readingOf lowEnd highEnd verticalPairs horizontalPairs gridPairs rootBy root eighth nearestEighth stepped step nextMomentum extrapolate quickStart quickRound quickRounds wouldMove firstMoving steadyRounds close certified alike alikeAtZero near withinSlacks equalAtZero settledWithin movedWithin settlesWhen distanceRows twoFlowsRows divisionRows settledRows movedRows settlesRows rows metExactly
+unfolding clamp nearest total table chain firstWhere fall misfit price pull image floor slack distance weightSum weightOf readingOf lowEnd highEnd verticalPairs horizontalPairs gridPairs rootBy root eighth nearestEighth stepped step nextMomentum extrapolate quickStart quickRound quickRounds wouldMove firstMoving steadyRounds close certified alike alikeAtZero near withinSlacks equalAtZero settledWithin movedWithin settlesWhen distanceRows twoFlowsRows divisionRows settledRows movedRows settlesRows rows metExactly
 counterexamples = (refl, refl, refl)
 
 -- The distance test is demand 3's statement: a certified image passes it against every image of the box, so an image that

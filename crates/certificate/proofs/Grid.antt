@@ -3,18 +3,16 @@ use mathlib.Core.Path.{_≡_, refl, sym, ap, _∙_, subst}
 use mathlib.Core.Bool.{Bool, true, false, cond}
 use mathlib.Core.List.{List}
 use Prim.Native.Nat.{ℕ, zero, suc, _+_, _*_, _≤_, _<_, zero-le}
-use native.Mathlib.Omega.{arith}
-use lib.IntN.{ℤ, pos, natAbs, _+ℤ_, _*ℤ_}
+use lib.IntN.{ℤ, pos, natAbs, _*ℤ_}
 use lib.ListN.{length, getD-replicate}
 use lib.Signed.{_≤ℤ_, _<ℤ_}
-use Rattle.integers.specs.Sum.{total}
 use Rattle.model.specs.Lists.{at}
-use Rattle.model.specs.Problem.{Problem, pairCount, Feasible, slack}
+use Rattle.model.specs.Problem.{Problem, pairCount, Feasible, weightSum, slack}
 use Rattle.model.specs.declared.Terms.{Terms}
 use Rattle.model.specs.declared.Rounds.{Rounds}
 use Rattle.model.specs.Grid.{grid}
 use Rattle.model.specs.Rounds.{eighth, nearestEighth, quickStart, quickRound, quickRounds}
-use Rattle.model.specs.Calls.{Outcome, checked, settled, spent, Answer, pairsOf, imageOf, figuresOf, checkAnswer, checkImage, quickFlow, ending, runAnswer, runFlow, runImage}
+use Rattle.model.specs.Calls.{Outcome, checked, settled, spent, Answer, imageOf, figuresOf, checkAnswer, checkImage, quickFlow, ending, runAnswer, runFlow, runImage}
 use Rattle.model.specs.Accepted.{CheckAllowed, RunAllowed}
 use Rattle.model.proofs.Sizes.{iterate-size}
 use Rattle.model.proofs.Range.{ends-ordered}
@@ -53,7 +51,7 @@ held t samples weights box flow o moved e g =
     }
 
 -- Check, of the flow that it was lent, whatever flow that is, and of the image that it leaves
-pub check-demand : (t : Terms) (samples : List ℕ) (weights : List ℤ) (flow former : List ℤ) {values : List ℤ} {a : Answer} →
+pub check-demand : (t : Terms) (samples : List ℕ) (weights flow former : List ℤ) {values : List ℤ} {a : Answer} →
     a ≡ checkAnswer t samples weights flow former → values ≡ checkImage t samples weights flow former → a .number ≡ 0 → CheckDemand t samples weights flow values a
 check-demand t samples weights flow former {values} {a} e g none =
     let allowed : CheckAllowed t samples weights flow former = told e (check-number t samples weights flow former) .0 none in
@@ -62,8 +60,8 @@ check-demand t samples weights flow former {values} {a} e g none =
     certificate (grid t samples weights) (grid-sound t samples weights box) flow values a (check-feasible t samples weights flow former allowed)
     (held t samples weights box flow checked 0 (g ∙ check-image t samples weights flow former yes) (e ∙ check-answer t samples weights flow former yes))
 
--- Two accepted checks of one job, the same terms and samples, whatever the two flows are: request F-5, to be cited
-pub two-checks : (t : Terms) (samples : List ℕ) (weights : List ℤ) (f g formerX formerY : List ℤ) →
+-- Two accepted checks of one job, the same terms, samples and weights, whatever the two flows are: request F-5, to be cited
+pub two-checks : (t : Terms) (samples : List ℕ) (weights f g formerX formerY : List ℤ) →
     checkAnswer t samples weights f formerX .number ≡ 0 → checkAnswer t samples weights g formerY .number ≡ 0 →
     TwoFlows (grid t samples weights) f g (checkImage t samples weights f formerX) (checkImage t samples weights g formerY) (checkAnswer t samples weights f formerX)
     (checkAnswer t samples weights g formerY)
@@ -76,12 +74,6 @@ unfolding quickRounds quickStart quickRound
 quick-feasible share p zero j l =
     subst (λ (z : ℤ). natAbs z ≤ p .weight j) (sym (getD-replicate (pairCount p) j (pos 0) (pos 0) l)) zero-le
 quick-feasible share p (suc k) j l = step-feasible share p (quickRounds share p k .extrapolated) j l
-
--- a sum of one weight
-constant : (m w : ℕ) → total m (λ _. pos w) ≡ pos (w * m)
-unfolding total
-constant zero w = ap pos (omega arith)
-constant (suc m) w = ap (λ (s : ℤ). s +ℤ pos w) (constant m w) ∙ ap pos (omega arith)
 
 -- a run ends with a flow within the weights
 pub ending-flow : (t : Terms) (r : Rounds) (samples : List ℕ) (weights : List ℤ) → t .low ≤ t .high →
@@ -99,8 +91,8 @@ ending-flow t r samples weights box =
 run-bounds : (t : Terms) (r : Rounds) (samples : List ℕ) (weights : List ℤ) → t .low ≤ t .high →
     (pos (2 * ending t r samples weights .moved) ≤ℤ slack (grid t samples weights) (at (quickFlow t r samples weights)))
     × (slack (grid t samples weights) (at (quickFlow t r samples weights)) <ℤ pos (2 * (r .allowance + 1)) → ending t r samples weights .settled ≡ true)
-    × (ending t r samples weights .settled ≡ true → slack (grid t samples weights) (at (ending t r samples weights .flow)) ≤ℤ pos (16 * (t .weight * pairsOf t)))
-unfolding ending quickFlow
+    × (ending t r samples weights .settled ≡ true → slack (grid t samples weights) (at (ending t r samples weights .flow)) ≤ℤ (pos 16 *ℤ weightSum (grid t samples weights)))
+unfolding ending quickFlow weightSum
 run-bounds t r samples weights box =
     let p : Problem = grid t samples weights in
     let sound : Sound p = grid-sound t samples weights box in
@@ -110,9 +102,7 @@ run-bounds t r samples weights box =
     let degrees : (i : ℕ) → i < p .pixels → degree p i ≤ 4 = λ i _. degree-at-most-4 t samples weights i in (
       moved-bound nearestEighth p sound 4 2 4 nearest-eighth-rounding degrees (r .allowance) start size within,
       settles nearestEighth p sound 4 2 4 nearest-eighth-rounding degrees (r .allowance) start size within,
-      λ e.
-          subst (λ (s : ℤ). slack p (at (ending t r samples weights .flow)) ≤ℤ (pos 16 *ℤ s)) (constant (pairCount p) (t .weight))
-          (settled-bound nearestEighth p sound 4 2 4 nearest-eighth-rounding degrees (r .allowance) start size within e),
+      settled-bound nearestEighth p sound 4 2 4 nearest-eighth-rounding degrees (r .allowance) start size within,
     )
 
 -- the outcome tells whether the rounds settled
@@ -121,7 +111,7 @@ told-settled true e = refl
 told-settled false e = cc
 
 -- Run, of the flow and the image that it leaves
-pub run-demand : (t : Terms) (r : Rounds) (samples : List ℕ) (weights : List ℤ) (former formerImage work : List ℤ) {flow values : List ℤ} {a : Answer} →
+pub run-demand : (t : Terms) (r : Rounds) (samples : List ℕ) (weights former formerImage work : List ℤ) {flow values : List ℤ} {a : Answer} →
     a ≡ runAnswer t r samples weights former formerImage work → flow ≡ runFlow t r samples weights former formerImage work →
     values ≡ runImage t r samples weights former formerImage work → a .number ≡ 0 → RunDemand t r samples weights flow values a
 unfolding figuresOf
@@ -143,6 +133,6 @@ run-demand t r samples weights former formerImage work {flow} {values} {a} e f g
       settles = λ h. outcome ∙ ap (λ (b : Bool). cond b settled spent) (run-bounds t r samples weights box .1 h);
       settled =
           λ h.
-          subst (λ (s : ℤ). s ≤ℤ pos (16 * (t .weight * pairsOf t))) (sym (ap (λ (x : Answer). x .slack) given))
+          subst (λ (s : ℤ). s ≤ℤ (pos 16 *ℤ weightSum p)) (sym (ap (λ (x : Answer). x .slack) given))
           (run-bounds t r samples weights box .2 (told-settled (ending t r samples weights .settled) (sym outcome ∙ h)));
     }

@@ -8,14 +8,14 @@
 -- 2 × moved meets the starting slack only where both are 0, and 2 × (allowance + 1) of a spent run never does.
 use mathlib.Core.Bool.{Bool}
 use mathlib.Core.List.{List, [], _∷_, _++_}
-use Prim.Native.Nat.{ℕ, _*_}
+use Prim.Native.Nat.{ℕ, _+_, _*_}
 use lib.IntN.{ℤ, pos, negℤ, _+ℤ_, _*ℤ_}
 use Rattle.integers.specs.Whole.{quotient, sameZ}
 use Rattle.model.specs.Lists.{at}
-use Rattle.model.specs.Problem.{Problem, price, image, floor, slack, distance, divided, times}
+use Rattle.model.specs.Problem.{Problem, price, weightSum, image, floor, slack, distance, divided, times}
 use Rattle.model.specs.Rounds.{nearestEighth}
 use Rattle.certificate.specs.Statements.{start, ahead, run, eighthDown, eighthAway, close, certified, alike, alikeAtZero, near, withinSlacks, equalAtZero, timesAsLarge, settledWithin, movedWithin, settlesWhen}
-use Rattle.certificate.specs.Jobs.{scanTwoByOne, scanTwoByTwo, scanRow, scanThreeByThree, readingsFourByOne, scanThreeByOne, flow, flows, other}
+use Rattle.certificate.specs.Jobs.{scanTwoByOne, scanTwoByTwo, scanRow, scanThreeByThree, readingsFourByOne, scanThreeByOne, scanJoint, flow, flows, other}
 
 -- A statement and the same altered, each as a test that computes
 pub record Alteration : Type 0 where
@@ -107,13 +107,14 @@ divisionRows =
     ∷ beside (withinSlacks q g q (times 3 best)) (near 2 (slack p f +ℤ slack p best) q x y)
     ∷ []
 
--- A settled slack is at most 16 × weight × pairs
+-- A settled slack is at most 16 × the sum of the weights; where each is the terms' weight, 16 × weight × pairs
 unfoldable pub settledRows : List Alteration
 settledRows =
     let p : Problem = scanTwoByOne 256 0 255 in
     let q : Problem = scanTwoByOne 258 0 255 in
     let two : Problem = scanTwoByTwo 258 in
     let narrow : Problem = scanTwoByOne 256 3 3 in
+    let joint : Problem = scanJoint in
     -- 15 for 16: seven quick rounds leave the flow −258 and the image 386 382, whose fall of 4 does not move it back
     beside (settledWithin (16 * (258 * 1)) q (run q 7 0)) (settledWithin (15 * (258 * 1)) q (run q 7 0))
     -- the weight left out
@@ -122,6 +123,10 @@ settledRows =
     ∷ beside (settledWithin (16 * (258 * 4)) two (run two 7 0)) (settledWithin (16 * 258) two (run two 7 0))
     -- the slack before the clamp: settled at flow 0 with slack 0, but 262144 in the wider box
     ∷ beside (settledWithin (16 * (256 * 1)) narrow (run narrow 0 0)) (settledWithin (16 * (256 * 1)) p (run narrow 0 0))
+    -- the largest weight left out of the sum 0 + 258
+    ∷ beside (settledWithin (16 * (0 + 258)) joint (run joint 7 0)) (settledWithin (16 * 0) joint (run joint 7 0))
+    -- the terms' weight × pairs for the sum
+    ∷ beside (settledWithin (16 * (0 + 258)) joint (run joint 7 0)) (settledWithin (16 * (1 * 2)) joint (run joint 7 0))
     ∷ []
 
 -- 2 × moved is at most the slack of the flow that the quick rounds leave
@@ -165,6 +170,7 @@ metExactly =
     let p : Problem = scanTwoByOne 256 0 255 in
     let q : Problem = scanTwoByOne 258 0 255 in
     let three : Problem = scanThreeByOne in
+    let joint : Problem = scanJoint in
     let f : ℕ → ℤ = flow (pos 0) in
     let g : ℕ → ℤ = flow (negℤ (pos 256)) in
     let h : ℕ → ℤ = at (run p 0 100 .flow) in
@@ -182,4 +188,6 @@ metExactly =
     ∷ sameZ (pos 2 *ℤ distance three (image three u) (image three v)) (slack three u +ℤ slack three v)
     -- the slack of a settled run = 16 × weight × pairs, 4128
     ∷ sameZ (slack q (at (run q 7 0 .flow))) (pos (16 * (258 * 1)))
+    -- .. = 16 × the sum of the weights 0 and 258
+    ∷ sameZ (slack joint (at (run joint 7 0 .flow))) (pos 16 *ℤ weightSum joint)
     ∷ []

@@ -10,10 +10,10 @@ use Rattle.model.specs.declared.Terms.{Terms}
 use Rattle.model.specs.declared.Rounds.{Rounds}
 use Rattle.model.specs.Lists.{at}
 use Rattle.model.specs.Problem as Model
-use Rattle.model.specs.Problem.{Problem, Feasible, InBox, distance, divided, times}
+use Rattle.model.specs.Problem.{Problem, Feasible, InBox, weightSum, distance, divided, times}
 use Rattle.model.specs.Grid.{grid}
 use Rattle.model.specs.Calls as Calls
-use Rattle.model.specs.Calls.{Answer, pairsOf, quickFlow}
+use Rattle.model.specs.Calls.{Answer, quickFlow}
 
 -- x is the image of flow f, and price, floor and slack are those that document 01 defines for them (SPECIFICATION 8.4)
 pub record Figures (p : Problem) (f x : ℕ → ℤ) (price floor slack : ℤ) : Type 0 where
@@ -54,19 +54,20 @@ pub record Certificate (p : Problem) (flow image : List ℤ) (a : Answer) : Type
       Certified (divided k p) (times k (at image)) (pos (k * k) *ℤ a .price) (pos (k * k) *ℤ a .slack)
 
 -- Demand 3 for check: the certificate of the flow that it was lent and of the image that it leaves (SPECIFICATION 8.4)
-abbrev pub CheckDemand : Terms → List ℕ → List ℤ → List ℤ → Answer → Type 0
+abbrev pub CheckDemand : Terms → List ℕ → List ℤ → List ℤ → List ℤ → Answer → Type 0
 CheckDemand t samples weights flow image a = Certificate (grid t samples weights) flow image a
 
 -- Demand 3 for run: the certificate of the flow and the image that it leaves; 2 × moved is at most the slack of the flow
 -- that the quick rounds leave; a run settles whenever 2 × (allowance + 1) exceeds that slack; and a settled run's slack is
--- at most 16 × weight × pairs (SPECIFICATION 8.7, 8.8)
-pub record RunDemand (t : Terms) (r : Rounds) (samples : List ℕ) (weights : List ℤ) (flow image : List ℤ) (a : Answer) : Type 0 where
+-- at most 16 × the sum of the weights (SPECIFICATION 8.7, 8.8), which without a weight buffer is weight × pairs (`uniform-sum`
+-- of model/proofs/Weights.antt)
+pub record RunDemand (t : Terms) (r : Rounds) (samples : List ℕ) (weights flow image : List ℤ) (a : Answer) : Type 0 where
   pub certificate : Certificate (grid t samples weights) flow image a
   pub moved : pos (2 * a .moved) ≤ℤ Model.slack (grid t samples weights) (at (quickFlow t r samples weights))
   pub settles :
       Model.slack (grid t samples weights) (at (quickFlow t r samples weights)) <ℤ pos (2 * (r .allowance + 1)) →
       a .outcome ≡ Calls.settled
-  pub settled : a .outcome ≡ Calls.settled → a .slack ≤ℤ pos (16 * (t .weight * pairsOf t))
+  pub settled : a .outcome ≡ Calls.settled → a .slack ≤ℤ (pos 16 *ℤ weightSum (grid t samples weights))
 
 -- Two accepted calls for one problem, each a check or a run, with flows f and g, images x and y in the buffers and answers a
 -- and b: the images are within their slacks, on the grid and on every whole division k, where the squared distance, as each

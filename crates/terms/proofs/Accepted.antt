@@ -10,5 +10,5 @@ use Rattle.model.specs.Grid.{sizeAllowed}
 use Rattle.model.specs.Calls.{sizeRow, weightRow, boxRow}
 use Rattle.model.proofs.Refusals.{accepted-row}
 
-pub accepted-size : (t : Terms) → firstRefusal (sizeRow t 0 ∷ weightRow t 0 ∷ boxRow t 0 ∷ []) ≡ Verdict.Accept → sizeAllowed (t .width) (t .height) ≡ true
-accepted-size t h = not-false _ (accepted-row (sizeRow t 0) (weightRow t 0 ∷ boxRow t 0 ∷ []) h .0)
+pub accepted-size : (t : Terms) → firstRefusal (sizeRow t 0 ∷ weightRow (t .weight) 0 ∷ boxRow t 0 ∷ []) ≡ Verdict.Accept → sizeAllowed (t .width) (t .height) ≡ true
+accepted-size t h = not-false _ (accepted-row (sizeRow t 0) (weightRow (t .weight) 0 ∷ boxRow t 0 ∷ []) h .0)

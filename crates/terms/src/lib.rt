@@ -1,9 +1,10 @@
 // What the calls and the job tape share: the limits of a job's terms, its counts of pixels and
-// pairs, and the first flow number beyond the weight.
+// pairs, the weights of pairs, and the first flow number beyond its pair's.
 mod beyond;
 mod counts;
 mod limits;
 mod verdict;
+mod weights;
 
 pub use beyond::first_beyond;
 pub use beyond::is_beyond;
@@ -14,3 +15,5 @@ pub use limits::quick_allowed;
 pub use limits::size_allowed;
 pub use limits::weight_allowed;
 pub use verdict::judge_terms;
+pub use weights::first_over;
+pub use weights::pair_weight;

@@ -12,7 +12,7 @@ ghost use Rattle.model.specs.Calls.{sizeRow, weightRow, boxRow};
 
 // 1 size; 2 weight; 3 low above high.
 pub fn judge_terms(t: Terms) -> Verdict
-    ensures { λ r. ⌜ r ≡ firstRefusal (sizeRow t 0 ∷ weightRow t 0 ∷ boxRow t 0 ∷ []) ⌝ }
+    ensures { λ r. ⌜ r ≡ firstRefusal (sizeRow t 0 ∷ weightRow (t .weight) 0 ∷ boxRow t 0 ∷ []) ⌝ }
 {
     if !size_allowed(t.width, t.height) {
         return Verdict::Refuse {

@@ -15,7 +15,7 @@ abbrev third : Terms → List Row
 third t = boxRow t 0 ∷ []
 
 abbrev second : Terms → List Row
-second t = weightRow t 0 ∷ third t
+second t = weightRow (t .weight) 0 ∷ third t
 
 abbrev first : Terms → List Row
 first t = sizeRow t 0 ∷ second t

@@ -1,0 +1,46 @@
+// The weights of pairs: each its own, where weights are lent, else the terms' weight.
+
+use crate::limits::weight_allowed;
+use integers::signed;
+use model::Terms;
+ghost use mathlib.Core.Path.{_≡_};
+ghost use Prim.Native.Nat.{_<_};
+ghost use lib.ListN.{length};
+ghost use Rattle.model.specs.Grid.{pairWeightAllowed, weightOf};
+ghost use Rattle.model.specs.Calls.{firstOver};
+
+// The weight of pair j.
+pub fn pair_weight(t: Terms, weights: &[i32], j: usize) -> u32
+    requires { ⌜ (0 < length (now weights) → j < length (now weights)) ⌝ }
+    ensures { λ r. ⌜ r ≡ weightOf t (now (weights .entry)) j ⌝ }
+{
+    if weights.len() == 0 {
+        t.weight
+    } else {
+        signed::magnitude(weights[j])
+    }
+}
+
+// Whether a number of a weight buffer is 0 to the limit.
+fn pair_weight_allowed(z: i32) -> bool
+    ensures { λ r. ⌜ r ≡ pairWeightAllowed z ⌝ }
+{
+    if signed::less(z, 0) {
+        return false;
+    }
+    weight_allowed(signed::magnitude(z))
+}
+
+// The first index whose number is no allowed weight; the length where there is none.
+pub fn first_over(weights: &[i32]) -> usize
+    ensures { λ r. ⌜ r ≡ firstOver (now (weights .entry)) ⌝ }
+{
+    let mut j = 0;
+    while j < weights.len() {
+        if !pair_weight_allowed(weights[j]) {
+            return j;
+        }
+        j += 1;
+    }
+    j
+}
