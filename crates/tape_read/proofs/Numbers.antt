@@ -22,7 +22,7 @@ use Rattle.model.proofs.Lists.{length-table, getD-table, getD-inside, firstWher
 use Rattle.model.specs.declared.Lent.{Lent}
 use Rattle.records.specs.declared.tally.Tally.{Tally}
 use Rattle.records.specs.Tally.{tallyOf}
-use Rattle.tape_read.specs.Places.{weightAt, numberAt, ownWeight}
+use Rattle.tape_read.specs.Places.{weightAt, numberAt, ownWeight, beyondOwn}
 use Rattle.roundtrip.proofs.Entries.{Ranged, kindOf, kind-here, entry-here}
 use Rattle.roundtrip.proofs.Offsets.{tape-length, sample-here, weight-here, flow-here}
 use Rattle.roundtrip.proofs.Accepted.{Job}
@@ -40,14 +40,17 @@ numberOn tape samples weights j = numberAt tape (15 + 2 * samples + 3 * weights 
 -- the first number beyond its pair's weight
 abbrev pub firstOn : List ℕ → Tally → ℕ
 firstOn tape t =
-    firstWhere (t .flows) (λ j. ltb (ownWeight tape (15 + 2 * t .samples) (t .weights) (t .terms .weight) j)
-    (natAbs (numberOn tape (t .samples) (t .weights) j)))
+    firstWhere (t .flows)
+    (beyondOwn tape (t .terms .weight) (15 + 2 * t .samples) (t .weights) (15 + 2 * t .samples + 3 * t .weights))
 
 -- a list from its elements
-table-list : {A : Type 0} (xs : List A) (g : ℕ → A) (d : A) → ((i : ℕ) → i < length xs → g i ≡ getD xs i d) → table (length xs) g ≡ xs
+table-list : {A : Type 0} (xs : List A) (g : ℕ → A) (d : A) → ((i : ℕ) → i < length xs → g i ≡ getD xs i d) →
+    table (length xs) g ≡ xs
 table-list xs g d e =
     ext-getD d (table (length xs) g) xs (length-table (length xs) g)
-    (λ i h. let l : i < length xs = subst (λ (n : ℕ). i < n) (length-table (length xs) g) h in getD-table (length xs) g i d l ∙ e i l)
+    (λ i h.
+    let l : i < length xs = subst (λ (n : ℕ). i < n) (length-table (length xs) g) h in
+    getD-table (length xs) g i d l ∙ e i l)
 
 module _ (tape : List ℕ) (lent : Lent) (byte : (i : ℕ) → getD tape i 0 < 256) (p : Progress) (j : Job tape lent byte p) where
   abbrev job : List ℕ
@@ -61,7 +64,8 @@ module _ (tape : List ℕ) (lent : Lent) (byte : (i : ℕ) → getD tape i 0 < 2
       decoded (kindOf e) (λ n. getD tape (i + 1 + n) 0) ≡ e
   body-is i o e same r (rest, h) =
       let here : drop i tape ≡ encoded e ++ rest = ap₂ drop same (j .bytes) ∙ h in
-      ap (λ (kind : ℕ). decoded kind (λ n. getD tape (i + 1 + n) 0)) (sym (kind-here tape i e rest here)) ∙ entry-here tape i e rest here r
+      ap (λ (kind : ℕ). decoded kind (λ n. getD tape (i + 1 + n) 0)) (sym (kind-here tape i e rest here))
+      ∙ entry-here tape i e rest here r
 
   -- the first byte of a body as the code and as the definition count it
   first-byte : (i : ℕ) → getD tape (i + 1) 0 ≡ getD tape (i + 1 + 0) 0
@@ -91,7 +95,8 @@ module _ (tape : List ℕ) (lent : Lent) (byte : (i : ℕ) → getD tape i 0 < 2
   number-is i h =
       let o : ℕ = 15 + 2 * length (p .samples) + 3 * length (p .weights) + 5 * i in
       let e =
-      body-is o (15 + length (p .samples) * 2 + length (p .weights) * 3 + i * 5) (Flow (at (p .flow) i)) (omega arith) (j .sound .ranged i h)
+      body-is o (15 + length (p .samples) * 2 + length (p .weights) * 3 + i * 5) (Flow (at (p .flow) i)) (omega arith)
+      (j .sound .ranged i h)
       (flow-here (p .terms) (p .rounds) (p .samples) (p .weights) (p .flow) i h) in
       let f = first-byte o in
       cc
@@ -100,7 +105,8 @@ module _ (tape : List ℕ) (lent : Lent) (byte : (i : ℕ) → getD tape i 0 < 2
   codes-are = table-list (p .samples) _ 0 code-is
 
   pub weights-are : table (length (p .weights)) (λ i. pos (weightOn tape (length (p .samples)) i)) ≡ p .weights
-  weights-are = table-list (p .weights) _ (pos 0) (λ i h. ap pos (weight-is i h) ∙ pos-natAbs-nonneg (j .sound .pairWeights i h .0))
+  weights-are =
+      table-list (p .weights) _ (pos 0) (λ i h. ap pos (weight-is i h) ∙ pos-natAbs-nonneg (j .sound .pairWeights i h .0))
 
   pub numbers-are : table (length (p .flow)) (numberOn tape (length (p .samples)) (length (p .weights))) ≡ p .flow
   numbers-are = table-list (p .flow) _ (pos 0) number-is
@@ -115,17 +121,21 @@ module _ (tape : List ℕ) (lent : Lent) (byte : (i : ℕ) → getD tape i 0 < 2
       all some =
           ⊎-elim (λ (z : length (p .weights) ≡ 0). absurd (some z))
           (λ (g : length (p .weights) ≡ pairsOf (p .terms)).
-          ⊎-elim (λ (z : length (p .flow) ≡ 0). absurd (omega arith)) (λ (k : length (p .flow) ≡ pairsOf (p .terms)). omega arith) (j .flow))
+          ⊎-elim (λ (z : length (p .flow) ≡ 0). absurd (omega arith))
+          (λ (k : length (p .flow) ≡ pairsOf (p .terms)). omega arith) (j .flow))
           (j .weights)
 
       by : (b : Bool) → eqb (length (p .weights)) 0 ≡ b →
-          cond b (p .terms .weight) (weightOn tape (length (p .samples)) i) ≡ natAbs (getD (p .weights) i (pos (p .terms .weight)))
+          cond b (p .terms .weight) (weightOn tape (length (p .samples)) i)
+          ≡ natAbs (getD (p .weights) i (pos (p .terms .weight)))
       by true e =
-          sym (ap natAbs (List·getD-eq-default (p .weights) (pos (p .terms .weight)) {n = i} (omega (arith, eqb-true (length (p .weights)) 0 e))))
+          let none : length (p .weights) ≡ 0 = eqb-true (length (p .weights)) 0 e in
+          sym (ap natAbs (List·getD-eq-default (p .weights) (pos (p .terms .weight)) {n = i} (omega arith)))
       by false e =
           let l : i < length (p .weights) = all (eqb-false (length (p .weights)) 0 e) in
           weight-is i l ∙ ap natAbs (getD-inside (p .weights) i (pos 0) (pos (p .terms .weight)) l)
 
   pub first-is : firstOn tape (tallyOf p) ≡ firstBeyond (weightOf (p .terms) (p .weights)) (p .flow)
   unfolding firstBeyond
-  first-is = firstWhere-cong (length (p .flow)) (λ i h. ap₂ (λ (w : ℕ) (z : ℤ). ltb w (natAbs z)) (own-is i h) (number-is i h))
+  first-is =
+      firstWhere-cong (length (p .flow)) (λ i h. ap₂ (λ (w : ℕ) (z : ℤ). ltb w (natAbs z)) (own-is i h) (number-is i h))

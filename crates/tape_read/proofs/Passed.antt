@@ -36,7 +36,8 @@ module _ (tape : List ℕ) (byte : (i : ℕ) → getD tape i 0 < 256) (samples :
   lent = lentBy samples weights flow
 
   -- what holds of the counts of every accepted job holds of these
-  by-job : (P : Tally → Type 0) → ((p : Progress) → all tape samples weights flow ≡ whole p → Job tape lent byte p → P (tallyOf p)) →
+  by-job : (P : Tally → Type 0) →
+      ((p : Progress) → all tape samples weights flow ≡ whole p → Job tape lent byte p → P (tallyOf p)) →
       {t : Tally} → WholeRecords tape (lentBy samples weights flow) t → P t
   by-job P k h = let (p, e, f) = h in subst⁻¹ P f (k p e (accepted-job tape lent byte refl p e))
 
@@ -52,8 +53,8 @@ module _ (tape : List ℕ) (byte : (i : ℕ) → getD tape i 0 < 256) (samples :
     pub beyond : firstOn tape t < t .flows → parse tape (lentBy samples weights flow) ≡ turned 8 (firstOn tape t)
     beyond = by-job (λ u. firstOn tape u < u .flows → parse tape lent ≡ turned 8 (firstOn tape u)) far h
       where
-        far : (p : Progress) → all tape samples weights flow ≡ whole p → Job tape lent byte p → firstOn tape (tallyOf p) < length (p .flow) →
-            parse tape lent ≡ turned 8 (firstOn tape (tallyOf p))
+        far : (p : Progress) → all tape samples weights flow ≡ whole p → Job tape lent byte p →
+            firstOn tape (tallyOf p) < length (p .flow) → parse tape lent ≡ turned 8 (firstOn tape (tallyOf p))
         far p e j l =
             let f = first-is tape lent byte p j in
             beyond-parse tape samples weights flow p e (subst (λ (n : ℕ). n < length (p .flow)) f l) ∙ ap (turned 8) (sym f)
@@ -71,7 +72,8 @@ module _ (tape : List ℕ) (byte : (i : ℕ) → getD tape i 0 < 256) (samples :
           flowed = not (eqb (u .flows) 0);
         })
         × (readSamples tape samples weights flow ≡ overwritten (table (u .samples) (codeOn tape)) samples)
-        × (readWeights tape samples weights flow ≡ overwritten (table (u .weights) (λ i. pos (weightOn tape (u .samples) i))) weights)
+        × (readWeights tape samples weights flow
+        ≡ overwritten (table (u .weights) (λ i. pos (weightOn tape (u .samples) i))) weights)
         × (readFlow tape samples weights flow ≡ overwritten (table (u .flows) (numberOn tape (u .samples) (u .weights))) flow)
 
     pub left : t .flows ≤ firstOn tape t → Left t
@@ -80,10 +82,11 @@ module _ (tape : List ℕ) (byte : (i : ℕ) → getD tape i 0 < 256) (samples :
         filled : {A : Type 0} {new read : List A} (buffer : List A) → new ≡ read → overwritten read buffer ≡ overwritten new buffer
         filled buffer e = ap (λ (front : List _). overwritten front buffer) (sym e)
 
-        whole-job : (p : Progress) → all tape samples weights flow ≡ whole p → Job tape lent byte p → length (p .flow) ≤ firstOn tape (tallyOf p) →
-            Left (tallyOf p)
+        whole-job : (p : Progress) → all tape samples weights flow ≡ whole p → Job tape lent byte p →
+            length (p .flow) ≤ firstOn tape (tallyOf p) → Left (tallyOf p)
         whole-job p e j l =
-            let r = whole-parse tape samples weights flow p e (subst (λ (n : ℕ). length (p .flow) ≤ n) (first-is tape lent byte p j) l) in (
+            let within = subst (λ (n : ℕ). length (p .flow) ≤ n) (first-is tape lent byte p j) l in
+            let r = whole-parse tape samples weights flow p e within in (
               answer-by tape samples weights flow r,
               samples-by tape samples weights flow r ∙ filled samples (codes-are tape lent byte p j),
               weights-by tape samples weights flow r ∙ filled weights (weights-are tape lent byte p j),

@@ -22,7 +22,9 @@ pub promised : (tape samples : List ℕ) (weights flow : List ℤ) → ((i : ℕ
     × ((own ≡ readWeights tape samples weights flow)
     × ((numbers ≡ readFlow tape samples weights flow)
     × (((a .number ≡ 0) ↔ ReadAllowed tape samples weights flow)
-    × (a .number ≡ 0 → WritesBack (a .terms) (a .rounds) (take (pixelsOf (a .terms)) codes) (take (weightCount a) own) (take (flowCount a) numbers) tape)))))
+    × (a .number ≡ 0 →
+    WritesBack (a .terms) (a .rounds) (take (pixelsOf (a .terms)) codes) (take (weightCount a) own)
+    (take (flowCount a) numbers) tape)))))
 promised tape samples weights flow byte e h w k =
     let n = read-number tape byte samples weights flow in
     let same = ap (λ (b : ReadAnswer). b .number) e in

@@ -1,9 +1,9 @@
 -- Where the numbers of a whole tape stand: from an offset on, one record after another, each with its kind byte first.
-use mathlib.Core.Bool.{cond}
+use mathlib.Core.Bool.{Bool, cond}
 use mathlib.Core.List.{List}
 use Prim.Native.Nat.{ℕ, _+_, _*_}
-use lib.Dec.{eqb}
-use lib.IntN.{ℤ}
+use lib.Dec.{eqb, ltb}
+use lib.IntN.{ℤ, natAbs}
 use lib.ListN.{getD}
 use Rattle.model.specs.Tape.{fromTwo, fromFour}
 
@@ -19,3 +19,8 @@ numberAt tape o =
 -- the weight of pair j, of so many weight records from an offset on: its own, or, where there are none, the terms' weight
 abbrev pub ownWeight : List ℕ → ℕ → ℕ → ℕ → ℕ → ℕ
 ownWeight tape start count weight j = cond (eqb count 0) weight (weightAt tape (start + 3 * j))
+
+-- whether the number of pair j, of flow records from `start` on, is beyond ± that weight, of so many weight records from `own` on
+abbrev pub beyondOwn : List ℕ → ℕ → ℕ → ℕ → ℕ → ℕ → Bool
+beyondOwn tape weight own weights start j =
+    ltb (ownWeight tape own weights weight j) (natAbs (numberAt tape (start + 5 * j)))

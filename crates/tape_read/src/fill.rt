@@ -5,11 +5,10 @@ use records::bytes::two_at;
 use terms::is_beyond;
 ghost use mathlib.Core.Path.{_≡_};
 ghost use Prim.Native.Nat.{_+_, _*_, _≤_};
-ghost use lib.Dec.{ltb};
-ghost use lib.IntN.{pos, natAbs};
+ghost use lib.IntN.{pos};
 ghost use lib.ListN.{length, getD};
 ghost use Rattle.model.specs.Lists.{table, firstWhere, overwritten};
-ghost use Rattle.tape_read.specs.Places.{weightAt, numberAt, ownWeight};
+ghost use Rattle.tape_read.specs.Places.{weightAt, numberAt, ownWeight, beyondOwn};
 
 // The weight of pair j, of so many weight records from an offset on: its own, or, where there are
 // none, the terms' weight.
@@ -35,7 +34,7 @@ pub fn beyond_from(
     count: usize,
 ) -> usize
     requires { ⌜ (own + 3 * count ≤ length (now tape)) × (start + 5 * count ≤ length (now tape)) ⌝ }
-    ensures { λ r. ⌜ r ≡ firstWhere count (λ j. ltb (ownWeight (now (tape .entry)) own weights weight j) (natAbs (numberAt (now (tape .entry)) (start + 5 * j)))) ⌝ }
+    ensures { λ r. ⌜ r ≡ firstWhere count (beyondOwn (now (tape .entry)) weight own weights start) ⌝ }
 {
     let mut j = 0;
     while j < count {

@@ -39,7 +39,8 @@ abbrev tooMany : Lent → ℕ → ℕ → Bool
 tooMany lent pixels pairs = ltb (lent .samples) pixels || ltb (lent .weights) pairs || ltb (lent .flow) pairs
 
 short : (c : tie.After-pairs) → let a = c .before .before .before .before .args in
-    tooMany (a .lent) (c .before .pixels .result) (c .pairs .result) ≡ tooMany (a .lent) (a .width * a .height) (length (gridPairs (a .width) (a .height)))
+    tooMany (a .lent) (c .before .pixels .result) (c .pairs .result)
+    ≡ tooMany (a .lent) (a .width * a .height) (length (gridPairs (a .width) (a .height)))
 short c = ap₂ (tooMany (c .before .before .before .before .args .lent)) (c .before .pixels .ensures) (c .pairs .ensures)
 
 returns-2 : tie.Need-returns-2
@@ -54,7 +55,16 @@ returns-3 c =
     let s = c .before .before .before .before in
     let a = s .before .before .before .before .args in
     ap₂ (λ (m n : ℕ). Step.More
-    (record { header = 1; terms = sized (a .width) (a .height); rounds = a .t .rounds; pixels = m; pairs = n; samples = a .t .samples; weights = a .t .weights; flows = a .t .flows })
+    (record {
+      header = 1;
+      terms = sized (a .width) (a .height);
+      rounds = a .t .rounds;
+      pixels = m;
+      pairs = n;
+      samples = a .t .samples;
+      weights = a .t .weights;
+      flows = a .t .flows;
+    })
     (a .next)) (s .before .pixels .ensures) (s .pairs .ensures)
     ∙ judged-entry (a .t) (Entry.Size (a .width) (a .height)) (a .next) (a .at) (a .lent)
     (passed _ _ (ap not (allowed (s .before .before))) ∙ passed _ _ (sym (short s) ∙ c .if2 .left) ∙ accepted)

@@ -15,7 +15,9 @@ same-length : tie.Need-same-length
 same-length c = search needs
 
 returns : tie.Need-returns
-returns c = put-then (c .before .before .before .before .before .before .put-byte .ensures) (c .before .before .put-two .ensures) (omega arith)
+returns c =
+    put-then (c .before .before .before .before .before .before .put-byte .ensures) (c .before .before .put-two .ensures)
+    (omega arith)
 
 pub put-weight-spec : {M : Type 1} → statement M
 put-weight-spec = tie.close (tie.spec put-byte-requires put-two-requires same-length returns)

@@ -120,7 +120,8 @@ returns-5 c =
 returns-6 : tie.Need-returns-6
 returns-6 c =
     let a = c .before .before .before .before .args in
-    ap Entry.PairWeight (low-two (a .tape .now) (a .at) (c .two-at6 .ensures .0)) ∙ at-kind (a .tape .now) (a .at) (c .before .match .keys6)
+    ap Entry.PairWeight (low-two (a .tape .now) (a .at) (c .two-at6 .ensures .0))
+    ∙ at-kind (a .tape .now) (a .at) (c .before .match .keys6)
 
 -- kind 0, or none of the table
 bare : (k : ℕ) (b : ℕ → ℕ) → ¬ (k ≡ 1) → ¬ (k ≡ 2) → ¬ (k ≡ 3) → ¬ (k ≡ 4) → ¬ (k ≡ 5) → ¬ (k ≡ 6) → Entry.End ≡ decoded k b
@@ -137,7 +138,8 @@ returns-7 : tie.Need-returns-7
 returns-7 c =
     let r = c .match .rest in
     let a = c .before .before .before .args in
-    bare _ (λ i. getD (a .tape .now) (a .at + 1 + i) 0) (r .0 .0 .0 .0 .0 .1) (r .0 .0 .0 .0 .1) (r .0 .0 .0 .1) (r .0 .0 .1) (r .0 .1) (r .1)
+    bare _ (λ i. getD (a .tape .now) (a .at + 1 + i) 0)
+    (r .0 .0 .0 .0 .0 .1) (r .0 .0 .0 .0 .1) (r .0 .0 .0 .1) (r .0 .0 .1) (r .0 .1) (r .1)
 
 pub decode-spec : {M : Type 1} → statement M
 decode-spec =

@@ -56,9 +56,11 @@ returns-8 : tie.Need-returns-8
 returns-8 c =
     let k : ℕ = c .before .before .before .before .before .args .kind in
     let r = c .match .rest in
-    let h : length bodyLengths ≤ k =
-    above (above (above (above (above (above (above zero-le (r .0 .0 .0 .0 .0 .0 .1)) (r .0 .0 .0 .0 .0 .1)) (r .0 .0 .0 .0 .1)) (r .0 .0 .0 .1)) (r .0 .0 .1)) (r .0 .1)) (r .1) in
-    sym (ap (λ (t : Bool). cond t (Form.Body (bodyLength k) (may (tally (c .before)) k)) Form.Unknown) (le-ltb k (length bodyLengths) h))
+    let h₃ : 3 ≤ k = above (above (above zero-le (r .0 .0 .0 .0 .0 .0 .1)) (r .0 .0 .0 .0 .0 .1)) (r .0 .0 .0 .0 .1) in
+    let h₇ : length bodyLengths ≤ k = above (above (above (above h₃ (r .0 .0 .0 .1)) (r .0 .0 .1)) (r .0 .1)) (r .1) in
+    sym
+    (ap (λ (t : Bool). cond t (Form.Body (bodyLength k) (may (tally (c .before)) k)) Form.Unknown)
+    (le-ltb k (length bodyLengths) h₇))
 
 pub form-of-spec : {M : Type 1} → statement M
 form-of-spec =

@@ -1,31 +1,27 @@
 -- `tape_read::fill::beyond_from` meets its contract. The loop's invariant: no number before `j` is beyond its pair's weight.
 -- Assumes nothing.
-use mathlib.Core.Path.{_≡_, sym, _∙_, ap, ap₂}
+use mathlib.Core.Path.{_≡_, sym, _∙_, ap₂}
 use mathlib.Core.Bool.{Bool}
-use mathlib.Core.List.{List}
-use Prim.Native.Nat.{ℕ, _+_, _*_, _-_}
+use Prim.Native.Nat.{ℕ, _-_}
 use native.Mathlib.Omega.{arith}
 use borrow.Author.Needs.{needs}
 use lib.Dec.{ltb}
 use lib.IntN.{ℤ, natAbs}
 use mir.Facts.{toZ-ofZ}
 use Rattle.terms.proofs.Search.{Searched, search-start, search-on, search-found, search-none}
-use Rattle.tape_read.specs.Places.{numberAt, ownWeight}
+use Rattle.tape_read.specs.Places.{beyondOwn}
 use Rattle.tape_read.proofs.fill.beyond_from.Statement.{statement}
 use Rattle.tape_read.proofs.fill.beyond_from.Tie as tie
 
-abbrev test : List ℕ → ℕ → ℕ → ℕ → ℕ → ℕ → Bool
-test tape weight own weights start j = ltb (ownWeight tape own weights weight j) (natAbs (numberAt tape (start + 5 * j)))
-
 abbrev Inv-loop : tie.InvT-loop
-Inv-loop tape weight own weights start count j₀ j = Searched count (test tape weight own weights start) j
+Inv-loop tape weight own weights start count j₀ j = Searched count (beyondOwn tape weight own weights start) j
 
 abbrev μ-loop : tie.MeasureT-loop
 μ-loop tape weight own weights start count j₀ j = count - j
 
 -- the test, of what the function was given
 abbrev given : tie.At-loop Inv-loop μ-loop → ℕ → Bool
-given s = let a = s .before .before .args in test (a .tape .now) (a .weight) (a .own) (a .weights) (a .start)
+given s = let a = s .before .before .args in beyondOwn (a .tape .now) (a .weight) (a .own) (a .weights) (a .start)
 
 loop-holds : tie.Need-loop-holds Inv-loop μ-loop
 loop-holds c = search-start _ _
@@ -70,7 +66,8 @@ loop-less c = omega arith
 loop-again : tie.Need-loop-again Inv-loop μ-loop
 loop-again c =
     let s = c .before .before .before .before .before in
-    search-on _ (given s) _ (s .loop .inv) (c .before .before .before .before .loop-test .taken) (sym (answer (c .before)) ∙ c .if1 .left)
+    search-on _ (given s) _ (s .loop .inv) (c .before .before .before .before .loop-test .taken)
+    (sym (answer (c .before)) ∙ c .if1 .left)
 
 returns-2 : tie.Need-returns-2 Inv-loop μ-loop
 returns-2 c = search-none _ (given (c .before)) _ (c .before .loop .inv) (c .loop-test .left)

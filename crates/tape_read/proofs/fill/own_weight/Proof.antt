@@ -23,7 +23,8 @@ two-at-requires c κs = search needs
 
 -- the weight by whether there are weight records
 by-count : (c : tie.Start) {b : Bool} → let a = c .args in eqb (a .count) 0 ≡ b →
-    cond b (a .weight) (weightAt (a .tape .now) (a .start + 3 * a .j)) ≡ ownWeight (a .tape .now) (a .start) (a .count) (a .weight) (a .j)
+    cond b (a .weight) (weightAt (a .tape .now) (a .start + 3 * a .j))
+    ≡ ownWeight (a .tape .now) (a .start) (a .count) (a .weight) (a .j)
 by-count c e = let a = c .args in ap (λ (b : Bool). cond b (a .weight) (weightAt (a .tape .now) (a .start + 3 * a .j))) (sym e)
 
 returns : tie.Need-returns

@@ -1,6 +1,7 @@
 -- `tape_read::read::read` meets its contract. Assumes nothing.
 use mathlib.Core.Path.{_≡_, refl, sym, subst, subst⁻¹}
 use native.Mathlib.Omega.{arith}
+use Rattle.model.specs.declared.Lent.{Lent}
 use Rattle.model.specs.Tape.{lentBy}
 use Rattle.records.specs.declared.tally.Tally.{Tally}
 use Rattle.tape_read.specs.declared.scan.Scanned.{Scanned}
@@ -18,7 +19,8 @@ fresh-requires c κs = search needs
 scan-tape-requires : tie.Need-scan-tape-requires
 scan-tape-requires c κs =
     let a = c .before .before .before .args in
-    subst⁻¹ (λ (t : Tally). Reached (a .tape .now) (lentBy (a .samples .now) (a .weights .now) (a .flow .now)) t 0) (c .fresh .ensures) (start (a .tape .now) (lentBy (a .samples .now) (a .weights .now) (a .flow .now)))
+    let lent : Lent = lentBy (a .samples .now) (a .weights .now) (a .flow .now) in
+    subst⁻¹ (λ (t : Tally). Reached (a .tape .now) lent t 0) (c .fresh .ensures) (start (a .tape .now) lent)
 
 enum-known-scanned : tie.Need-enum-known-scanned
 enum-known-scanned c = search needs
@@ -46,7 +48,8 @@ returns c =
     let a = k .before .before .args in
     let s = stopped d (c .before .scanned .given .1) in
     let r = refused-parse (a .tape .now) (a .samples .now) (a .weights .now) (a .flow .now) (refused _ _ (s .0) (s .1)) in
-    promised (a .tape .now) (a .samples .now) (a .weights .now) (a .flow .now) (λ i. omega (arith, k .before .shared-slice-known .given i))
+    promised (a .tape .now) (a .samples .now) (a .weights .now) (a .flow .now)
+    (λ i. omega (arith, k .before .shared-slice-known .given i))
     (sym (answer-by (a .tape .now) (a .samples .now) (a .weights .now) (a .flow .now) r))
     (sym (samples-by (a .tape .now) (a .samples .now) (a .weights .now) (a .flow .now) r))
     (sym (weights-by (a .tape .now) (a .samples .now) (a .weights .now) (a .flow .now) r))
@@ -67,7 +70,8 @@ returns-2 c =
     let k = n .before .before .before .before .before .before .before .before .before .before in
     let a = k .before .args in
     let e = n .take-numbers .ensures in
-    promised (a .tape .now) (a .samples .now) (a .weights .now) (a .flow .now) (λ i. omega (arith, k .shared-slice-known .given i)) (e .0) (e .1 .0) (e .1 .1 .0) (e .1 .1 .1)
+    promised (a .tape .now) (a .samples .now) (a .weights .now) (a .flow .now)
+    (λ i. omega (arith, k .shared-slice-known .given i)) (e .0) (e .1 .0) (e .1 .1 .0) (e .1 .1 .1)
 
 pub read-spec : {M : Type 1} → statement M
 read-spec =

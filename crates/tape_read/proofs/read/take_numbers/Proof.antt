@@ -46,7 +46,8 @@ returns c =
     let first : firstOn (a .tape .now) (a .t) ≡ judged .beyond-from .result = sym (judged .beyond-from .ensures) in
     let far : firstOn (a .tape .now) (a .t) < a .t .flows = omega (arith, first, c .if1 .taken) in
     let r =
-    beyond (a .tape .now) (byte k) (a .samples .now) (a .weights .now) (a .flow .now) (k .before .pre) far ∙ ap (turned 8) first in (
+    beyond (a .tape .now) (byte k) (a .samples .now) (a .weights .now) (a .flow .now) (k .before .pre) far
+    ∙ ap (turned 8) first in (
       sym (answer-by (a .tape .now) (a .samples .now) (a .weights .now) (a .flow .now) r),
       (
         sym (samples-by (a .tape .now) (a .samples .now) (a .weights .now) (a .flow .now) r),
