@@ -15,9 +15,10 @@ tallyOf p =
       pixels = pixelsOf (p .terms);
       pairs = pairsOf (p .terms);
       samples = length (p .samples);
+      weights = length (p .weights);
       flows = length (p .flow);
     }
 
 -- which kinds are allowed next
 abbrev pub may : Tally → ℕ → Bool
-may t = allowedAfter (t .header) (t .samples) (t .pixels) (t .flows) (t .pairs)
+may t = allowedAfter (t .header) (t .samples) (t .pixels) (t .weights) (t .flows) (t .pairs)

@@ -68,6 +68,15 @@ fn put_number(output: &mut [u8], o: usize, kind: u8, value: i32) -> usize
     put_four(output, next, value)
 }
 
+// A kind and a number of two bytes.
+fn put_weight(output: &mut [u8], o: usize, kind: u8, weight: u32) -> usize
+    requires { ⌜ o + 3 ≤ length (now output) ⌝ }
+    ensures { λ r. ⌜ Put o (kind ∷ twoBytes weight) (now (output .entry)) r (now (output .exit)) ⌝ }
+{
+    let next = put_byte(output, o, kind);
+    put_two(output, next, weight)
+}
+
 // A record: its kind, then its numbers.
 pub fn put_record(output: &mut [u8], o: usize, entry: Entry) -> usize
     requires { ⌜ o + length (encoded entry) ≤ length (now output) ⌝ }
@@ -80,5 +89,6 @@ pub fn put_record(output: &mut [u8], o: usize, entry: Entry) -> usize
         Entry::RoundLimits { quick, allowance } => put_pair(output, o, 3, quick, allowance as u32),
         Entry::Sample { code } => put_code(output, o, 4, code),
         Entry::Flow { value } => put_number(output, o, 5, value),
+        Entry::PairWeight { weight } => put_weight(output, o, 6, weight),
     }
 }

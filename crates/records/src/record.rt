@@ -19,15 +19,16 @@ pub enum Form {
     Body { body: usize, allowed: bool },
 }
 
-// Order: 1, 2, 3, all samples, then all flow numbers or none, then 0.
+// Order: 1, 2, 3, all samples, then all pair weights or none, then all flow numbers or none, then 0.
 pub fn form_of(kind: u8, t: Tally) -> Form
     ensures { λ r. ⌜ r ≡ formOf kind (may t kind) ⌝ }
 {
     let sampled = (t.header == 3) & (t.samples == t.pixels);
+    let weighted = sampled & ((t.weights == 0) | (t.weights == t.pairs));
     match kind {
         0 => Form::Body {
             body: 0,
-            allowed: sampled & ((t.flows == 0) | (t.flows == t.pairs)),
+            allowed: weighted & ((t.flows == 0) | (t.flows == t.pairs)),
         },
         1 => Form::Body {
             body: 4,
@@ -47,7 +48,11 @@ pub fn form_of(kind: u8, t: Tally) -> Form
         },
         5 => Form::Body {
             body: 4,
-            allowed: sampled & (t.flows < t.pairs),
+            allowed: weighted & (t.flows < t.pairs),
+        },
+        6 => Form::Body {
+            body: 2,
+            allowed: sampled & (t.weights < t.pairs) & (t.flows == 0),
         },
         _ => Form::Unknown,
     }
@@ -119,6 +124,9 @@ pub fn decode(tape: &[u8], at: usize) -> Entry
         4 => Entry::Sample { code: tape[body] },
         5 => Entry::Flow {
             value: four_at(tape, body),
+        },
+        6 => Entry::PairWeight {
+            weight: two_at(tape, body),
         },
         _ => Entry::End,
     }

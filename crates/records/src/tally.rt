@@ -7,7 +7,7 @@ ghost use Rattle.model.specs.Tape.{nothing};
 ghost use Rattle.records.specs.Tally.{tallyOf};
 
 // How many of the records 1, 2, 3 (the header), their numbers, the counts that the size gives,
-// and how many samples and flow numbers.
+// and how many samples, pair weights and flow numbers.
 pub struct Tally {
     pub header: u32,
     pub terms: Terms,
@@ -15,6 +15,7 @@ pub struct Tally {
     pub pixels: usize,
     pub pairs: usize,
     pub samples: usize,
+    pub weights: usize,
     pub flows: usize,
 }
 
@@ -40,6 +41,7 @@ pub fn fresh() -> Tally
         pixels: 0,
         pairs: 0,
         samples: 0,
+        weights: 0,
         flows: 0,
     }
 }

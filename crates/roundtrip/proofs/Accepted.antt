@@ -1,35 +1,36 @@
 -- An accepted tape is the bytes of the job that was read. Assumes nothing.
-use mathlib.Core.Path.{_≡_, refl, sym, ap, ap₂, _∙_, subst, subst⁻¹}
-use mathlib.Core.Bool.{Bool, true, false, _&&_, _||_}
-use mathlib.Core.List.{List, [], _∷_, _++_, append-nil, append-assoc}
-use mathlib.Core.Logic.{_⊎_, inl, inr, ⊎-elim}
+use mathlib.Core.Path.{_≡_, refl, sym, ap, ap₂, _∙_, subst}
+use mathlib.Core.Bool.{Bool, true, false, _&&_, _||_, or-true, true≢false}
+use mathlib.Core.List.{List, [], _∷_, _++_}
+use mathlib.Core.Logic.{_↔_, _⊎_, inl, inr, ⊎-elim}
 use Prim.Native.Nat.{ℕ, zero, suc, _+_, _≤_, _<_, zero-le}
 use native.Mathlib.Omega.{arith}
 use lib.Dec.{eqb, ltb}
-use lib.IntN.{ℤ, pos}
-use lib.ListN.{length, getD, take, length-append, List·getD-append}
-use lib.Seq.{getD-at, take-all}
+use lib.IntN.{ℤ, pos, natAbs}
+use lib.ListN.{length, getD, take}
+use lib.Seq.{take-all}
+use lib.Signed.{_≤ℤ_}
 use mir.Syntax.{w32}
 use mir.Val.{SFits}
-use borrow.Author.Tests.{eqb-true, ltb-true, ltb-false, not-false}
+use borrow.Author.Tests.{eq-eqb, eqb-true, ltb-true, ltb-false, not-false}
+use Rattle.integers.proofs.Order.{0≤pos, ≤→pos}
 use Rattle.model.specs.declared.Terms.{Terms}
 use Rattle.model.specs.declared.Rounds.{Rounds}
 use Rattle.model.specs.declared.Verdict.{Verdict}
 use Rattle.model.specs.declared.Entry.{Entry}
-use Rattle.model.specs.declared.Entry.the-variants.{End, Size, WeightBox, RoundLimits, Sample, Flow}
-use Rattle.model.specs.Lists.{at, chain}
+use Rattle.model.specs.declared.Entry.the-variants.{End, Size, WeightBox, RoundLimits, Sample, Flow, PairWeight}
+use Rattle.model.specs.Lists.{chain}
 use Rattle.model.specs.Grid.{sizeAllowed, weightAllowed, boxAllowed}
 use Rattle.model.specs.Verdict.{firstRefusal}
 use Rattle.model.specs.Calls.{pixelsOf, pairsOf}
-use Rattle.model.specs.Tape.{known, decoded, encoded, Progress, nothing, allowedAfter, allowed, absorbed, entryRows, Parse, whole, parseFrom, tapeOf}
-use Rattle.model.proofs.Lists.{last}
+use Rattle.model.specs.Tape.{known, decoded, encoded, Progress, nothing, allOrNone, allowedAfter, allowed, absorbed, entryRows, Parse, whole, parseFrom, tapeOf}
 use Rattle.model.proofs.Refusals.{accepted-row}
 use Rattle.model.proofs.Bounds.{both-true}
-use Rattle.model.proofs.Accepted.{neither}
+use Rattle.model.proofs.Accepted.{neither, weight-passes}
 use Rattle.model.specs.declared.Lent.{Lent}
 use Rattle.steps.specs.declared.Step.{Step}
 use Rattle.records.proofs.Digits.{four-fits}
-use Rattle.roundtrip.proofs.Sequences.{listed, listed-snoc}
+use Rattle.roundtrip.proofs.Sequences.{length-none, listed, listed-more, listed-none, Each, each-none, each-more}
 use Rattle.steps.proofs.Turns.{entryAt, nextAt, termsVerdict, Passed, Turn, turn}
 use Rattle.roundtrip.proofs.Entries.{take-next}
 
@@ -50,68 +51,137 @@ headerBytes (suc zero) t r = upToSize t
 headerBytes (suc (suc zero)) t r = upToWeight t
 headerBytes (suc (suc (suc n))) t r = upToRounds t r
 
-sampleBytes : List ℕ → List ℕ
-sampleBytes = listed (λ s. encoded (Sample s)) 0
+-- the records of an element, and of all
+abbrev sampleRecord : ℕ → List ℕ
+sampleRecord s = encoded (Sample s)
 
-flowBytes : List ℤ → List ℕ
-flowBytes = listed (λ f. encoded (Flow f)) (pos 0)
+abbrev weightRecord : ℤ → List ℕ
+weightRecord w = encoded (PairWeight (natAbs w))
 
-soFar : Progress → List ℕ
-soFar p = headerBytes (p .header) (p .terms) (p .rounds) ++ sampleBytes (p .samples) ++ flowBytes (p .flow)
+abbrev flowRecord : ℤ → List ℕ
+flowRecord f = encoded (Flow f)
 
--- what holds of what has been read
+abbrev sampleBytes : List ℕ → List ℕ
+sampleBytes = listed sampleRecord 0
+
+abbrev weightBytes : List ℤ → List ℕ
+weightBytes = listed weightRecord (pos 0)
+
+abbrev flowBytes : List ℤ → List ℕ
+flowBytes = listed flowRecord (pos 0)
+
+module _ (p : Progress) where
+  abbrev upToHeader : List ℕ
+  upToHeader = headerBytes (p .header) (p .terms) (p .rounds)
+
+  abbrev upToSamples : List ℕ
+  upToSamples = upToHeader ++ sampleBytes (p .samples)
+
+  abbrev upToWeights : List ℕ
+  upToWeights = upToSamples ++ weightBytes (p .weights)
+
+  soFar : List ℕ
+  soFar = upToWeights ++ flowBytes (p .flow)
+
+  -- what comes later adds nothing where it is not there
+  no-flow : p .flow ≡ [] → soFar ≡ upToWeights
+  unfolding soFar
+  no-flow f = listed-none flowRecord (pos 0) upToWeights f
+
+  no-weights : (p .weights ≡ []) × (p .flow ≡ []) → soFar ≡ upToSamples
+  no-weights e = no-flow (e .1) ∙ listed-none weightRecord (pos 0) upToSamples (e .0)
+
+  no-samples : (p .samples ≡ []) × (p .weights ≡ []) × (p .flow ≡ []) → soFar ≡ upToHeader
+  no-samples e = no-weights (e .1, e .2) ∙ listed-none sampleRecord 0 upToHeader (e .0)
+
+-- ---- what the order asks of a record behind the samples
+
+-- all or none of what comes for every pair
+pub all-or-none : (count pairs : ℕ) → (allOrNone count pairs ≡ true) ↔ ((count ≡ 0) ⊎ (count ≡ pairs))
+all-or-none count pairs = (
+  λ h. either (eqb count 0) (eqb count pairs) refl refl h,
+  ⊎-elim (λ (z : count ≡ 0). ap (λ (b : Bool). b || eqb count pairs) (eq-eqb count 0 z))
+      (λ (g : count ≡ pairs). ap (λ (b : Bool). eqb count 0 || b) (eq-eqb count pairs g) ∙ or-true (eqb count 0)),
+)
+  where
+    either : (a b : Bool) → eqb count 0 ≡ a → eqb count pairs ≡ b → (a || b) ≡ true → (count ≡ 0) ⊎ (count ≡ pairs)
+    either true b e g h = inl (eqb-true count 0 e)
+    either false true e g h = inr (eqb-true count pairs g)
+    either false false e g h = absurd (true≢false (sym h))
+
+-- the whole header, all samples, and a test of the weights and one of the flow
+record Behind (p : Progress) (v w : Bool) : Type 0 where
+  pub header : p .header ≡ 3
+  pub samples : length (p .samples) ≡ pixelsOf (p .terms)
+  pub weights : v ≡ true
+  pub flow : w ≡ true
+
+behind : (p : Progress) (v w : Bool) →
+    (eqb (p .header) 3 && eqb (length (p .samples)) (pixelsOf (p .terms)) && v && w) ≡ true → Behind p v w
+behind p v w h =
+    let a = both-true (eqb (p .header) 3 && eqb (length (p .samples)) (pixelsOf (p .terms)) && v) w h in
+    let b = both-true (eqb (p .header) 3 && eqb (length (p .samples)) (pixelsOf (p .terms))) v (a .0) in
+    let c = both-true (eqb (p .header) 3) _ (b .0) in
+    record { header = eqb-true _ 3 (c .0); samples = eqb-true _ _ (c .1); weights = b .1; flow = a .1 }
+
+-- ---- what holds of what has been read
+
+abbrev WeightLimits : ℤ → Type 0
+WeightLimits w = (pos 0 ≤ℤ w) × (w ≤ℤ pos 65280)
+
 pub record Sound (lent : Lent) (p : Progress) : Type 0 where
   pub header : p .header ≤ 3
-  pub early : p .header < 3 → (p .samples ≡ []) × (p .flow ≡ [])
-  pub samplesFirst : length (p .samples) < pixelsOf (p .terms) → p .flow ≡ []
-  pub size : 1 ≤ p .header → (sizeAllowed (p .terms .width) (p .terms .height) ≡ true) × (pixelsOf (p .terms) ≤ lent .samples) × (pairsOf (p .terms) ≤ lent .flow)
+  pub early : p .header < 3 → (p .samples ≡ []) × (p .weights ≡ []) × (p .flow ≡ [])
+  pub samplesFirst : length (p .samples) < pixelsOf (p .terms) → (p .weights ≡ []) × (p .flow ≡ [])
+  pub size : 1 ≤ p .header →
+      (sizeAllowed (p .terms .width) (p .terms .height) ≡ true)
+      × (pixelsOf (p .terms) ≤ lent .samples)
+      × (pairsOf (p .terms) ≤ lent .weights)
+      × (pairsOf (p .terms) ≤ lent .flow)
   pub weight : 2 ≤ p .header → (weightAllowed (p .terms .weight) ≡ true) × (boxAllowed (p .terms .low) (p .terms .high) ≡ true)
   pub rounds : 3 ≤ p .header → ltb 4096 (p .rounds .quick) ≡ false
   pub allowance : p .rounds .allowance < 65536
-  pub ranged : (j : ℕ) → j < length (p .flow) → SFits w32 (at (p .flow) j)
-
-none-ranged : {fs : List ℤ} → fs ≡ [] → (j : ℕ) → j < length fs → SFits w32 (at fs j)
-none-ranged e j h = let z : j < 0 = subst (λ (l : List ℤ). j < length l) e h in absurd (omega arith)
-
--- the header alone
-header-only : (p : Progress) → p .samples ≡ [] → p .flow ≡ [] → soFar p ≡ headerBytes (p .header) (p .terms) (p .rounds)
-unfolding soFar sampleBytes flowBytes chain
-header-only p e f =
-    ap₂ (λ (s : List ℕ) (n : List ℤ). headerBytes (p .header) (p .terms) (p .rounds) ++ sampleBytes s ++ flowBytes n) e f
-    ∙ append-nil (headerBytes (p .header) (p .terms) (p .rounds) ++ [])
-    ∙ append-nil (headerBytes (p .header) (p .terms) (p .rounds))
+  pub pairWeights : Each WeightLimits (pos 0) (p .weights)
+  pub ranged : Each (SFits w32) (pos 0) (p .flow)
 
 module _ (lent : Lent) (p : Progress) (s : Sound lent p) (o : ℕ) where
   abbrev Grown : Entry → Type 0
   Grown e = Sound lent (absorbed p e) × (soFar (absorbed p e) ≡ soFar p ++ encoded e)
 
-  -- a record of the header
-  header-grows : (q : Progress) (e : Entry) {h : ℕ} → (p .samples ≡ []) × (p .flow ≡ []) → q .samples ≡ p .samples → q .flow ≡ p .flow →
-      p .header ≡ h → headerBytes (q .header) (q .terms) (q .rounds) ≡ headerBytes h (p .terms) (p .rounds) ++ encoded e →
-      soFar q ≡ soFar p ++ encoded e
-  header-grows q e empty same-samples same-flow is grows =
-      header-only q (same-samples ∙ empty .0) (same-flow ∙ empty .1)
-      ∙ grows
-      ∙ sym (ap (λ (l : List ℕ). l ++ encoded e)
-      (header-only p (empty .0) (empty .1) ∙ ap (λ (n : ℕ). headerBytes n (p .terms) (p .rounds)) is))
+  -- the bytes grow by those of a record, where they do without what comes later
+  grows : (e : Entry) {b c : List ℕ} → soFar (absorbed p e) ≡ b → soFar p ≡ c → b ≡ c ++ encoded e →
+      soFar (absorbed p e) ≡ soFar p ++ encoded e
+  grows e f g h = f ∙ h ∙ sym (ap (λ (l : List ℕ). l ++ encoded e) g)
+
+  -- before a record of the header there are no others
+  header-bytes : {h : ℕ} → (p .samples ≡ []) × (p .weights ≡ []) × (p .flow ≡ []) → p .header ≡ h →
+      soFar p ≡ headerBytes h (p .terms) (p .rounds)
+  header-bytes empty is = no-samples p empty ∙ ap (λ (n : ℕ). headerBytes n (p .terms) (p .rounds)) is
 
   grown-size : (w h : ℕ) → p .header ≡ 0 → firstRefusal (entryRows o lent (Size w h)) ≡ Verdict.Accept → Grown (Size w h)
   unfolding headerBytes
   grown-size w h z v =
       let empty = s .early (omega arith) in
       let a = accepted-row _ _ v in
-      let b = neither _ _ .0 (accepted-row _ _ (a .1) .0) in (
+      let b = neither _ _ .0 (accepted-row _ _ (a .1) .0) in
+      let c = neither _ _ .0 (b .0) in (
         record {
           header = omega arith;
           early = λ _. empty;
-          samplesFirst = λ _. empty .1;
-          size = λ _. (not-false _ (a .0), ltb-false (lent .samples) _ (b .0), ltb-false (lent .flow) _ (b .1));
+          samplesFirst = λ _. (empty .1, empty .2);
+          size = λ _. (
+            not-false _ (a .0),
+            ltb-false (lent .samples) _ (c .0),
+            ltb-false (lent .weights) _ (c .1),
+            ltb-false (lent .flow) _ (b .1),
+          );
           weight = λ l. absurd (omega arith);
           rounds = λ l. absurd (omega arith);
           allowance = s .allowance;
-          ranged = none-ranged (empty .1);
+          pairWeights = s .pairWeights;
+          ranged = s .ranged;
         },
-        header-grows (absorbed p (Size w h)) (Size w h) empty refl refl z refl,
+        grows (Size w h) (no-samples (absorbed p (Size w h)) empty) (header-bytes empty z) refl,
       )
 
   grown-weight : (weight low high : ℕ) → p .header ≡ 1 → firstRefusal (entryRows o lent (WeightBox weight low high)) ≡ Verdict.Accept →
@@ -124,14 +194,15 @@ module _ (lent : Lent) (p : Progress) (s : Sound lent p) (o : ℕ) where
         record {
           header = omega arith;
           early = λ _. empty;
-          samplesFirst = λ _. empty .1;
+          samplesFirst = λ _. (empty .1, empty .2);
           size = λ _. s .size (omega arith);
           weight = λ _. (not-false _ (a .0), not-false _ (b .0));
           rounds = λ l. absurd (omega arith);
           allowance = s .allowance;
-          ranged = none-ranged (empty .1);
+          pairWeights = s .pairWeights;
+          ranged = s .ranged;
         },
-        header-grows (absorbed p (WeightBox weight low high)) (WeightBox weight low high) empty refl refl z refl,
+        grows (WeightBox weight low high) (no-samples (absorbed p (WeightBox weight low high)) empty) (header-bytes empty z) refl,
       )
 
   grown-rounds : (q a : ℕ) → p .header ≡ 2 → firstRefusal (entryRows o lent (RoundLimits q a)) ≡ Verdict.Accept → a < 65536 →
@@ -142,21 +213,18 @@ module _ (lent : Lent) (p : Progress) (s : Sound lent p) (o : ℕ) where
         record {
           header = omega arith;
           early = λ l. absurd (omega arith);
-          samplesFirst = λ _. empty .1;
+          samplesFirst = λ _. (empty .1, empty .2);
           size = λ _. s .size (omega arith);
           weight = λ _. s .weight (omega arith);
           rounds = λ _. accepted-row _ _ v .0;
           allowance = small;
-          ranged = none-ranged (empty .1);
+          pairWeights = s .pairWeights;
+          ranged = s .ranged;
         },
-        header-grows (absorbed p (RoundLimits q a)) (RoundLimits q a) empty refl refl z refl,
+        grows (RoundLimits q a) (no-samples (absorbed p (RoundLimits q a)) empty) (header-bytes empty z) refl,
       )
 
-  abbrev upToHeader : List ℕ
-  upToHeader = headerBytes (p .header) (p .terms) (p .rounds)
-
   grown-sample : (code : ℕ) → p .header ≡ 3 → length (p .samples) < pixelsOf (p .terms) → Grown (Sample code)
-  unfolding soFar sampleBytes flowBytes chain
   grown-sample code z l =
       let none = s .samplesFirst l in (
         record {
@@ -167,19 +235,36 @@ module _ (lent : Lent) (p : Progress) (s : Sound lent p) (o : ℕ) where
           weight = s .weight;
           rounds = s .rounds;
           allowance = s .allowance;
+          pairWeights = s .pairWeights;
           ranged = s .ranged;
         },
-        ap (λ (n : List ℤ). upToHeader ++ sampleBytes (p .samples ++ (code ∷ [])) ++ flowBytes n) none
-            ∙ append-nil (upToHeader ++ sampleBytes (p .samples ++ (code ∷ [])))
-            ∙ ap (λ (b : List ℕ). upToHeader ++ b) (listed-snoc (λ c. encoded (Sample c)) 0 (p .samples) code)
-            ∙ sym (append-assoc upToHeader (sampleBytes (p .samples)) (encoded (Sample code)))
-            ∙ sym (ap (λ (b : List ℕ). b ++ encoded (Sample code))
-            (ap (λ (n : List ℤ). upToHeader ++ sampleBytes (p .samples) ++ flowBytes n) none
-            ∙ append-nil (upToHeader ++ sampleBytes (p .samples)))),
+        grows (Sample code) (no-weights (absorbed p (Sample code)) none) (no-weights p none)
+            (listed-more sampleRecord 0 (upToHeader p) (p .samples) code),
+      )
+
+  grown-pair-weight : (w : ℕ) → p .header ≡ 3 → length (p .samples) ≡ pixelsOf (p .terms) → length (p .flow) ≡ 0 →
+      firstRefusal (entryRows o lent (PairWeight w)) ≡ Verdict.Accept → Grown (PairWeight w)
+  grown-pair-weight w z full none v =
+      let empty = length-none (p .flow) none in (
+        record {
+          header = s .header;
+          early = λ m. absurd (omega arith);
+          samplesFirst = λ m. absurd (omega arith);
+          size = s .size;
+          weight = s .weight;
+          rounds = s .rounds;
+          allowance = s .allowance;
+          pairWeights =
+              each-more WeightLimits (pos 0) (p .weights) (pos w) (s .pairWeights)
+              (0≤pos w, ≤→pos (weight-passes w o .0 (accepted-row _ _ v .0)));
+          ranged = s .ranged;
+        },
+        grows (PairWeight w) (no-flow (absorbed p (PairWeight w)) empty) (no-flow p empty)
+            (listed-more weightRecord (pos 0) (upToSamples p) (p .weights) (pos w)),
       )
 
   grown-flow : (f : ℤ) → p .header ≡ 3 → length (p .samples) ≡ pixelsOf (p .terms) → SFits w32 f → Grown (Flow f)
-  unfolding soFar sampleBytes flowBytes
+  unfolding soFar
   grown-flow f z full fits = (
     record {
       header = s .header;
@@ -189,17 +274,11 @@ module _ (lent : Lent) (p : Progress) (s : Sound lent p) (o : ℕ) where
       weight = s .weight;
       rounds = s .rounds;
       allowance = s .allowance;
-      ranged = λ j l. ⊎-elim (before j) (here j) (last j (length (p .flow)) (omega (arith, length-append (p .flow) (f ∷ []))));
+      pairWeights = s .pairWeights;
+      ranged = each-more (SFits w32) (pos 0) (p .flow) f (s .ranged) fits;
     },
-    ap (λ (b : List ℕ). upToHeader ++ sampleBytes (p .samples) ++ b) (listed-snoc (λ x. encoded (Flow x)) (pos 0) (p .flow) f)
-        ∙ sym (append-assoc (upToHeader ++ sampleBytes (p .samples)) (flowBytes (p .flow)) (encoded (Flow f))),
+    listed-more flowRecord (pos 0) (upToWeights p) (p .flow) f,
   )
-    where
-      before : (j : ℕ) → j < length (p .flow) → SFits w32 (at (p .flow ++ (f ∷ [])) j)
-      before j l = subst⁻¹ (SFits w32) (List·getD-append (p .flow) (f ∷ []) (pos 0) j l) (s .ranged j l)
-
-      here : (j : ℕ) → j ≡ length (p .flow) → SFits w32 (at (p .flow ++ (f ∷ [])) j)
-      here j e = subst⁻¹ (SFits w32) (getD-at (p .flow) f [] (pos 0) j (sym e)) fits
 
   -- any record that is allowed
   grown : (kind : ℕ) (b : ℕ → ℕ) → known kind ≡ true → allowed p kind ≡ true → ¬ (kind ≡ 0) →
@@ -213,11 +292,13 @@ module _ (lent : Lent) (p : Progress) (s : Sound lent p) (o : ℕ) where
       let c = both-true (eqb (p .header) 3) _ a in
       grown-sample (b 0) (eqb-true _ 3 (c .0)) (ltb-true _ _ (c .1))
   grown (suc (suc (suc (suc (suc zero))))) b k a z v h =
-      let c = both-true (eqb (p .header) 3 && eqb (length (p .samples)) (pixelsOf (p .terms))) _ a in
-      let d = both-true (eqb (p .header) 3) _ (c .0) in
-      grown-flow _ (eqb-true _ 3 (d .0)) (eqb-true _ _ (d .1)) (four-fits (h 0) (h 1) (h 2) (h 3))
-  grown (suc (suc (suc (suc (suc (suc n)))))) b k a z v h =
-      absurd (omega (arith, ltb-true (suc (suc (suc (suc (suc (suc n)))))) 6 k))
+      let c = behind p _ _ a in
+      grown-flow _ (c .header) (c .samples) (four-fits (h 0) (h 1) (h 2) (h 3))
+  grown (suc (suc (suc (suc (suc (suc zero)))))) b k a z v h =
+      let c = behind p _ _ a in
+      grown-pair-weight _ (c .header) (c .samples) (eqb-true _ 0 (c .flow)) v
+  grown (suc (suc (suc (suc (suc (suc (suc n))))))) b k a z v h =
+      absurd (omega (arith, ltb-true (suc (suc (suc (suc (suc (suc (suc n))))))) 7 k))
 
 -- ---- the whole tape
 
@@ -231,8 +312,9 @@ module _ (tape : List ℕ) (lent : Lent) (byte : (i : ℕ) → getD tape i 0 < 2
     pub sound : Sound lent p
     pub complete : p .header ≡ 3
     pub samples : length (p .samples) ≡ pixelsOf (p .terms)
+    pub weights : (length (p .weights) ≡ 0) ⊎ (length (p .weights) ≡ pairsOf (p .terms))
     pub flow : (length (p .flow) ≡ 0) ⊎ (length (p .flow) ≡ pairsOf (p .terms))
-    pub bytes : tape ≡ tapeOf (p .terms) (p .rounds) (p .samples) (p .flow)
+    pub bytes : tape ≡ tapeOf (p .terms) (p .rounds) (p .samples) (p .weights) (p .flow)
 
   module _ (o : ℕ) (p : Progress) (g : Good o p) (h : Passed (lent .followed) tape o (allowed p)) where
     growing : termsVerdict tape lent o ≡ Verdict.Accept → ¬ (getD tape o 0 ≡ 0) → Good (nextAt tape o) (absorbed p (entryAt tape o))
@@ -253,24 +335,26 @@ module _ (tape : List ℕ) (lent : Lent) (byte : (i : ℕ) → getD tape i 0 < 2
         ∙ ap₂ (λ (l : List ℕ) (n : ℕ). l ++ encoded (decoded n (λ i. getD tape (o + 1 + i) 0))) (g .bytes) z
 
     ending : lent .followed ≡ false → getD tape o 0 ≡ 0 → Job p
-    unfolding allowedAfter soFar headerBytes sampleBytes flowBytes tapeOf
+    unfolding allowedAfter soFar headerBytes tapeOf
     ending alone z =
-        let c = both-true (eqb (p .header) 3 && eqb (length (p .samples)) (pixelsOf (p .terms))) _ (subst (λ (n : ℕ). allowed p n ≡ true) z (h .isAllowed)) in
-        let d = both-true (eqb (p .header) 3) _ (c .0) in
+        let b = behind p _ _ (subst (λ (n : ℕ). allowed p n ≡ true) z (h .isAllowed)) in
         record {
           sound = g .sound;
-          complete = eqb-true _ 3 (d .0);
-          samples = eqb-true _ _ (d .1);
-          flow = either (c .1);
-          bytes = all alone z ∙ ap (λ (n : ℕ). headerBytes n (p .terms) (p .rounds) ++ sampleBytes (p .samples) ++ flowBytes (p .flow) ++ encoded End) (eqb-true (p .header) 3 (d .0));
+          complete = b .header;
+          samples = b .samples;
+          weights = all-or-none _ _ .0 (b .weights);
+          flow = all-or-none _ _ .0 (b .flow);
+          bytes =
+              all alone z
+              ∙ ap
+              (λ (n : ℕ).
+              headerBytes n (p .terms) (p .rounds)
+              ++ sampleBytes (p .samples)
+              ++ weightBytes (p .weights)
+              ++ flowBytes (p .flow)
+              ++ encoded End)
+              (b .header);
         }
-      where
-        go : (a b : Bool) → (a || b) ≡ true → (a ≡ true) ⊎ (b ≡ true)
-        go true b h = inl refl
-        go false b h = inr h
-
-        either : (eqb (length (p .flow)) 0 || eqb (length (p .flow)) (pairsOf (p .terms))) ≡ true → (length (p .flow) ≡ 0) ⊎ (length (p .flow) ≡ pairsOf (p .terms))
-        either t = ⊎-elim (λ (e : eqb (length (p .flow)) 0 ≡ true). inl (eqb-true _ 0 e)) (λ (e : eqb (length (p .flow)) (pairsOf (p .terms)) ≡ true). inr (eqb-true _ _ e)) (go _ _ t)
 
   laid : lent .followed ≡ false → (k o : ℕ) (p q : Progress) → Good o p → parseFrom k tape lent o p ≡ whole q → Job q
   unfolding parseFrom
@@ -284,18 +368,19 @@ module _ (tape : List ℕ) (lent : Lent) (byte : (i : ℕ) → getD tape i 0 < 2
       go (Turn.more h v z) w ih = ih _ _ q (growing o p g h v z) w
 
   pub accepted-job : lent .followed ≡ false → (q : Progress) → parseFrom (suc (length tape)) tape lent 0 nothing ≡ whole q → Job q
-  unfolding soFar headerBytes sampleBytes flowBytes chain
+  unfolding soFar headerBytes chain
   accepted-job alone q e = laid alone (suc (length tape)) 0 nothing q (record { bytes = refl; sound = start }) e
     where
       start : Sound lent nothing
       start =
           record {
             header = zero-le;
-            early = λ _. (refl, refl);
-            samplesFirst = λ _. refl;
+            early = λ _. (refl, refl, refl);
+            samplesFirst = λ _. (refl, refl);
             size = λ l. absurd (omega arith);
             weight = λ l. absurd (omega arith);
             rounds = λ l. absurd (omega arith);
             allowance = omega arith;
-            ranged = λ j l. absurd (omega arith);
+            pairWeights = each-none WeightLimits (pos 0) refl;
+            ranged = each-none (SFits w32) (pos 0) refl;
           }

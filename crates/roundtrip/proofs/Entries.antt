@@ -11,7 +11,7 @@ use mir.Syntax.{w32}
 use mir.Val.{SFits}
 use borrow.Author.Tests.{ltb-true}
 use Rattle.model.specs.declared.Entry.{Entry}
-use Rattle.model.specs.declared.Entry.the-variants.{End, Size, WeightBox, RoundLimits, Sample, Flow}
+use Rattle.model.specs.declared.Entry.the-variants.{End, Size, WeightBox, RoundLimits, Sample, Flow, PairWeight}
 use Rattle.model.specs.Lists.{table}
 use Rattle.model.specs.Tape.{known, bodyLength, decoded, encoded}
 use Rattle.records.proofs.Digits.{two-there, two-back, four-there, four-back}
@@ -29,8 +29,9 @@ encoded-decoded (suc (suc (suc zero))) b k h =
     ap₂ (λ (x y : List ℕ). 3 ∷ x ++ y) (two-back (h 0) (h 1)) (two-back (h 2) (h 3))
 encoded-decoded (suc (suc (suc (suc zero)))) b k h = refl
 encoded-decoded (suc (suc (suc (suc (suc zero))))) b k h = ap (λ (x : List ℕ). 5 ∷ x) (four-back (h 0) (h 1) (h 2) (h 3))
-encoded-decoded (suc (suc (suc (suc (suc (suc n)))))) b k h =
-    absurd (omega (arith, ltb-true (suc (suc (suc (suc (suc (suc n)))))) 6 k))
+encoded-decoded (suc (suc (suc (suc (suc (suc zero)))))) b k h = ap (λ (x : List ℕ). 6 ∷ x) (two-back (h 0) (h 1))
+encoded-decoded (suc (suc (suc (suc (suc (suc (suc n))))))) b k h =
+    absurd (omega (arith, ltb-true (suc (suc (suc (suc (suc (suc (suc n))))))) 7 k))
 
 -- numbers that their bytes hold
 abbrev pub Ranged : Entry → Type 0
@@ -40,6 +41,7 @@ Ranged (WeightBox weight low high) = weight < 65536
 Ranged (RoundLimits q a) = (q < 65536) × (a < 65536)
 Ranged (Sample s) = Unit {0}
 Ranged (Flow f) = SFits w32 f
+Ranged (PairWeight w) = w < 65536
 
 -- the record that is read from a record's bytes is that record
 decoded-encoded : (e : Entry) (rest : List ℕ) → Ranged e →
@@ -50,6 +52,7 @@ decoded-encoded (WeightBox weight low high) rest r = ap (λ (n : ℕ). WeightBox
 decoded-encoded (RoundLimits q a) rest r = ap₂ RoundLimits (two-there q (r .0)) (two-there a (r .1))
 decoded-encoded (Sample s) rest r = refl
 decoded-encoded (Flow f) rest r = ap Flow (four-there f r)
+decoded-encoded (PairWeight w) rest r = ap PairWeight (two-there w r)
 
 abbrev pub kindOf : Entry → ℕ
 kindOf e = getD (encoded e) 0 0
@@ -70,6 +73,7 @@ module _ (tape : List ℕ) (o : ℕ) where
         first (RoundLimits q a) = refl
         first (Sample s) = refl
         first (Flow f) = refl
+        first (PairWeight w) = refl
 
     pub entry-here : Ranged e → entryAt tape o ≡ e
     entry-here r =

@@ -8,44 +8,50 @@ use lib.ListN.{length}
 use borrow.Author.Tests.{lt-ltb, le-ltb, ltb-false}
 use Rattle.model.specs.declared.Verdict.{Verdict}
 use Rattle.model.specs.Verdict.{firstRefusal}
+use Rattle.model.specs.Grid.{weightOf}
 use Rattle.model.specs.Calls.{firstBeyond, flowRow}
-use Rattle.model.specs.Tape.{Progress, nothing, Parse, turned, whole, parseFrom, unless, judged, parse, readOf, readAnswer, readSamples, readFlow, samplesAfter, flowAfter, lentBy}
+use Rattle.model.specs.Tape.{Progress, nothing, Parse, turned, whole, parseFrom, unless, judged, parse, readOf, readAnswer, readSamples, readWeights, readFlow, samplesAfter, weightsAfter, flowAfter, lentBy}
 use Rattle.model.proofs.Refusals.{accepted, refused, passed, accepted-row, refused-number}
 use Rattle.model.specs.declared.Lent.{Lent}
 use Rattle.steps.specs.declared.Step.{Step}
 use Rattle.steps.proofs.Turns.{Turn, turn}
 
-module _ (tape : List ℕ) (samples : List ℕ) (flow : List ℤ) where
-  abbrev pub all : Parse
-  all = parseFrom (suc (length tape)) tape (lentBy samples flow) 0 nothing
+-- the first number beyond its pair's weight
+abbrev first : Progress → ℕ
+first p = firstBeyond (weightOf (p .terms) (p .weights)) (p .flow)
 
-  pub refused-parse : {n q : ℕ} → all ≡ turned n q → parse tape (lentBy samples flow) ≡ turned n q
+module _ (tape samples : List ℕ) (weights flow : List ℤ) where
+  abbrev pub all : Parse
+  all = parseFrom (suc (length tape)) tape (lentBy samples weights flow) 0 nothing
+
+  pub refused-parse : {n q : ℕ} → all ≡ turned n q → parse tape (lentBy samples weights flow) ≡ turned n q
   unfolding parse
   refused-parse e = ap judged e
 
   module _ (p : Progress) (e : all ≡ whole p) where
-    abbrev first : ℕ
-    first = firstBeyond (p .terms .weight) (p .flow)
-
-    pub beyond-parse : first < length (p .flow) → parse tape (lentBy samples flow) ≡ turned 8 first
+    pub beyond-parse : first p < length (p .flow) → parse tape (lentBy samples weights flow) ≡ turned 8 (first p)
     unfolding parse
     beyond-parse h = ap judged e ∙ ap (λ (v : Verdict). unless v (whole p)) (refused _ _ (lt-ltb _ _ h))
 
-    pub whole-parse : length (p .flow) ≤ first → parse tape (lentBy samples flow) ≡ whole p
+    pub whole-parse : length (p .flow) ≤ first p → parse tape (lentBy samples weights flow) ≡ whole p
     unfolding parse
     whole-parse h = ap judged e ∙ ap (λ (v : Verdict). unless v (whole p)) (passed _ _ (le-ltb _ _ h) ∙ accepted)
 
   -- the answer and the buffers by the parse
-  module _ {r : Parse} (e : parse tape (lentBy samples flow) ≡ r) where
-    pub answer-by : readAnswer tape samples flow ≡ readOf r
+  module _ {r : Parse} (e : parse tape (lentBy samples weights flow) ≡ r) where
+    pub answer-by : readAnswer tape samples weights flow ≡ readOf r
     unfolding readAnswer
     answer-by = ap readOf e
 
-    pub samples-by : readSamples tape samples flow ≡ samplesAfter r samples
+    pub samples-by : readSamples tape samples weights flow ≡ samplesAfter r samples
     unfolding readSamples
     samples-by = ap (λ (x : Parse). samplesAfter x samples) e
 
-    pub flow-by : readFlow tape samples flow ≡ flowAfter r flow
+    pub weights-by : readWeights tape samples weights flow ≡ weightsAfter r weights
+    unfolding readWeights
+    weights-by = ap (λ (x : Parse). weightsAfter x weights) e
+
+    pub flow-by : readFlow tape samples weights flow ≡ flowAfter r flow
     unfolding readFlow
     flow-by = ap (λ (x : Parse). flowAfter x flow) e
 
@@ -63,36 +69,38 @@ turned-number tape lent (suc k) o p {n} {q} e = go (turn tape lent k o p) e (λ 
     go (Turn.done h z) w ih = let z : _≡_ {A = ℕ} 0 1 = cc in absurd (omega arith)
     go (Turn.more h v z) w ih = ih _ _ w
 
--- a parse that passed: the scan passed, and no number is beyond the weight
+-- a parse that passed: the scan passed, and no number is beyond its pair's weight
 unless-whole : (p : Progress) (v : Verdict) {q : Progress} → unless v (whole p) ≡ whole q → (v ≡ Verdict.Accept) × (p ≡ q)
 unless-whole p Verdict.Accept e = (refl, cc)
 unless-whole p (Verdict.Refuse n o) e = (cc, cc)
 
-module _ (tape : List ℕ) (samples : List ℕ) (flow : List ℤ) where
-  pub passed-parse : (p : Progress) → parse tape (lentBy samples flow) ≡ whole p →
-      (all tape samples flow ≡ whole p) × (length (p .flow) ≤ firstBeyond (p .terms .weight) (p .flow))
+module _ (tape samples : List ℕ) (weights flow : List ℤ) where
+  pub passed-parse : (p : Progress) → parse tape (lentBy samples weights flow) ≡ whole p →
+      (all tape samples weights flow ≡ whole p) × (length (p .flow) ≤ first p)
   unfolding parse
-  passed-parse p h = go (all tape samples flow) refl h
+  passed-parse p h = go (all tape samples weights flow) refl h
     where
-      go : (r : Parse) → all tape samples flow ≡ r → judged r ≡ whole p →
-          (all tape samples flow ≡ whole p) × (length (p .flow) ≤ firstBeyond (p .terms .weight) (p .flow))
+      go : (r : Parse) → all tape samples weights flow ≡ r → judged r ≡ whole p →
+          (all tape samples weights flow ≡ whole p) × (length (p .flow) ≤ first p)
       go (turned n q) e k = let z : _≡_ {A = ℕ} 0 1 = cc in absurd (omega arith)
       go (whole o) e k =
-          let c = unless-whole o (firstRefusal (flowRow (o .terms .weight) (o .flow) ∷ [])) k in
-          let l : length (o .flow) ≤ firstBeyond (o .terms .weight) (o .flow) = ltb-false _ _ (accepted-row _ _ (c .0) .0) in
-          (e ∙ ap whole (c .1), subst (λ (x : Progress). length (x .flow) ≤ firstBeyond (x .terms .weight) (x .flow)) (c .1) l)
+          let c = unless-whole o (firstRefusal (flowRow (weightOf (o .terms) (o .weights)) (o .flow) ∷ [])) k in
+          let l : length (o .flow) ≤ first o = ltb-false _ _ (accepted-row _ _ (c .0) .0) in
+          (e ∙ ap whole (c .1), subst (λ (x : Progress). length (x .flow) ≤ first x) (c .1) l)
 
-  pub accepted-parse : readAnswer tape samples flow .number ≡ 0 → (p : Progress) × (parse tape (lentBy samples flow) ≡ whole p)
+  pub accepted-parse : readAnswer tape samples weights flow .number ≡ 0 →
+      (p : Progress) × (parse tape (lentBy samples weights flow) ≡ whole p)
   unfolding readAnswer parse
-  accepted-parse h = go (all tape samples flow) refl h
+  accepted-parse h = go (all tape samples weights flow) refl h
     where
-      decide : (o : Progress) (v : Verdict) → firstRefusal (flowRow (o .terms .weight) (o .flow) ∷ []) ≡ v → readOf (unless v (whole o)) .number ≡ 0 →
+      decide : (o : Progress) (v : Verdict) → firstRefusal (flowRow (weightOf (o .terms) (o .weights)) (o .flow) ∷ []) ≡ v →
+          readOf (unless v (whole o)) .number ≡ 0 →
           (p : Progress) × (unless v (whole o) ≡ whole p)
       decide o Verdict.Accept e z = (o, refl)
       decide o (Verdict.Refuse n q) e z =
-          absurd (omega (arith, refused-number (flowRow (o .terms .weight) (o .flow) ∷ []) (omega arith) e))
+          absurd (omega (arith, refused-number (flowRow (weightOf (o .terms) (o .weights)) (o .flow) ∷ []) (omega arith) e))
 
-      go : (r : Parse) → all tape samples flow ≡ r → readOf (judged r) .number ≡ 0 → (p : Progress) × (judged r ≡ whole p)
+      go : (r : Parse) → all tape samples weights flow ≡ r → readOf (judged r) .number ≡ 0 → (p : Progress) × (judged r ≡ whole p)
       go (turned n q) e z =
-          absurd (omega (arith, turned-number tape (lentBy samples flow) (suc (length tape)) 0 nothing e))
+          absurd (omega (arith, turned-number tape (lentBy samples weights flow) (suc (length tape)) 0 nothing e))
       go (whole o) e z = decide o _ refl z

@@ -1,17 +1,21 @@
--- Laws of `table` and `chain` over the elements of a list. Assumes nothing.
-use mathlib.Core.Path.{_≡_, refl, sym, ap, ap₂, _∙_}
-use mathlib.Core.List.{List, [], _∷_, _++_, append-assoc}
+-- Laws of `table` and `chain` over the elements of a list, and of what holds of each element. Assumes nothing.
+use mathlib.Core.Path.{_≡_, refl, sym, ap, ap₂, _∙_, subst, subst⁻¹}
+use mathlib.Core.List.{List, [], _∷_, _++_, append-nil, append-assoc}
 use mathlib.Core.Logic.{⊎-elim}
 use Prim.Native.Nat.{ℕ, zero, suc, _+_, _*_, _≤_, _<_}
 use native.Mathlib.Nat.{le-refl}
 use native.Mathlib.Numerals.{add-one}
 use native.Mathlib.Omega.{arith}
 use lib.ListN.{length, getD, take, drop, set, length-append, length-drop, List·getD-append}
-use lib.Seq.{take-suc, drop-cons, drop-at, drop-append-add, append-snoc, set-at, getD-drop, getD-at}
+use lib.Seq.{take-suc, drop-cons, drop-at, drop-drop, append-snoc, set-at, getD-drop, getD-at}
 use Rattle.model.specs.Lists.{table, chain, overwritten}
 use Rattle.model.proofs.Lists.{last, length-table, length-chain}
 
 module _ {A : Type 0} where
+  pub length-none : (l : List A) → length l ≡ 0 → l ≡ []
+  length-none [] e = refl
+  length-none (x ∷ l) e = absurd (omega arith)
+
   -- a part of a list, element by element
   pub take-drop-table : (l : List A) (o m : ℕ) (d : A) → o + m ≤ length l → take m (drop o l) ≡ table m (λ i. getD l (o + i) d)
   unfolding table
@@ -39,6 +43,31 @@ module _ {A B : Type 0} (g : A → List B) (d : A) where
       (chain-cong (length xs) (λ i l. ap g (List·getD-append xs (x ∷ []) d i l)))
       (ap g (getD-at xs x [] d (length xs) refl))
 
+  -- behind other elements: those of one more, and those of none
+  pub listed-more : (front : List B) (xs : List A) (x : A) → front ++ listed (xs ++ (x ∷ [])) ≡ front ++ listed xs ++ g x
+  listed-more front xs x = ap (λ (l : List B). front ++ l) (listed-snoc xs x) ∙ sym (append-assoc front (listed xs) (g x))
+
+  pub listed-none : (front : List B) {xs : List A} → xs ≡ [] → front ++ listed xs ≡ front
+  unfolding chain
+  listed-none front e = ap (λ (l : List A). front ++ listed l) e ∙ append-nil front
+
+-- what holds of each element of a list, of none, and of one more
+module _ {A : Type 0} (P : A → Type 0) (d : A) where
+  abbrev pub Each : List A → Type 0
+  Each xs = (i : ℕ) → i < length xs → P (getD xs i d)
+
+  pub each-none : {xs : List A} → xs ≡ [] → Each xs
+  each-none e i h = let z : i < 0 = subst (λ (l : List A). i < length l) e h in absurd (omega arith)
+
+  pub each-more : (xs : List A) (x : A) → Each xs → P x → Each (xs ++ (x ∷ []))
+  each-more xs x each more i h = ⊎-elim before here (last i (length xs) (omega (arith, length-append xs (x ∷ []))))
+    where
+      before : i < length xs → P (getD (xs ++ (x ∷ [])) i d)
+      before l = subst⁻¹ P (List·getD-append xs (x ∷ []) d i l) (each i l)
+
+      here : i ≡ length xs → P (getD (xs ++ (x ∷ [])) i d)
+      here e = subst⁻¹ P (getD-at xs x [] d i (sym e)) more
+
 -- ---- a buffer filled from its front
 
 module _ {A : Type 0} (buffer : List A) (g : ℕ → A) where
@@ -64,7 +93,7 @@ module _ {A : Type 0} (buffer : List A) (g : ℕ → A) where
 -- ---- a chain of lists of one length, with more behind it
 
 module _ {A : Type 0} (k : ℕ) (g : ℕ → List A) (even : (i : ℕ) → length (g i) ≡ k) where
-  pub chain-drop : (n i : ℕ) (behind : List A) → i < n → (rest : List A) × (drop (i * k) (chain n g ++ behind) ≡ g i ++ rest)
+  chain-drop : (n i : ℕ) (behind : List A) → i < n → (rest : List A) × (drop (i * k) (chain n g ++ behind) ≡ g i ++ rest)
   unfolding chain
   chain-drop zero i behind h = absurd (omega arith)
   chain-drop (suc n) i behind h = ⊎-elim (λ (l : i < n). before (chain-drop n i (g n ++ behind) l)) here (last i n h)
@@ -84,6 +113,13 @@ module _ {A : Type 0} (k : ℕ) (g : ℕ → List A) (even : (i : ℕ) → lengt
             ∙ ap (λ (m : ℕ). g m ++ behind) (sym e),
       )
 
-  pub chain-past : (n m : ℕ) (behind : List A) → drop (n * k + m) (chain n g ++ behind) ≡ drop m behind
-  chain-past n m behind =
-      ap (λ (l : ℕ). drop (l + m) (chain n g ++ behind)) (sym (length-chain k g even n)) ∙ drop-append-add (chain n g) behind m
+  -- such a chain at an offset of a list: its member i, and what is behind it
+  module _ (l : List A) (o n : ℕ) (behind : List A) (begins : drop o l ≡ chain n g ++ behind) where
+    pub member-here : (i : ℕ) → i < n → (rest : List A) × (drop (o + i * k) l ≡ g i ++ rest)
+    member-here i h =
+        let (rest, e) = chain-drop n i behind h in
+        (rest, sym (drop-drop (i * k) o l) ∙ ap (drop (i * k)) begins ∙ e)
+
+    pub behind-here : drop (o + n * k) l ≡ behind
+    behind-here =
+        sym (drop-drop (n * k) o l) ∙ ap (drop (n * k)) begins ∙ drop-at (chain n g) behind (n * k) (length-chain k g even n)

@@ -1,17 +1,18 @@
--- Reading goes on over a record whose bytes stand at its offset. Assumes nothing.
+-- Reading goes on over a record whose bytes stand at its offset, and so over a stretch of records. Assumes nothing.
 use mathlib.Core.Path.{_≡_, refl, sym, ap, ap₂, _∙_}
 use mathlib.Core.Bool.{Bool, true, false, not, _&&_}
-use mathlib.Core.List.{List, _++_}
-use Prim.Native.Nat.{ℕ, zero, suc, _+_, _≤_}
+use mathlib.Core.List.{List, [], _∷_, _++_}
+use Prim.Native.Nat.{ℕ, zero, suc, _+_, _*_, _≤_, _<_}
 use native.Mathlib.Omega.{arith}
 use lib.Dec.{eqb, ltb}
-use lib.ListN.{length, getD, drop, length-append, length-drop}
+use lib.ListN.{length, getD, take, drop, length-append, length-drop}
+use lib.Seq.{take-suc, take-length}
 use borrow.Author.Tests.{lt-leb, le-ltb, ne-eqb}
 use Rattle.model.specs.declared.Verdict.{Verdict}
 use Rattle.model.specs.declared.Entry.{Entry}
-use Rattle.model.specs.declared.Entry.the-variants.{End, Size, WeightBox, RoundLimits, Sample, Flow}
+use Rattle.model.specs.declared.Entry.the-variants.{End, Size, WeightBox, RoundLimits, Sample, Flow, PairWeight}
 use Rattle.model.specs.Verdict.{firstRefusal}
-use Rattle.model.specs.Tape.{known, bodyLength, encoded, Progress, allowed, absorbed, recordRows, entryRows, whole, parseFrom}
+use Rattle.model.specs.Tape.{known, bodyLength, encoded, Progress, allowed, absorbed, recordRows, entryRows, Parse, whole, parseFrom}
 use Rattle.model.proofs.Refusals.{accepted, passed}
 use Rattle.model.specs.declared.Lent.{Lent}
 use Rattle.steps.proofs.Turns.{nextAt, termsVerdict, Passed, unrolled-on, unrolled-end}
@@ -40,6 +41,7 @@ encoded-size (WeightBox weight low high) = refl
 encoded-size (RoundLimits q a) = refl
 encoded-size (Sample s) = refl
 encoded-size (Flow f) = refl
+encoded-size (PairWeight w) = refl
 
 kind-known : (e : Entry) → known (kindOf e) ≡ true
 kind-known End = refl
@@ -48,6 +50,7 @@ kind-known (WeightBox weight low high) = refl
 kind-known (RoundLimits q a) = refl
 kind-known (Sample s) = refl
 kind-known (Flow f) = refl
+kind-known (PairWeight w) = refl
 
 module _ (tape : List ℕ) (lent : Lent) (k o : ℕ) (p : Progress) (e : Entry) (rest : List ℕ) (here : drop o tape ≡ encoded e ++ rest)
     (may : allowed p (kindOf e) ≡ true) (v : firstRefusal (entryRows o lent e) ≡ Verdict.Accept) where
@@ -91,3 +94,39 @@ module _ (tape : List ℕ) (lent : Lent) (k o : ℕ) (p : Progress) (e : Entry) 
 
     pub walk-end : kindOf e ≡ 0 → length rest ≡ 0 → parseFrom (suc k) tape lent o p ≡ whole p
     walk-end z l = unrolled-end tape lent k o p (record-passes (lent .followed) tape o (allowed p) (passes (λ _. l))) judged (kind ∙ z)
+
+-- A stretch of records, one of `size` bytes for each element of a list; `read` is what has been read with the first of them
+module _ (tape : List ℕ) (lent : Lent) {A : Type 0} (entry : A → Entry) (size : ℕ) (read : List A → Progress) where
+  -- what lets the record of an element be read at a place, after those of others
+  pub record Passes (place : ℕ) (former : List A) (x : A) : Type 0 where
+    pub here : (rest : List ℕ) × (drop place tape ≡ encoded (entry x) ++ rest)
+    pub may : allowed (read former) (kindOf (entry x)) ≡ true
+    pub accepts : firstRefusal (entryRows place lent (entry x)) ≡ Verdict.Accept
+    pub ranged : Ranged (entry x)
+    pub inner : ¬ (kindOf (entry x) ≡ 0)
+    pub sized : length (encoded (entry x)) ≡ size
+    pub grows : absorbed (read former) (entry x) ≡ read (former ++ (x ∷ []))
+
+  -- a stretch from offset o on
+  module _ (xs : List A) (d : A) (o : ℕ) (passes : (i : ℕ) → i < length xs → Passes (o + i * size) (take i xs) (getD xs i d)) where
+    abbrev from : ℕ → ℕ → List A → Parse
+    from k i former = parseFrom k tape lent (o + i * size) (read former)
+
+    walk-rest : (m i k : ℕ) → i + m ≡ length xs → from (m + k) i (take i xs) ≡ from k (length xs) xs
+    walk-rest zero i k e =
+        let n : i ≡ length xs = omega arith in
+        ap₂ (λ (j l : ℕ). from l j (take j xs)) n (omega arith) ∙ ap (from k (length xs)) (take-length xs)
+    walk-rest (suc m) i k e =
+        let l : i < length xs = omega arith in
+        let p = passes i l in
+        ap (λ (n : ℕ). from n i (take i xs)) (omega arith)
+        ∙ walk-on tape lent (m + k) (o + i * size) (read (take i xs)) (entry (getD xs i d)) (p .here .0) (p .here .1) (p .may)
+        (p .accepts) (p .ranged) (p .inner)
+        ∙ ap₂ (λ (n : ℕ) (q : Progress). parseFrom (m + k) tape lent n q) (omega (arith, p .sized))
+        (p .grows ∙ ap read (sym (take-suc xs i d l)))
+        ∙ walk-rest m (suc i) k (omega arith)
+
+    pub walk-stretch : (k : ℕ) →
+        parseFrom (length xs + k) tape lent o (read []) ≡ parseFrom k tape lent (o + length xs * size) (read xs)
+    walk-stretch k =
+        ap (λ (n : ℕ). parseFrom (length xs + k) tape lent n (read [])) (omega arith) ∙ walk-rest (length xs) 0 k (omega arith)

@@ -17,33 +17,36 @@ use Rattle.model.specs.Tape.{WriteAnswer, tapeOf, writeRows, writeVerdict, writ
 use Rattle.model.proofs.Refusals.{refused-number}
 
 -- what write gives and leaves, by the verdict of the rows
-module _ (t : Terms) (r : Rounds) (samples : List ℕ) (numbers : List ℤ) (output : List ℕ) {v : Verdict}
-    (e : firstRefusal (writeRows t r samples numbers (length output)) ≡ v) where
-  pub written-answer : writeAnswer t r samples numbers output ≡ writeOf v (length (tapeOf t r samples numbers))
+module _ (t : Terms) (r : Rounds) (samples : List ℕ) (weights numbers : List ℤ) (output : List ℕ) {v : Verdict}
+    (e : firstRefusal (writeRows t r samples weights numbers (length output)) ≡ v) where
+  pub written-answer : writeAnswer t r samples weights numbers output ≡ writeOf v (length (tapeOf t r samples weights numbers))
   unfolding writeAnswer writeVerdict
-  written-answer = ap (λ (x : Verdict). writeOf x (length (tapeOf t r samples numbers))) e
+  written-answer = ap (λ (x : Verdict). writeOf x (length (tapeOf t r samples weights numbers))) e
 
-  pub written-output : writeOutput t r samples numbers output ≡ left v (overwritten (tapeOf t r samples numbers) output) output
+  pub written-output :
+      writeOutput t r samples weights numbers output ≡ left v (overwritten (tapeOf t r samples weights numbers) output) output
   unfolding writeOutput writeVerdict
-  written-output = ap (λ (x : Verdict). left x (overwritten (tapeOf t r samples numbers) output) output) e
+  written-output = ap (λ (x : Verdict). left x (overwritten (tapeOf t r samples weights numbers) output) output) e
 
 -- an answer with number 0 is an acceptance
-pub accepted-answer : (t : Terms) (r : Rounds) (samples : List ℕ) (numbers : List ℤ) (output : List ℕ) →
-    writeAnswer t r samples numbers output .number ≡ 0 → firstRefusal (writeRows t r samples numbers (length output)) ≡ Verdict.Accept
+pub accepted-answer : (t : Terms) (r : Rounds) (samples : List ℕ) (weights numbers : List ℤ) (output : List ℕ) →
+    writeAnswer t r samples weights numbers output .number ≡ 0 →
+    firstRefusal (writeRows t r samples weights numbers (length output)) ≡ Verdict.Accept
 unfolding writeAnswer writeVerdict
-accepted-answer t r samples numbers output h = go (firstRefusal (writeRows t r samples numbers (length output))) refl h
+accepted-answer t r samples weights numbers output h =
+    go (firstRefusal (writeRows t r samples weights numbers (length output))) refl h
   where
-    go : (v : Verdict) → firstRefusal (writeRows t r samples numbers (length output)) ≡ v →
-        writeOf v (length (tapeOf t r samples numbers)) .number ≡ 0 → v ≡ Verdict.Accept
+    go : (v : Verdict) → firstRefusal (writeRows t r samples weights numbers (length output)) ≡ v →
+        writeOf v (length (tapeOf t r samples weights numbers)) .number ≡ 0 → v ≡ Verdict.Accept
     go Verdict.Accept e z = refl
     go (Verdict.Refuse n p) e z =
-        absurd (omega (arith, refused-number (writeRows t r samples numbers (length output)) (omega arith) e))
+        absurd (omega (arith, refused-number (writeRows t r samples weights numbers (length output)) (omega arith) e))
 
 -- .. so write accepts exactly the jobs that are allowed
-pub write-number : (t : Terms) (r : Rounds) (samples : List ℕ) (numbers : List ℤ) (output : List ℕ) →
-    (writeAnswer t r samples numbers output .number ≡ 0) ↔ WriteAllowed t r samples numbers output
-write-number t r samples numbers output =
-    let rows = write-accepted t r samples numbers output in (
-      λ z. rows .0 (accepted-answer t r samples numbers output z),
-      λ k. ap (λ (a : WriteAnswer). a .number) (written-answer t r samples numbers output (rows .1 k)),
+pub write-number : (t : Terms) (r : Rounds) (samples : List ℕ) (weights numbers : List ℤ) (output : List ℕ) →
+    (writeAnswer t r samples weights numbers output .number ≡ 0) ↔ WriteAllowed t r samples weights numbers output
+write-number t r samples weights numbers output =
+    let rows = write-accepted t r samples weights numbers output in (
+      λ z. rows .0 (accepted-answer t r samples weights numbers output z),
+      λ k. ap (λ (a : WriteAnswer). a .number) (written-answer t r samples weights numbers output (rows .1 k)),
     )

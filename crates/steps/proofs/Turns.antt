@@ -5,13 +5,14 @@ use mathlib.Core.List.{List, [], _∷_}
 use Prim.Native.Nat.{ℕ, zero, suc, _+_, _≤_, _<_}
 use native.Mathlib.Omega.{arith}
 use lib.Dec.{eqb, ltb}
+use lib.IntN.{pos}
 use lib.ListN.{length, getD, length-append}
 use borrow.Author.Tests.{leb-false, ltb-false, ltb-true, eqb-true, eqb-false, not-false, eq-eqb, ne-eqb}
 use Rattle.model.specs.declared.Verdict.{Verdict}
 use Rattle.model.specs.declared.Entry.{Entry}
-use Rattle.model.specs.declared.Entry.the-variants.{End, Size, WeightBox, RoundLimits, Sample, Flow}
+use Rattle.model.specs.declared.Entry.the-variants.{End, Size, WeightBox, RoundLimits, Sample, Flow, PairWeight}
 use Rattle.model.specs.Verdict.{firstRefusal, decided}
-use Rattle.model.specs.Tape.{known, bodyLength, decoded, Progress, allowed, absorbed, recordRows, entryRows, Parse, turned, whole, parseFrom}
+use Rattle.model.specs.Tape.{known, bodyLengths, bodyLength, decoded, Progress, allowed, absorbed, recordRows, entryRows, Parse, turned, whole, parseFrom}
 use Rattle.model.proofs.Refusals.{accepted-row, firstRefusal-append, Numbered, refused-number}
 use Rattle.records.specs.declared.tally.Tally.{Tally}
 use Rattle.records.specs.declared.record.Cursor.{Cursor}
@@ -64,6 +65,7 @@ tallied-absorbed p (WeightBox weight low high) = refl
 tallied-absorbed p (RoundLimits q a) = refl
 tallied-absorbed p (Sample s) = rw (length-append (p .samples) (s ∷ []))
 tallied-absorbed p (Flow f) = rw (length-append (p .flow) (f ∷ []))
+tallied-absorbed p (PairWeight w) = rw (length-append (p .weights) (pos w ∷ []))
 
 -- only the end ends
 continued-kind : (t : Tally) (next : Cursor) (kind : ℕ) (b : ℕ → ℕ) → known kind ≡ true →
@@ -74,7 +76,9 @@ continued-kind t next (suc (suc zero)) b h = refl
 continued-kind t next (suc (suc (suc zero))) b h = refl
 continued-kind t next (suc (suc (suc (suc zero)))) b h = refl
 continued-kind t next (suc (suc (suc (suc (suc zero))))) b h = refl
-continued-kind t next (suc (suc (suc (suc (suc (suc k)))))) b h = absurd (omega (arith, ltb-true (suc (suc (suc (suc (suc (suc k)))))) 6 h))
+continued-kind t next (suc (suc (suc (suc (suc (suc zero)))))) b h = refl
+continued-kind t next (suc (suc (suc (suc (suc (suc (suc k))))))) b h =
+    absurd (omega (arith, ltb-true (suc (suc (suc (suc (suc (suc (suc k))))))) (length bodyLengths) h))
 
 -- no row has the number 0
 record-numbered : (followed : Bool) (tape : List ℕ) (o : ℕ) (may : ℕ → Bool) → Numbered (recordRows followed tape o may)
@@ -88,6 +92,7 @@ entry-numbered o lent (WeightBox weight low high) = omega arith
 entry-numbered o lent (RoundLimits q a) = omega arith
 entry-numbered o lent (Sample s) = tt
 entry-numbered o lent (Flow f) = tt
+entry-numbered o lent (PairWeight w) = omega arith
 
 -- the verdict on the terms of the record at offset o
 abbrev pub termsVerdict : List ℕ → Lent → ℕ → Verdict

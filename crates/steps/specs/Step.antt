@@ -1,8 +1,8 @@
 -- One record taken into the tally.
 use mathlib.Core.List.{List}
-use Prim.Native.Nat.{ℕ, _+_}
+use Prim.Native.Nat.{ℕ, _+_, _^_, _<_}
 use Rattle.model.specs.declared.Entry.{Entry}
-use Rattle.model.specs.declared.Entry.the-variants.{End, Size, WeightBox, RoundLimits, Sample, Flow}
+use Rattle.model.specs.declared.Entry.the-variants.{End, Size, WeightBox, RoundLimits, Sample, Flow, PairWeight}
 use Rattle.model.specs.Verdict.{firstRefusal, decided}
 use Rattle.model.specs.Calls.{pixelsOf, pairsOf}
 use Rattle.model.specs.Tape.{sized, weighted, entryRows}
@@ -12,6 +12,13 @@ use Rattle.records.specs.declared.record.Got.{Got}
 use Rattle.model.specs.declared.Lent.{Lent}
 use Rattle.steps.specs.declared.Step.{Step}
 use Rattle.records.specs.Record.{gotAt}
+
+-- how many samples, pair weights and flow numbers have been read, and that one more can be counted
+abbrev pub numbersRead : Tally → ℕ
+numbersRead t = t .samples + t .weights + t .flows
+
+abbrev pub CountsFit : Tally → Type 0
+CountsFit t = numbersRead t < 2 ^ 63
 
 -- what has been read once this record has been, too
 abbrev pub tallied : Tally → Entry → Tally
@@ -24,6 +31,7 @@ tallied t (Size w h) =
       pixels = pixelsOf (sized w h);
       pairs = pairsOf (sized w h);
       samples = t .samples;
+      weights = t .weights;
       flows = t .flows;
     }
 tallied t (WeightBox weight low high) =
@@ -34,6 +42,7 @@ tallied t (WeightBox weight low high) =
       pixels = t .pixels;
       pairs = t .pairs;
       samples = t .samples;
+      weights = t .weights;
       flows = t .flows;
     }
 tallied t (RoundLimits q a) =
@@ -44,6 +53,7 @@ tallied t (RoundLimits q a) =
       pixels = t .pixels;
       pairs = t .pairs;
       samples = t .samples;
+      weights = t .weights;
       flows = t .flows;
     }
 tallied t (Sample s) =
@@ -54,6 +64,7 @@ tallied t (Sample s) =
       pixels = t .pixels;
       pairs = t .pairs;
       samples = t .samples + 1;
+      weights = t .weights;
       flows = t .flows;
     }
 tallied t (Flow f) =
@@ -64,7 +75,19 @@ tallied t (Flow f) =
       pixels = t .pixels;
       pairs = t .pairs;
       samples = t .samples;
+      weights = t .weights;
       flows = t .flows + 1;
+    }
+tallied t (PairWeight w) =
+    record {
+      header = t .header;
+      terms = t .terms;
+      rounds = t .rounds;
+      pixels = t .pixels;
+      pairs = t .pairs;
+      samples = t .samples;
+      weights = t .weights + 1;
+      flows = t .flows;
     }
 
 -- the end ends the job; after any other record there is another
@@ -75,6 +98,7 @@ continued t (WeightBox weight low high) next = Step.More (tallied t (WeightBox w
 continued t (RoundLimits q a) next = Step.More (tallied t (RoundLimits q a)) next
 continued t (Sample s) next = Step.More (tallied t (Sample s)) next
 continued t (Flow f) next = Step.More (tallied t (Flow f)) next
+continued t (PairWeight w) next = Step.More (tallied t (PairWeight w)) next
 
 -- the record's terms judged, at offset o
 abbrev pub judgedEntry : Tally → Entry → Cursor → ℕ → Lent → Step

@@ -15,9 +15,8 @@ use terms::quick_allowed;
 use terms::size_allowed;
 use terms::weight_allowed;
 ghost use mathlib.Core.Path.{_≡_};
-ghost use Prim.Native.Nat.{_<_, _^_};
 ghost use Rattle.model.specs.declared.Entry.{Entry};
-ghost use Rattle.steps.specs.Step.{judgedEntry, stepOf};
+ghost use Rattle.steps.specs.Step.{CountsFit, judgedEntry, stepOf};
 
 // What taking a record gives: a refusal with its place, the job's end, or what has been read now
 // with the place of the next record.
@@ -27,7 +26,7 @@ pub enum Step {
     More(Tally, Cursor),
 }
 
-// 1 size, at the record; 16 right after it, for all samples and all pairs.
+// 1 size, at the record; 16 right after it, for all samples and, in both buffers, all pairs.
 fn take_size(t: Tally, width: u32, height: u32, next: Cursor, at: usize, lent: Lent) -> Step
     ensures { λ r. ⌜ r ≡ judgedEntry t (Entry.Size width height) next at lent ⌝ }
 {
@@ -35,8 +34,8 @@ fn take_size(t: Tally, width: u32, height: u32, next: Cursor, at: usize, lent: L
         return Step::Refused(1, at);
     }
     let samples = pixels(width, height);
-    let flows = pairs(width, height);
-    let short = (lent.samples < samples) | (lent.flow < flows);
+    let count = pairs(width, height);
+    let short = (lent.samples < samples) | (lent.weights < count) | (lent.flow < count);
     if short {
         return Step::Refused(16, 0);
     }
@@ -51,7 +50,7 @@ fn take_size(t: Tally, width: u32, height: u32, next: Cursor, at: usize, lent: L
     now.header = 1;
     now.terms = sized;
     now.pixels = samples;
-    now.pairs = flows;
+    now.pairs = count;
     Step::More(now, next)
 }
 
@@ -101,9 +100,22 @@ fn take_rounds(t: Tally, quick: u32, allowance: u16, next: Cursor, at: usize, le
     Step::More(now, next)
 }
 
+// 2 weight, at the record of its pair.
+fn take_pair_weight(t: Tally, own: u32, next: Cursor, at: usize, lent: Lent) -> Step
+    requires { ⌜ CountsFit t ⌝ }
+    ensures { λ r. ⌜ r ≡ judgedEntry t (Entry.PairWeight own) next at lent ⌝ }
+{
+    if !weight_allowed(own) {
+        return Step::Refused(2, at);
+    }
+    let mut now = t;
+    now.weights = t.weights + 1;
+    Step::More(now, next)
+}
+
 // A record that has been read.
 fn take(t: Tally, entry: Entry, next: Cursor, at: usize, lent: Lent) -> Step
-    requires { ⌜ (t .samples < 2 ^ 63) × (t .flows < 2 ^ 63) ⌝ }
+    requires { ⌜ CountsFit t ⌝ }
     ensures { λ r. ⌜ r ≡ judgedEntry t entry next at lent ⌝ }
 {
     let mut now = t;
@@ -120,12 +132,13 @@ fn take(t: Tally, entry: Entry, next: Cursor, at: usize, lent: Lent) -> Step
             now.flows = t.flows + 1;
             Step::More(now, next)
         }
+        Entry::PairWeight { weight } => take_pair_weight(t, weight, next, at, lent),
     }
 }
 
 // The record at an offset, read and taken.
 pub fn take_record(tape: &[u8], at: usize, t: Tally, lent: Lent) -> Step
-    requires { ⌜ (t .samples < 2 ^ 63) × (t .flows < 2 ^ 63) ⌝ }
+    requires { ⌜ CountsFit t ⌝ }
     ensures { λ r. ⌜ r ≡ stepOf (now (tape .entry)) at t lent ⌝ }
 {
     let got = next_record(tape, at, t, lent.followed);

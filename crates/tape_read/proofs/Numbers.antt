@@ -1,70 +1,141 @@
 -- The numbers of an accepted tape, where the code reads them. Assumes nothing.
-use mathlib.Core.Path.{_≡_, sym, ap, _∙_, subst}
-use mathlib.Core.List.{List}
+use mathlib.Core.Path.{_≡_, refl, sym, ap, ap₂, _∙_, subst}
+use mathlib.Core.Bool.{Bool, true, false, cond}
+use mathlib.Core.List.{List, _++_}
+use mathlib.Core.Logic.{_⊎_, ⊎-elim}
 use Prim.Native.Nat.{ℕ, _+_, _*_, _<_}
 use native.Mathlib.Omega.{arith}
-use lib.Dec.{ltb}
+use lib.Dec.{eqb, ltb}
 use lib.IntN.{ℤ, pos, natAbs}
-use lib.ListN.{length, getD, drop}
-use lib.Seq.{ext-getD, getD-drop}
+use lib.ListN.{length, getD, drop, List·getD-eq-default}
+use lib.Seq.{ext-getD}
+use borrow.Author.Tests.{eqb-true, eqb-false}
+use Rattle.integers.proofs.Order.{pos-natAbs-nonneg}
+use Rattle.integers.proofs.Absolute.{natAbs-upto}
 use Rattle.model.specs.declared.Entry.{Entry}
+use Rattle.model.specs.declared.Entry.the-variants.{Sample, Flow, PairWeight}
 use Rattle.model.specs.Lists.{at, table, firstWhere}
-use Rattle.model.specs.Calls.{firstBeyond}
-use Rattle.model.specs.Tape.{decoded, fromFour, Progress, tapeOf}
-use Rattle.model.proofs.Lists.{length-table, getD-table, firstWhere-cong}
+use Rattle.model.specs.Grid.{weightOf}
+use Rattle.model.specs.Calls.{pairsOf, firstBeyond}
+use Rattle.model.specs.Tape.{decoded, encoded, Progress, tapeOf}
+use Rattle.model.proofs.Lists.{length-table, getD-table, getD-inside, firstWhere-cong}
 use Rattle.model.specs.declared.Lent.{Lent}
-use Rattle.tape_read.specs.Places.{numberAt}
-use Rattle.steps.proofs.Turns.{entryAt}
-use Rattle.roundtrip.proofs.Entries.{kind-here, entry-here}
-use Rattle.roundtrip.proofs.Offsets.{tape-length, sample-here, flow-here}
+use Rattle.records.specs.declared.tally.Tally.{Tally}
+use Rattle.records.specs.Tally.{tallyOf}
+use Rattle.tape_read.specs.Places.{weightAt, numberAt, ownWeight, beyondOwn}
+use Rattle.roundtrip.proofs.Entries.{Ranged, kindOf, kind-here, entry-here}
+use Rattle.roundtrip.proofs.Offsets.{tape-length, sample-here, weight-here, flow-here}
 use Rattle.roundtrip.proofs.Accepted.{Job}
 
+-- the codes, the weights and the numbers on a tape, by how many stand before
+abbrev pub codeOn : List ℕ → ℕ → ℕ
+codeOn tape i = getD tape (15 + 2 * i + 1) 0
+
+abbrev pub weightOn : List ℕ → ℕ → ℕ → ℕ
+weightOn tape samples j = weightAt tape (15 + 2 * samples + 3 * j)
+
+abbrev pub numberOn : List ℕ → ℕ → ℕ → ℕ → ℤ
+numberOn tape samples weights j = numberAt tape (15 + 2 * samples + 3 * weights + 5 * j)
+
+-- the first number beyond its pair's weight
+abbrev pub firstOn : List ℕ → Tally → ℕ
+firstOn tape t =
+    firstWhere (t .flows)
+    (beyondOwn tape (t .terms .weight) (15 + 2 * t .samples) (t .weights) (15 + 2 * t .samples + 3 * t .weights))
+
 -- a list from its elements
-table-list : {A : Type 0} (xs : List A) (g : ℕ → A) (d : A) → ((i : ℕ) → i < length xs → g i ≡ getD xs i d) → table (length xs) g ≡ xs
+table-list : {A : Type 0} (xs : List A) (g : ℕ → A) (d : A) → ((i : ℕ) → i < length xs → g i ≡ getD xs i d) →
+    table (length xs) g ≡ xs
 table-list xs g d e =
     ext-getD d (table (length xs) g) xs (length-table (length xs) g)
-    (λ i h. let l : i < length xs = subst (λ (n : ℕ). i < n) (length-table (length xs) g) h in getD-table (length xs) g i d l ∙ e i l)
-
--- the number of a flow record
-number-here : (tape : List ℕ) (o : ℕ) (z : ℤ) → getD tape o 0 ≡ 5 → entryAt tape o ≡ Entry.Flow z → numberAt tape o ≡ z
-number-here tape o z k e =
-    let b : ℕ → ℕ = λ i. getD tape (o + 1 + i) 0 in
-    let flow : decoded 5 b ≡ Entry.Flow z = ap (λ (n : ℕ). decoded n b) (sym k) ∙ e in
-    let number : fromFour (b 0) (b 1) (b 2) (b 3) ≡ z = cc in
-    let first : getD tape (o + 1) 0 ≡ b 0 = ap (λ (i : ℕ). getD tape i 0) (omega arith) in
-    ap (λ (n : ℕ). fromFour n (b 1) (b 2) (b 3)) first ∙ number
+    (λ i h.
+    let l : i < length xs = subst (λ (n : ℕ). i < n) (length-table (length xs) g) h in
+    getD-table (length xs) g i d l ∙ e i l)
 
 module _ (tape : List ℕ) (lent : Lent) (byte : (i : ℕ) → getD tape i 0 < 256) (p : Progress) (j : Job tape lent byte p) where
-  on-tape : (o : ℕ) {l : List ℕ} → drop o (tapeOf (p .terms) (p .rounds) (p .samples) (p .flow)) ≡ l → drop o tape ≡ l
-  on-tape o e = ap (drop o) (j .bytes) ∙ e
+  abbrev job : List ℕ
+  job = tapeOf (p .terms) (p .rounds) (p .samples) (p .weights) (p .flow)
 
-  pub job-length : length tape ≡ 16 + 2 * length (p .samples) + 5 * length (p .flow)
-  job-length = ap length (j .bytes) ∙ tape-length (p .terms) (p .rounds) (p .samples) (p .flow)
+  pub job-length : length tape ≡ 16 + 2 * length (p .samples) + 3 * length (p .weights) + 5 * length (p .flow)
+  job-length = ap length (j .bytes) ∙ tape-length (p .terms) (p .rounds) (p .samples) (p .weights) (p .flow)
 
-  code-is : (i : ℕ) → i < length (p .samples) → getD tape (15 + 2 * i + 1) 0 ≡ getD (p .samples) i 0
+  -- a record of the job, where its bytes stand: what its body is read as
+  body-is : (i o : ℕ) (e : Entry) → i ≡ o → Ranged e → (rest : List ℕ) × (drop o job ≡ encoded e ++ rest) →
+      decoded (kindOf e) (λ n. getD tape (i + 1 + n) 0) ≡ e
+  body-is i o e same r (rest, h) =
+      let here : drop i tape ≡ encoded e ++ rest = ap₂ drop same (j .bytes) ∙ h in
+      ap (λ (kind : ℕ). decoded kind (λ n. getD tape (i + 1 + n) 0)) (sym (kind-here tape i e rest here))
+      ∙ entry-here tape i e rest here r
+
+  -- the first byte of a body as the code and as the definition count it
+  first-byte : (i : ℕ) → getD tape (i + 1) 0 ≡ getD tape (i + 1 + 0) 0
+  first-byte i = ap (λ (n : ℕ). getD tape n 0) (omega arith)
+
+  code-is : (i : ℕ) → i < length (p .samples) → codeOn tape i ≡ getD (p .samples) i 0
   code-is i h =
-      let (rest, e) = sample-here (p .terms) (p .rounds) (p .samples) (p .flow) i h in
-      ap (λ (n : ℕ). getD tape n 0) (omega arith)
-      ∙ sym (getD-drop (15 + i * 2) tape 1 0)
-      ∙ ap (λ (l : List ℕ). getD l 1 0) (on-tape (15 + i * 2) e)
+      let o : ℕ = 15 + 2 * i in
+      let e =
+      body-is o (15 + i * 2) (Sample (getD (p .samples) i 0)) (omega arith) tt
+      (sample-here (p .terms) (p .rounds) (p .samples) (p .weights) (p .flow) i h) in
+      let f = first-byte o in
+      cc
 
-  number-is : (i : ℕ) → i < length (p .flow) → numberAt tape (15 + 2 * length (p .samples) + 5 * i) ≡ at (p .flow) i
+  weight-is : (i : ℕ) → i < length (p .weights) → weightOn tape (length (p .samples)) i ≡ natAbs (at (p .weights) i)
+  weight-is i h =
+      let o : ℕ = 15 + 2 * length (p .samples) + 3 * i in
+      let limits = j .sound .pairWeights i h in
+      let e =
+      body-is o (15 + length (p .samples) * 2 + i * 3) (PairWeight (natAbs (at (p .weights) i))) (omega arith)
+      (omega (arith, natAbs-upto (limits .0) (limits .1)))
+      (weight-here (p .terms) (p .rounds) (p .samples) (p .weights) (p .flow) i h) in
+      let f = first-byte o in
+      cc
+
+  number-is : (i : ℕ) → i < length (p .flow) → numberOn tape (length (p .samples)) (length (p .weights)) i ≡ at (p .flow) i
   number-is i h =
-      let (rest, e) = flow-here (p .terms) (p .rounds) (p .samples) (p .flow) i h in
-      let o : ℕ = 15 + (length (p .samples) * 2 + i * 5) in
-      let flow : Entry = Entry.Flow (at (p .flow) i) in
-      let same : 15 + 2 * length (p .samples) + 5 * i ≡ o = omega arith in
-      ap (numberAt tape) same
-      ∙ number-here tape o (at (p .flow) i) (kind-here tape o flow rest (on-tape o e))
-      (entry-here tape o flow rest (on-tape o e) (j .sound .ranged i h))
+      let o : ℕ = 15 + 2 * length (p .samples) + 3 * length (p .weights) + 5 * i in
+      let e =
+      body-is o (15 + length (p .samples) * 2 + length (p .weights) * 3 + i * 5) (Flow (at (p .flow) i)) (omega arith)
+      (j .sound .ranged i h)
+      (flow-here (p .terms) (p .rounds) (p .samples) (p .weights) (p .flow) i h) in
+      let f = first-byte o in
+      cc
 
-  pub codes-are : table (length (p .samples)) (λ i. getD tape (15 + 2 * i + 1) 0) ≡ p .samples
+  pub codes-are : table (length (p .samples)) (codeOn tape) ≡ p .samples
   codes-are = table-list (p .samples) _ 0 code-is
 
-  pub numbers-are : table (length (p .flow)) (λ i. numberAt tape (15 + 2 * length (p .samples) + 5 * i)) ≡ p .flow
+  pub weights-are : table (length (p .weights)) (λ i. pos (weightOn tape (length (p .samples)) i)) ≡ p .weights
+  weights-are =
+      table-list (p .weights) _ (pos 0) (λ i h. ap pos (weight-is i h) ∙ pos-natAbs-nonneg (j .sound .pairWeights i h .0))
+
+  pub numbers-are : table (length (p .flow)) (numberOn tape (length (p .samples)) (length (p .weights))) ≡ p .flow
   numbers-are = table-list (p .flow) _ (pos 0) number-is
 
-  pub first-is : (w : ℕ) →
-      firstWhere (length (p .flow)) (λ i. ltb w (natAbs (numberAt tape (15 + 2 * length (p .samples) + 5 * i)))) ≡ firstBeyond w (p .flow)
+  -- the weight of a pair that has a flow number
+  own-is : (i : ℕ) → i < length (p .flow) →
+      ownWeight tape (15 + 2 * length (p .samples)) (length (p .weights)) (p .terms .weight) i ≡ weightOf (p .terms) (p .weights) i
+  unfolding weightOf
+  own-is i h = by (eqb (length (p .weights)) 0) refl
+    where
+      all : ¬ (length (p .weights) ≡ 0) → i < length (p .weights)
+      all some =
+          ⊎-elim (λ (z : length (p .weights) ≡ 0). absurd (some z))
+          (λ (g : length (p .weights) ≡ pairsOf (p .terms)).
+          ⊎-elim (λ (z : length (p .flow) ≡ 0). absurd (omega arith))
+          (λ (k : length (p .flow) ≡ pairsOf (p .terms)). omega arith) (j .flow))
+          (j .weights)
+
+      by : (b : Bool) → eqb (length (p .weights)) 0 ≡ b →
+          cond b (p .terms .weight) (weightOn tape (length (p .samples)) i)
+          ≡ natAbs (getD (p .weights) i (pos (p .terms .weight)))
+      by true e =
+          let none : length (p .weights) ≡ 0 = eqb-true (length (p .weights)) 0 e in
+          sym (ap natAbs (List·getD-eq-default (p .weights) (pos (p .terms .weight)) {n = i} (omega arith)))
+      by false e =
+          let l : i < length (p .weights) = all (eqb-false (length (p .weights)) 0 e) in
+          weight-is i l ∙ ap natAbs (getD-inside (p .weights) i (pos 0) (pos (p .terms .weight)) l)
+
+  pub first-is : firstOn tape (tallyOf p) ≡ firstBeyond (weightOf (p .terms) (p .weights)) (p .flow)
   unfolding firstBeyond
-  first-is w = firstWhere-cong (length (p .flow)) (λ i h. ap (λ (z : ℤ). ltb w (natAbs z)) (number-is i h))
+  first-is =
+      firstWhere-cong (length (p .flow)) (λ i h. ap₂ (λ (w : ℕ) (z : ℤ). ltb w (natAbs z)) (own-is i h) (number-is i h))

@@ -3,77 +3,92 @@
 use mathlib.Core.Path.{_≡_, refl, sym, ap, _∙_, subst, subst⁻¹}
 use mathlib.Core.Bool.{not}
 use mathlib.Core.List.{List}
-use mathlib.Core.Logic.{⊎-elim}
+use mathlib.Core.Logic.{_⊎_, ⊎-elim}
 use Prim.Native.Nat.{ℕ, _+_, _*_, _≤_, _<_}
 use native.Mathlib.Omega.{arith}
-use lib.Dec.{eqb, ltb}
-use lib.IntN.{ℤ, natAbs}
+use lib.Dec.{eqb}
+use lib.IntN.{ℤ, pos}
 use lib.ListN.{length, getD}
-use Rattle.model.specs.Lists.{table, firstWhere, overwritten}
-use Rattle.model.specs.Calls.{pairsOf}
-use Rattle.model.specs.Tape.{Progress, turned, whole, parse, readAnswer, readSamples, readFlow, lentBy}
+use Rattle.model.specs.Lists.{table, overwritten}
+use Rattle.model.specs.Tape.{Progress, turned, whole, parse, readAnswer, readSamples, readWeights, readFlow, lentBy}
 use Rattle.records.specs.declared.tally.Tally.{Tally}
 use Rattle.model.specs.declared.Lent.{Lent}
 use Rattle.records.specs.Tally.{tallyOf}
 use Rattle.tape_read.specs.Scan.{WholeRecords}
-use Rattle.tape_read.specs.Places.{numberAt}
 use Rattle.roundtrip.proofs.Accepted.{Job, accepted-job}
-use Rattle.tape_read.proofs.Numbers.{job-length, codes-are, numbers-are, first-is}
-use Rattle.roundtrip.proofs.Judged.{all, beyond-parse, whole-parse, answer-by, samples-by, flow-by}
+use Rattle.tape_read.proofs.Numbers.{codeOn, weightOn, numberOn, firstOn, job-length, codes-are, weights-are, numbers-are, first-is}
+use Rattle.roundtrip.proofs.Judged.{all, beyond-parse, whole-parse, answer-by, samples-by, weights-by, flow-by}
 
--- the codes and the numbers on the tape
-abbrev pub codeOn : List ℕ → ℕ → ℕ
-codeOn tape i = getD tape (15 + 2 * i + 1) 0
+-- the tape's length, and that the buffers are long enough
+abbrev pub Room : List ℕ → Lent → Tally → Type 0
+Room tape lent t =
+    (length tape ≡ 16 + 2 * t .samples + 3 * t .weights + 5 * t .flows)
+    × (t .samples ≤ lent .samples)
+    × (t .weights ≤ lent .weights)
+    × (t .flows ≤ lent .flow)
 
-abbrev pub numberOn : List ℕ → ℕ → ℕ → ℤ
-numberOn tape samples j = numberAt tape (15 + 2 * samples + 5 * j)
+-- what comes for all pairs or for none has room where all pairs have
+upto : {count pairs most : ℕ} → (count ≡ 0) ⊎ (count ≡ pairs) → pairs ≤ most → count ≤ most
+upto {count} {pairs} c l = ⊎-elim (λ (z : count ≡ 0). omega arith) (λ (g : count ≡ pairs). omega arith) c
 
-abbrev pub firstOn : List ℕ → Tally → ℕ
-firstOn tape t = firstWhere (t .flows) (λ j. ltb (t .terms .weight) (natAbs (numberOn tape (t .samples) j)))
-
-module _ (tape : List ℕ) (byte : (i : ℕ) → getD tape i 0 < 256) (samples : List ℕ) (flow : List ℤ) where
+module _ (tape : List ℕ) (byte : (i : ℕ) → getD tape i 0 < 256) (samples : List ℕ) (weights flow : List ℤ) where
   abbrev lent : Lent
-  lent = lentBy samples flow
+  lent = lentBy samples weights flow
 
   -- what holds of the counts of every accepted job holds of these
-  by-job : (P : Tally → Type 0) → ((p : Progress) → all tape samples flow ≡ whole p → Job tape lent byte p → P (tallyOf p)) →
-      {t : Tally} → WholeRecords tape (lentBy samples flow) t → P t
+  by-job : (P : Tally → Type 0) →
+      ((p : Progress) → all tape samples weights flow ≡ whole p → Job tape lent byte p → P (tallyOf p)) →
+      {t : Tally} → WholeRecords tape (lentBy samples weights flow) t → P t
   by-job P k h = let (p, e, f) = h in subst⁻¹ P f (k p e (accepted-job tape lent byte refl p e))
 
-  room-of : (p : Progress) → Job tape lent byte p → (length tape ≡ 16 + 2 * length (p .samples) + 5 * length (p .flow)) × (length (p .samples) ≤ length samples) × (length (p .flow) ≤ length flow)
+  room-of : (p : Progress) → Job tape lent byte p → Room tape lent (tallyOf p)
   room-of p j =
-      let s = j .sound .size (omega (arith, j .complete)) in (
-        job-length tape lent byte p j,
-        omega (arith, j .samples, s .1),
-        ⊎-elim (λ (z : length (p .flow) ≡ 0). omega arith) (λ (z : length (p .flow) ≡ pairsOf (p .terms)). omega (arith, s .2)) (j .flow),
-      )
+      let s = j .sound .size (omega (arith, j .complete)) in
+      (job-length tape lent byte p j, omega (arith, j .samples, s .1), upto (j .weights) (s .2), upto (j .flow) (s .3))
 
-  module _ {t : Tally} (h : WholeRecords tape (lentBy samples flow) t) where
-    pub room : (length tape ≡ 16 + 2 * t .samples + 5 * t .flows) × (t .samples ≤ length samples) × (t .flows ≤ length flow)
-    room = by-job (λ u. (length tape ≡ 16 + 2 * u .samples + 5 * u .flows) × (u .samples ≤ length samples) × (u .flows ≤ length flow)) (λ p e j. room-of p j) h
+  module _ {t : Tally} (h : WholeRecords tape (lentBy samples weights flow) t) where
+    pub room : Room tape (lentBy samples weights flow) t
+    room = by-job (Room tape lent) (λ p e j. room-of p j) h
 
-    pub beyond : firstOn tape t < t .flows → parse tape (lentBy samples flow) ≡ turned 8 (firstOn tape t)
-    beyond = by-job (λ u. firstOn tape u < u .flows → parse tape (lentBy samples flow) ≡ turned 8 (firstOn tape u)) far h
+    pub beyond : firstOn tape t < t .flows → parse tape (lentBy samples weights flow) ≡ turned 8 (firstOn tape t)
+    beyond = by-job (λ u. firstOn tape u < u .flows → parse tape lent ≡ turned 8 (firstOn tape u)) far h
       where
-        far : (p : Progress) → all tape samples flow ≡ whole p → Job tape lent byte p → firstOn tape (tallyOf p) < length (p .flow) → parse tape (lentBy samples flow) ≡ turned 8 (firstOn tape (tallyOf p))
+        far : (p : Progress) → all tape samples weights flow ≡ whole p → Job tape lent byte p →
+            firstOn tape (tallyOf p) < length (p .flow) → parse tape lent ≡ turned 8 (firstOn tape (tallyOf p))
         far p e j l =
-            let f = first-is tape lent byte p j (p .terms .weight) in
-            beyond-parse tape samples flow p e (subst (λ (n : ℕ). n < length (p .flow)) f l) ∙ ap (turned 8) (sym f)
+            let f = first-is tape lent byte p j in
+            beyond-parse tape samples weights flow p e (subst (λ (n : ℕ). n < length (p .flow)) f l) ∙ ap (turned 8) (sym f)
 
-    -- what read gives and leaves where no number is beyond the weight
+    -- what read gives and leaves where no number is beyond its pair's weight
     abbrev Left : Tally → Type 0
     Left u =
-        (readAnswer tape samples flow ≡ record { number = 0; place = 0; terms = u .terms; rounds = u .rounds; flowed = not (eqb (u .flows) 0) })
-        × (readSamples tape samples flow ≡ overwritten (table (u .samples) (codeOn tape)) samples)
-        × (readFlow tape samples flow ≡ overwritten (table (u .flows) (numberOn tape (u .samples))) flow)
+        (readAnswer tape samples weights flow
+        ≡ record {
+          number = 0;
+          place = 0;
+          terms = u .terms;
+          rounds = u .rounds;
+          weighted = not (eqb (u .weights) 0);
+          flowed = not (eqb (u .flows) 0);
+        })
+        × (readSamples tape samples weights flow ≡ overwritten (table (u .samples) (codeOn tape)) samples)
+        × (readWeights tape samples weights flow
+        ≡ overwritten (table (u .weights) (λ i. pos (weightOn tape (u .samples) i))) weights)
+        × (readFlow tape samples weights flow ≡ overwritten (table (u .flows) (numberOn tape (u .samples) (u .weights))) flow)
 
     pub left : t .flows ≤ firstOn tape t → Left t
     left = by-job (λ u. u .flows ≤ firstOn tape u → Left u) whole-job h
       where
-        whole-job : (p : Progress) → all tape samples flow ≡ whole p → Job tape lent byte p → length (p .flow) ≤ firstOn tape (tallyOf p) → Left (tallyOf p)
+        filled : {A : Type 0} {new read : List A} (buffer : List A) → new ≡ read → overwritten read buffer ≡ overwritten new buffer
+        filled buffer e = ap (λ (front : List _). overwritten front buffer) (sym e)
+
+        whole-job : (p : Progress) → all tape samples weights flow ≡ whole p → Job tape lent byte p →
+            length (p .flow) ≤ firstOn tape (tallyOf p) → Left (tallyOf p)
         whole-job p e j l =
-            let r = whole-parse tape samples flow p e (subst (λ (n : ℕ). length (p .flow) ≤ n) (first-is tape lent byte p j (p .terms .weight)) l) in (
-              answer-by tape samples flow r,
-              samples-by tape samples flow r ∙ ap (λ (new : List ℕ). overwritten new samples) (sym (codes-are tape lent byte p j)),
-              flow-by tape samples flow r ∙ ap (λ (new : List ℤ). overwritten new flow) (sym (numbers-are tape lent byte p j)),
+            let within = subst (λ (n : ℕ). length (p .flow) ≤ n) (first-is tape lent byte p j) l in
+            let r = whole-parse tape samples weights flow p e within in (
+              answer-by tape samples weights flow r,
+              samples-by tape samples weights flow r ∙ filled samples (codes-are tape lent byte p j),
+              weights-by tape samples weights flow r ∙ filled weights (weights-are tape lent byte p j),
+              flow-by tape samples weights flow r ∙ filled flow (numbers-are tape lent byte p j),
             )

@@ -11,7 +11,7 @@ use lib.Seq.{getD-take, take-append-le}
 use borrow.Author.Tests.{leb-false, lt-leb}
 use Rattle.model.specs.declared.Verdict.{Verdict}
 use Rattle.model.specs.declared.Entry.{Entry}
-use Rattle.model.specs.declared.Entry.the-variants.{End, Size, WeightBox, RoundLimits, Sample, Flow}
+use Rattle.model.specs.declared.Entry.the-variants.{End, Size, WeightBox, RoundLimits, Sample, Flow, PairWeight}
 use Rattle.model.specs.Verdict.{firstRefusal, decided}
 use Rattle.model.specs.declared.Lent.{Lent}
 use Rattle.model.specs.Tape.{known, bodyLength, decoded, bodyRows, recordRows, entryRows, tooShort}
@@ -37,7 +37,8 @@ decoded-cong (suc (suc (suc zero))) b c e =
 decoded-cong (suc (suc (suc (suc zero)))) b c e = ap Sample (e 0 (omega arith))
 decoded-cong (suc (suc (suc (suc (suc zero))))) b c e =
     let e₀ = e 0 (omega arith) in let e₁ = e 1 (omega arith) in let e₂ = e 2 (omega arith) in let e₃ = e 3 (omega arith) in cc
-decoded-cong (suc (suc (suc (suc (suc (suc n)))))) b c e = refl
+decoded-cong (suc (suc (suc (suc (suc (suc zero)))))) b c e = let e₀ = e 0 (omega arith) in let e₁ = e 1 (omega arith) in cc
+decoded-cong (suc (suc (suc (suc (suc (suc (suc n))))))) b c e = refl
 
 -- the rows of its terms ask only how long the buffers are
 terms-alike : (o : ℕ) (lent : Lent) (f : Bool) (e : Entry) → firstRefusal (entryRows o (lentFor lent f) e) ≡ firstRefusal (entryRows o lent e)
@@ -47,6 +48,7 @@ terms-alike o lent f (WeightBox weight low high) = refl
 terms-alike o lent f (RoundLimits q a) = refl
 terms-alike o lent f (Sample s) = refl
 terms-alike o lent f (Flow x) = refl
+terms-alike o lent f (PairWeight w) = refl
 
 -- ---- a record that is whole
 

@@ -2,14 +2,14 @@
 -- Assumes nothing.
 use mathlib.Core.Path.{_≡_, refl, sym, ap, ap₂, _∙_, subst}
 use mathlib.Core.Bool.{Bool, true, false}
-use mathlib.Core.List.{List, [], _∷_, _++_}
+use mathlib.Core.List.{List, _++_}
 use Prim.Native.Nat.{ℕ, zero, suc, _+_, _≤_, _<_, zero-le}
 use native.Mathlib.Omega.{arith}
 use lib.ListN.{length, getD, take, length-append}
 use lib.Seq.{take-take, take-append-le}
 use Rattle.model.specs.declared.Verdict.{Verdict}
 use Rattle.model.specs.declared.Entry.{Entry}
-use Rattle.model.specs.declared.Entry.the-variants.{End, Size, WeightBox, RoundLimits, Sample, Flow}
+use Rattle.model.specs.declared.Entry.the-variants.{End, Size, WeightBox, RoundLimits, Sample, Flow, PairWeight}
 use Rattle.model.specs.Verdict.{firstRefusal}
 use Rattle.model.specs.declared.Lent.{Lent}
 use Rattle.model.specs.Tape.{Progress, nothing, allowed, absorbed, bodyLength, decoded, entryRows, Parse, turned, whole, parseFrom, tooShort}
@@ -20,9 +20,9 @@ use Rattle.records.specs.declared.record.Got.{Got}
 use Rattle.steps.specs.declared.Step.{Step}
 use Rattle.records.specs.Tally.{tallyOf}
 use Rattle.records.specs.Record.{gotAt}
-use Rattle.steps.specs.Step.{taken, stepOf}
+use Rattle.steps.specs.Step.{numbersRead, tallied, taken, stepOf}
 use Rattle.tape_read.specs.Scan.{recordsOf, WholeRecords, lentFor, Reached}
-use Rattle.steps.proofs.Turns.{entryAt, nextAt, termsVerdict, Passed, Turn, turn, unrolled-on, unrolled-end}
+use Rattle.steps.proofs.Turns.{entryAt, nextAt, termsVerdict, Passed, tallied-absorbed, Turn, turn, unrolled-on, unrolled-end}
 use Rattle.roundtrip.proofs.Walk.{record-passes}
 use Rattle.tape_read.proofs.Prefix.{kind-alike, next-alike, entry-alike, passed-alike, verdict-alike, got-alike}
 
@@ -47,13 +47,14 @@ module _ (tape : List ℕ) (lent : Lent) where
       go (Turn.more a v z) (Turn.more b w y) e ih = ih (nextAt tape o) _ (a .fits) (omega arith) (omega arith)
 
 -- a record adds one number at most
-absorbed-count : (p : Progress) (e : Entry) → length (absorbed p e .samples) + length (absorbed p e .flow) ≤ length (p .samples) + length (p .flow) + 1
-absorbed-count p End = omega arith
-absorbed-count p (Size w h) = omega arith
-absorbed-count p (WeightBox weight low high) = omega arith
-absorbed-count p (RoundLimits q a) = omega arith
-absorbed-count p (Sample s) = omega (arith, length-append (p .samples) (s ∷ []))
-absorbed-count p (Flow f) = omega (arith, length-append (p .flow) (f ∷ []))
+tallied-count : (t : Tally) (e : Entry) → numbersRead (tallied t e) ≤ numbersRead t + 1
+tallied-count t End = omega arith
+tallied-count t (Size w h) = omega arith
+tallied-count t (WeightBox weight low high) = omega arith
+tallied-count t (RoundLimits q a) = omega arith
+tallied-count t (Sample s) = omega arith
+tallied-count t (Flow f) = omega arith
+tallied-count t (PairWeight w) = omega arith
 
 -- nothing has been read yet
 pub start : (tape : List ℕ) (lent : Lent) → Reached tape lent (tallyOf nothing) 0
@@ -78,13 +79,6 @@ moved r other l same =
     }
 
 module _ (tape : List ℕ) (lent : Lent) {t : Tally} {o : ℕ} (r : Reached tape lent t o) where
-  -- no count passes the tape's length
-  pub small : (t .samples ≤ length tape) × (t .flows ≤ length tape)
-  small = (
-    omega (arith, ap (λ (u : Tally). u .samples) (r .counted), r .counts, r .inside),
-    omega (arith, ap (λ (u : Tally). u .flows) (r .counted), r .counts, r .inside),
-  )
-
   abbrev p : Progress
   p = r .progress
 
@@ -133,13 +127,15 @@ module _ (tape : List ℕ) (lent : Lent) {t : Tally} {o : ℕ} (r : Reached tape
       go (Turn.done a z) h = let z : _≡_ {A = ℕ} 0 1 = cc in absurd (omega arith)
       go (Turn.more a v z) h =
           let same-tally : u ≡ tallyOf (absorbed p (entryAt tape o)) = cc in
+          let one-more : u ≡ tallied t (entryAt tape o) =
+          same-tally ∙ sym (tallied-absorbed p (entryAt tape o)) ∙ ap (λ (x : Tally). tallied x (entryAt tape o)) (sym (r .counted)) in
           let same-place : nextAt tape o ≡ next .at = cc in (
             subst (Reached tape lent u) same-place
                 (record {
                   progress = absorbed p (entryAt tape o);
                   counted = same-tally;
                   inside = a .fits;
-                  counts = omega (arith, absorbed-count p (entryAt tape o), r .counts);
+                  counts = omega (arith, ap numbersRead one-more, tallied-count t (entryAt tape o), r .counts);
                   goesOn = λ other l same f k h. reads-on a v other l same f z k h;
                 }),
             subst (λ (i : ℕ). o < i) same-place (omega arith),

@@ -1,11 +1,26 @@
--- Where the numbers of a whole tape stand.
+-- Where the numbers of a whole tape stand: from an offset on, one record after another, each with its kind byte first.
+use mathlib.Core.Bool.{Bool, cond}
 use mathlib.Core.List.{List}
-use Prim.Native.Nat.{ℕ, _+_}
-use lib.IntN.{ℤ}
+use Prim.Native.Nat.{ℕ, _+_, _*_}
+use lib.Dec.{eqb, ltb}
+use lib.IntN.{ℤ, natAbs}
 use lib.ListN.{getD}
-use Rattle.model.specs.Tape.{fromFour}
+use Rattle.model.specs.Tape.{fromTwo, fromFour}
+
+-- the weight of the pair whose record stands at offset o
+abbrev pub weightAt : List ℕ → ℕ → ℕ
+weightAt tape o = fromTwo (getD tape (o + 1) 0) (getD tape (o + 1 + 1) 0)
 
 -- the number of the flow record at offset o
 abbrev pub numberAt : List ℕ → ℕ → ℤ
 numberAt tape o =
     fromFour (getD tape (o + 1) 0) (getD tape (o + 1 + 1) 0) (getD tape (o + 1 + 2) 0) (getD tape (o + 1 + 3) 0)
+
+-- the weight of pair j, of so many weight records from an offset on: its own, or, where there are none, the terms' weight
+abbrev pub ownWeight : List ℕ → ℕ → ℕ → ℕ → ℕ → ℕ
+ownWeight tape start count weight j = cond (eqb count 0) weight (weightAt tape (start + 3 * j))
+
+-- whether the number of pair j, of flow records from `start` on, is beyond ± that weight, of so many weight records from `own` on
+abbrev pub beyondOwn : List ℕ → ℕ → ℕ → ℕ → ℕ → ℕ → Bool
+beyondOwn tape weight own weights start j =
+    ltb (ownWeight tape own weights weight j) (natAbs (numberAt tape (start + 5 * j)))

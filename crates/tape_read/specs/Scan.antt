@@ -10,7 +10,7 @@ use Rattle.records.specs.declared.tally.Tally.{Tally}
 use Rattle.steps.specs.declared.Step.{Step}
 use Rattle.tape_read.specs.declared.scan.Scanned.{Scanned}
 use Rattle.records.specs.Tally.{tallyOf}
-use Rattle.steps.specs.Step.{stepOf}
+use Rattle.steps.specs.Step.{numbersRead, stepOf}
 
 -- the records of a tape, before 8 is judged
 abbrev pub recordsOf : List ℕ → Lent → Parse
@@ -22,7 +22,7 @@ WholeRecords tape lent t = (p : Progress) × (recordsOf tape lent ≡ whole p) �
 
 -- the same buffers, for a tape that may be followed or not
 abbrev pub lentFor : Lent → Bool → Lent
-lentFor lent followed = record { samples = lent .samples; flow = lent .flow; followed = followed }
+lentFor lent followed = record { samples = lent .samples; weights = lent .weights; flow = lent .flow; followed = followed }
 
 -- These counts are of what the tape's first o bytes hold, whole records: on every tape that begins with them reading goes on
 -- from there as from its start
@@ -30,7 +30,7 @@ pub record Reached (tape : List ℕ) (lent : Lent) (t : Tally) (o : ℕ) : Type 
   pub progress : Progress
   pub counted : t ≡ tallyOf progress
   pub inside : o ≤ length tape
-  pub counts : length (progress .samples) + length (progress .flow) ≤ o
+  pub counts : numbersRead t ≤ o
   pub goesOn :
       (other : List ℕ) → o ≤ length other → take o other ≡ take o tape → (followed : Bool) (k : ℕ) → length other < o + k →
       recordsOf other (lentFor lent followed) ≡ parseFrom k other (lentFor lent followed) o progress

@@ -1,23 +1,45 @@
-// The numbers of a whole tape: the first flow number beyond the weight, and the buffers filled.
+// The numbers of a whole tape: the first flow number beyond its pair's weight, and the buffers filled.
 
 use records::bytes::four_at;
+use records::bytes::two_at;
 use terms::is_beyond;
 ghost use mathlib.Core.Path.{_≡_};
 ghost use Prim.Native.Nat.{_+_, _*_, _≤_};
-ghost use lib.Dec.{ltb};
-ghost use lib.IntN.{natAbs};
+ghost use lib.IntN.{pos};
 ghost use lib.ListN.{length, getD};
 ghost use Rattle.model.specs.Lists.{table, firstWhere, overwritten};
-ghost use Rattle.tape_read.specs.Places.{numberAt};
+ghost use Rattle.tape_read.specs.Places.{weightAt, numberAt, ownWeight, beyondOwn};
 
-// The first of so many flow records, from an offset on, whose number is beyond ±weight.
-pub fn beyond_from(tape: &[u8], start: usize, count: usize, weight: u32) -> usize
-    requires { ⌜ start + 5 * count ≤ length (now tape) ⌝ }
-    ensures { λ r. ⌜ r ≡ firstWhere count (λ j. ltb weight (natAbs (numberAt (now (tape .entry)) (start + 5 * j)))) ⌝ }
+// The weight of pair j, of so many weight records from an offset on: its own, or, where there are
+// none, the terms' weight.
+fn own_weight(tape: &[u8], start: usize, count: usize, weight: u32, j: usize) -> u32
+    requires { ⌜ start + 3 * (j + 1) ≤ length (now tape) ⌝ }
+    ensures { λ r. ⌜ r ≡ ownWeight (now (tape .entry)) start count weight j ⌝ }
+{
+    if count == 0 {
+        weight
+    } else {
+        two_at(tape, start + 3 * j + 1)
+    }
+}
+
+// The first of so many flow records, from an offset on, whose number is beyond ± its pair's weight;
+// `own` is the offset of so many weight records.
+pub fn beyond_from(
+    tape: &[u8],
+    weight: u32,
+    own: usize,
+    weights: usize,
+    start: usize,
+    count: usize,
+) -> usize
+    requires { ⌜ (own + 3 * count ≤ length (now tape)) × (start + 5 * count ≤ length (now tape)) ⌝ }
+    ensures { λ r. ⌜ r ≡ firstWhere count (beyondOwn (now (tape .entry)) weight own weights start) ⌝ }
 {
     let mut j = 0;
     while j < count {
-        if is_beyond(four_at(tape, start + 5 * j + 1), weight) {
+        let limit = own_weight(tape, own, weights, weight, j);
+        if is_beyond(four_at(tape, start + 5 * j + 1), limit) {
             return j;
         }
         j += 1;
@@ -34,6 +56,18 @@ pub fn fill_samples(tape: &[u8], start: usize, count: usize, samples: &mut [u8])
     while i < count {
         samples[i] = tape[start + 2 * i + 1];
         i += 1;
+    }
+}
+
+// So many weight records, from an offset on, into the front of a buffer.
+pub fn fill_weights(tape: &[u8], start: usize, count: usize, weights: &mut [i32])
+    requires { ⌜ (start + 3 * count ≤ length (now tape)) × (count ≤ length (now weights)) ⌝ }
+    ensures { λ _. ⌜ now (weights .exit) ≡ overwritten (table count (λ j. pos (weightAt (now (tape .entry)) (start + 3 * j)))) (now (weights .entry)) ⌝ }
+{
+    let mut j = 0;
+    while j < count {
+        weights[j] = two_at(tape, start + 3 * j + 1) as i32;
+        j += 1;
     }
 }
 

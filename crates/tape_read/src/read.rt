@@ -3,6 +3,7 @@
 use crate::fill::beyond_from;
 use crate::fill::fill_flow;
 use crate::fill::fill_samples;
+use crate::fill::fill_weights;
 use crate::scan::Scanned;
 use crate::scan::scan_tape;
 use model::Lent;
@@ -13,18 +14,20 @@ use records::tally::fresh;
 ghost use mathlib.Core.Path.{_≡_};
 ghost use mathlib.Core.Logic.{_↔_};
 ghost use lib.ListN.{take};
-ghost use Rattle.model.specs.Tape.{lentBy, readAnswer, readSamples, readFlow};
+ghost use Rattle.model.specs.Tape.{lentBy, readAnswer, readSamples, readWeights, readFlow};
 ghost use Rattle.model.specs.Calls.{pixelsOf};
 ghost use Rattle.model.specs.Accepted.{ReadAllowed};
-ghost use Rattle.roundtrip.specs.RoundTrip.{WritesBack, flowCount};
+ghost use Rattle.roundtrip.specs.RoundTrip.{WritesBack, weightCount, flowCount};
 ghost use Rattle.tape_read.specs.Scan.{WholeRecords};
 ghost use Rattle.tape_read.specs.Answers.{readAnswerOf};
 
-// The job's terms and whether a flow was there (no, where there are no pairs), or a refusal.
+// The job's terms and whether weights and whether a flow were there (no, where there are no pairs), or
+// a refusal.
 pub enum ReadResult {
     Job {
         terms: Terms,
         rounds: Rounds,
+        weighted: bool,
         flowed: bool,
     },
     Refused {
@@ -34,44 +37,56 @@ pub enum ReadResult {
 }
 
 // The numbers of a tape whose records have passed: 8 is judged, and the buffers are filled.
-pub fn take_numbers(tape: &[u8], t: Tally, samples: &mut [u8], flow: &mut [i32]) -> ReadResult
-    requires { ⌜ WholeRecords (now tape) (lentBy (now samples) (now flow)) t ⌝ }
-    ensures { λ r. ⌜ readAnswerOf r ≡ readAnswer (now (tape .entry)) (now (samples .entry)) (now (flow .entry)) ⌝ }
-    ensures { λ _. ⌜ now (samples .exit) ≡ readSamples (now (tape .entry)) (now (samples .entry)) (now (flow .entry)) ⌝ }
-    ensures { λ _. ⌜ now (flow .exit) ≡ readFlow (now (tape .entry)) (now (samples .entry)) (now (flow .entry)) ⌝ }
+pub fn take_numbers(
+    tape: &[u8],
+    t: Tally,
+    samples: &mut [u8],
+    weights: &mut [i32],
+    flow: &mut [i32],
+) -> ReadResult
+    requires { ⌜ WholeRecords (now tape) (lentBy (now samples) (now weights) (now flow)) t ⌝ }
+    ensures { λ r. ⌜ readAnswerOf r ≡ readAnswer (now (tape .entry)) (now (samples .entry)) (now (weights .entry)) (now (flow .entry)) ⌝ }
+    ensures { λ _. ⌜ now (samples .exit) ≡ readSamples (now (tape .entry)) (now (samples .entry)) (now (weights .entry)) (now (flow .entry)) ⌝ }
+    ensures { λ _. ⌜ now (weights .exit) ≡ readWeights (now (tape .entry)) (now (samples .entry)) (now (weights .entry)) (now (flow .entry)) ⌝ }
+    ensures { λ _. ⌜ now (flow .exit) ≡ readFlow (now (tape .entry)) (now (samples .entry)) (now (weights .entry)) (now (flow .entry)) ⌝ }
 {
     let terms = t.terms;
     let rounds = t.rounds;
-    let start = 15 + 2 * t.samples;
-    let place = beyond_from(tape, start, t.flows, terms.weight);
+    let own = 15 + 2 * t.samples;
+    let start = own + 3 * t.weights;
+    let place = beyond_from(tape, terms.weight, own, t.weights, start, t.flows);
     if place < t.flows {
         return ReadResult::Refused { number: 8, place };
     }
     fill_samples(tape, 15, t.samples, samples);
+    fill_weights(tape, own, t.weights, weights);
     fill_flow(tape, start, t.flows, flow);
     ReadResult::Job {
         terms,
         rounds,
+        weighted: t.weights != 0,
         flowed: t.flows != 0,
     }
 }
 
-// A tape is read into the front of the buffers. A refused one leaves both as they were.
-pub fn read(tape: &[u8], samples: &mut [u8], flow: &mut [i32]) -> ReadResult
-    ensures { λ r. ⌜ readAnswerOf r ≡ readAnswer (now (tape .entry)) (now (samples .entry)) (now (flow .entry)) ⌝ }
-    ensures { λ _. ⌜ now (samples .exit) ≡ readSamples (now (tape .entry)) (now (samples .entry)) (now (flow .entry)) ⌝ }
-    ensures { λ _. ⌜ now (flow .exit) ≡ readFlow (now (tape .entry)) (now (samples .entry)) (now (flow .entry)) ⌝ }
-    ensures { λ r. ⌜ ((readAnswerOf r .number ≡ 0) ↔ ReadAllowed (now (tape .entry)) (now (samples .entry)) (now (flow .entry))) ⌝ }
-    ensures { λ r. ⌜ (readAnswerOf r .number ≡ 0 → WritesBack (readAnswerOf r .terms) (readAnswerOf r .rounds) (take (pixelsOf (readAnswerOf r .terms)) (now (samples .exit))) (take (flowCount (readAnswerOf r)) (now (flow .exit))) (now (tape .entry))) ⌝ }
+// A tape is read into the front of the buffers. A refused one leaves them all as they were.
+pub fn read(tape: &[u8], samples: &mut [u8], weights: &mut [i32], flow: &mut [i32]) -> ReadResult
+    ensures { λ r. ⌜ readAnswerOf r ≡ readAnswer (now (tape .entry)) (now (samples .entry)) (now (weights .entry)) (now (flow .entry)) ⌝ }
+    ensures { λ _. ⌜ now (samples .exit) ≡ readSamples (now (tape .entry)) (now (samples .entry)) (now (weights .entry)) (now (flow .entry)) ⌝ }
+    ensures { λ _. ⌜ now (weights .exit) ≡ readWeights (now (tape .entry)) (now (samples .entry)) (now (weights .entry)) (now (flow .entry)) ⌝ }
+    ensures { λ _. ⌜ now (flow .exit) ≡ readFlow (now (tape .entry)) (now (samples .entry)) (now (weights .entry)) (now (flow .entry)) ⌝ }
+    ensures { λ r. ⌜ ((readAnswerOf r .number ≡ 0) ↔ ReadAllowed (now (tape .entry)) (now (samples .entry)) (now (weights .entry)) (now (flow .entry))) ⌝ }
+    ensures { λ r. ⌜ (readAnswerOf r .number ≡ 0 → WritesBack (readAnswerOf r .terms) (readAnswerOf r .rounds) (take (pixelsOf (readAnswerOf r .terms)) (now (samples .exit))) (take (weightCount (readAnswerOf r)) (now (weights .exit))) (take (flowCount (readAnswerOf r)) (now (flow .exit))) (now (tape .entry))) ⌝ }
 {
     let lent = Lent {
         samples: samples.len(),
+        weights: weights.len(),
         flow: flow.len(),
         followed: false,
     };
     let scanned = scan_tape(tape, 0, fresh(), lent);
     match scanned {
         Scanned::Refused(number, place, _, _) => ReadResult::Refused { number, place },
-        Scanned::Whole(t, _) => take_numbers(tape, t, samples, flow),
+        Scanned::Whole(t, _) => take_numbers(tape, t, samples, weights, flow),
     }
 }

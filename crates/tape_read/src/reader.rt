@@ -7,8 +7,7 @@ use records::tally::Tally;
 use steps::Step;
 use steps::take_record;
 ghost use mathlib.Core.Path.{_≡_};
-ghost use Prim.Native.Nat.{_<_, _^_};
-ghost use Rattle.steps.specs.Step.{stepOf};
+ghost use Rattle.steps.specs.Step.{CountsFit, stepOf};
 
 pub struct Reader<'a> {
     pub tape: &'a [u8],
@@ -24,7 +23,7 @@ pub fn new<'a>(tape: &'a [u8], at: usize) -> Reader<'a>
 
 // The next record, read and taken into the tally.
 pub fn next<'a>(r: Reader<'a>, t: Tally, lent: Lent) -> Step
-    requires { ⌜ (t .samples < 2 ^ 63) × (t .flows < 2 ^ 63) ⌝ }
+    requires { ⌜ CountsFit t ⌝ }
     ensures { λ s. ⌜ s ≡ stepOf (now (r .entry .tape)) (r .entry .at) t lent ⌝ }
 {
     take_record(r.tape, r.at, t, lent)

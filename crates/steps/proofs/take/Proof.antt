@@ -41,6 +41,12 @@ enum-told-3 c = search needs
 add-now-2 : tie.Need-add-now-2
 add-now-2 c = search needs
 
+enum-known-entry-4 : tie.Need-enum-known-entry-4
+enum-known-entry-4 c = search needs
+
+take-pair-weight-requires : tie.Need-take-pair-weight-requires
+take-pair-weight-requires c κs = search needs
+
 -- the step of the record that the arm knows
 known : (c : tie.Start) {e : Entry} → c .args .entry ≡ e → judgedEntry (c .args .t) e (c .args .next) (c .args .at) (c .args .lent) ≡ judgedEntry (c .args .t) (c .args .entry) (c .args .next) (c .args .at) (c .args .lent)
 known c h = ap (λ (e : Entry). judgedEntry (c .args .t) e (c .args .next) (c .args .at) (c .args .lent)) (sym h)
@@ -71,6 +77,9 @@ returns-6 c =
     let h = c .before .enum-told3 .given in
     judged-entry (s .args .t) (Entry.Flow (h .0 .0)) (s .args .next) (s .args .at) (s .args .lent) accepted ∙ known s (h .1)
 
+returns-7 : tie.Need-returns-7
+returns-7 c = c .take-pair-weight .ensures ∙ known (c .before .before .before .before) (c .before .before .entry4 .given .1)
+
 pub take-spec : {M : Type 1} → statement M
 take-spec =
     tie.close
@@ -86,9 +95,12 @@ take-spec =
     add-now
     enum-told-3
     add-now-2
+    enum-known-entry-4
+    take-pair-weight-requires
     returns
     returns-2
     returns-3
     returns-4
     returns-5
-    returns-6)
+    returns-6
+    returns-7)

@@ -1,12 +1,13 @@
 -- `steps::take_size` meets its contract. Assumes nothing.
 use mathlib.Core.Path.{_≡_, sym, ap, ap₂, _∙_}
-use mathlib.Core.Bool.{true, not, _||_}
+use mathlib.Core.Bool.{Bool, true, not, _||_}
 use Prim.Native.Nat.{ℕ, _*_}
 use borrow.Author.Needs.{needs}
 use borrow.Author.Tests.{not-false}
 use lib.Dec.{ltb}
 use lib.ListN.{length}
 use Rattle.model.specs.declared.Entry.{Entry}
+use Rattle.model.specs.declared.Lent.{Lent}
 use Rattle.model.specs.Grid.{sizeAllowed, gridPairs}
 use Rattle.model.specs.Tape.{sized}
 use Rattle.model.proofs.Refusals.{accepted, refused, passed}
@@ -33,27 +34,37 @@ pixels-requires c κs = allowed c
 pairs-requires : tie.Need-pairs-requires
 pairs-requires c κs = allowed (c .before)
 
--- whether a buffer is too short
+-- whether so many samples or pairs are too many for a buffer
+abbrev tooMany : Lent → ℕ → ℕ → Bool
+tooMany lent pixels pairs = ltb (lent .samples) pixels || ltb (lent .weights) pairs || ltb (lent .flow) pairs
+
 short : (c : tie.After-pairs) → let a = c .before .before .before .before .args in
-    (ltb (a .lent .samples) (c .before .pixels .result) || ltb (a .lent .flow) (c .pairs .result))
-    ≡ (ltb (a .lent .samples) (a .width * a .height) || ltb (a .lent .flow) (length (gridPairs (a .width) (a .height))))
-short c =
-    let a = c .before .before .before .before .args in
-    ap₂ (λ (m n : ℕ). ltb (a .lent .samples) m || ltb (a .lent .flow) n) (c .before .pixels .ensures) (c .pairs .ensures)
+    tooMany (a .lent) (c .before .pixels .result) (c .pairs .result)
+    ≡ tooMany (a .lent) (a .width * a .height) (length (gridPairs (a .width) (a .height)))
+short c = ap₂ (tooMany (c .before .before .before .before .args .lent)) (c .before .pixels .ensures) (c .pairs .ensures)
 
 returns-2 : tie.Need-returns-2
 returns-2 c =
-    let s = c .before .before .before in
+    let s = c .before .before .before .before in
     let a = s .before .before .before .before .args in
     judged-entry (a .t) (Entry.Size (a .width) (a .height)) (a .next) (a .at) (a .lent)
     (passed _ _ (ap not (allowed (s .before .before))) ∙ refused _ _ (sym (short s) ∙ c .if2 .taken))
 
 returns-3 : tie.Need-returns-3
 returns-3 c =
-    let s = c .before .before .before in
+    let s = c .before .before .before .before in
     let a = s .before .before .before .before .args in
     ap₂ (λ (m n : ℕ). Step.More
-    (record { header = 1; terms = sized (a .width) (a .height); rounds = a .t .rounds; pixels = m; pairs = n; samples = a .t .samples; flows = a .t .flows })
+    (record {
+      header = 1;
+      terms = sized (a .width) (a .height);
+      rounds = a .t .rounds;
+      pixels = m;
+      pairs = n;
+      samples = a .t .samples;
+      weights = a .t .weights;
+      flows = a .t .flows;
+    })
     (a .next)) (s .before .pixels .ensures) (s .pairs .ensures)
     ∙ judged-entry (a .t) (Entry.Size (a .width) (a .height)) (a .next) (a .at) (a .lent)
     (passed _ _ (ap not (allowed (s .before .before))) ∙ passed _ _ (sym (short s) ∙ c .if2 .left) ∙ accepted)

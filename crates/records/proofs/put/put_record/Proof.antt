@@ -61,6 +61,12 @@ enum-known-entry-5 c = search needs
 put-number-requires : tie.Need-put-number-requires
 put-number-requires c κs = room (c .before .before .before .before .before) (c .before .before .entry5 .given .1)
 
+enum-known-entry-6 : tie.Need-enum-known-entry-6
+enum-known-entry-6 c = search needs
+
+put-weight-requires : tie.Need-put-weight-requires
+put-weight-requires c κs = room (c .before .before .before .before .before) (c .before .before .entry6 .given .1)
+
 same-length : tie.Need-same-length
 same-length c = search needs
 
@@ -102,6 +108,12 @@ returns-6 c =
     known (c .before .before .before .before .before .before .before .before) (c .before .before .before .before .before .entry5 .given .1)
     (subst (λ (y : ℤ). Put (a .o) (encoded (Entry.Flow y)) (a .output .now) (c .before .before .put-number .result) (c .before .before .put-number .last .0)) (toZ-ofZ f) (c .before .before .put-number .ensures))
 
+same-length-7 : tie.Need-same-length-7
+same-length-7 c = search needs
+
+returns-7 : tie.Need-returns-7
+returns-7 c = known (c .before .before .before .before .before .before .before .before) (c .before .before .before .before .before .entry6 .given .1) (c .before .before .put-weight .ensures)
+
 pub put-record-spec : {M : Type 1} → statement M
 put-record-spec =
     tie.close
@@ -119,6 +131,8 @@ put-record-spec =
     put-code-requires
     enum-known-entry-5
     put-number-requires
+    enum-known-entry-6
+    put-weight-requires
     same-length
     returns
     same-length-2
@@ -130,4 +144,6 @@ put-record-spec =
     same-length-5
     returns-5
     same-length-6
-    returns-6)
+    returns-6
+    same-length-7
+    returns-7)

@@ -80,6 +80,9 @@ shared-slice-read-t23 c = omega (arith, room (c .before .before) 4 (c .before .m
 four-at-requires : tie.Need-four-at-requires
 four-at-requires c κs = omega (arith, room (c .before) 5 (c .match .keys5))
 
+two-at-requires-6 : tie.Need-two-at-requires-6
+two-at-requires-6 c κs = omega (arith, room (c .before) 6 (c .match .keys6))
+
 returns : tie.Need-returns
 returns c =
     let a = c .before .before .before .before .before .args in
@@ -114,21 +117,29 @@ returns-5 c =
     ∙ ap (λ (n : ℕ). fromFour n (b 1) (b 2) (b 3)) (first (a .tape .now) (a .at)))
     ∙ at-kind (a .tape .now) (a .at) (c .before .match .keys5)
 
--- kind 0, or none of the table
-bare : (k : ℕ) (b : ℕ → ℕ) → ¬ (k ≡ 1) → ¬ (k ≡ 2) → ¬ (k ≡ 3) → ¬ (k ≡ 4) → ¬ (k ≡ 5) → Entry.End ≡ decoded k b
-bare zero b h₁ h₂ h₃ h₄ h₅ = refl
-bare (suc zero) b h₁ h₂ h₃ h₄ h₅ = absurd (h₁ refl)
-bare (suc (suc zero)) b h₁ h₂ h₃ h₄ h₅ = absurd (h₂ refl)
-bare (suc (suc (suc zero))) b h₁ h₂ h₃ h₄ h₅ = absurd (h₃ refl)
-bare (suc (suc (suc (suc zero)))) b h₁ h₂ h₃ h₄ h₅ = absurd (h₄ refl)
-bare (suc (suc (suc (suc (suc zero))))) b h₁ h₂ h₃ h₄ h₅ = absurd (h₅ refl)
-bare (suc (suc (suc (suc (suc (suc k)))))) b h₁ h₂ h₃ h₄ h₅ = refl
-
 returns-6 : tie.Need-returns-6
 returns-6 c =
+    let a = c .before .before .before .before .args in
+    ap Entry.PairWeight (low-two (a .tape .now) (a .at) (c .two-at6 .ensures .0))
+    ∙ at-kind (a .tape .now) (a .at) (c .before .match .keys6)
+
+-- kind 0, or none of the table
+bare : (k : ℕ) (b : ℕ → ℕ) → ¬ (k ≡ 1) → ¬ (k ≡ 2) → ¬ (k ≡ 3) → ¬ (k ≡ 4) → ¬ (k ≡ 5) → ¬ (k ≡ 6) → Entry.End ≡ decoded k b
+bare zero b h₁ h₂ h₃ h₄ h₅ h₆ = refl
+bare (suc zero) b h₁ h₂ h₃ h₄ h₅ h₆ = absurd (h₁ refl)
+bare (suc (suc zero)) b h₁ h₂ h₃ h₄ h₅ h₆ = absurd (h₂ refl)
+bare (suc (suc (suc zero))) b h₁ h₂ h₃ h₄ h₅ h₆ = absurd (h₃ refl)
+bare (suc (suc (suc (suc zero)))) b h₁ h₂ h₃ h₄ h₅ h₆ = absurd (h₄ refl)
+bare (suc (suc (suc (suc (suc zero))))) b h₁ h₂ h₃ h₄ h₅ h₆ = absurd (h₅ refl)
+bare (suc (suc (suc (suc (suc (suc zero)))))) b h₁ h₂ h₃ h₄ h₅ h₆ = absurd (h₆ refl)
+bare (suc (suc (suc (suc (suc (suc (suc k))))))) b h₁ h₂ h₃ h₄ h₅ h₆ = refl
+
+returns-7 : tie.Need-returns-7
+returns-7 c =
     let r = c .match .rest in
     let a = c .before .before .before .args in
-    bare _ (λ i. getD (a .tape .now) (a .at + 1 + i) 0) (r .0 .0 .0 .0 .1) (r .0 .0 .0 .1) (r .0 .0 .1) (r .0 .1) (r .1)
+    bare _ (λ i. getD (a .tape .now) (a .at + 1 + i) 0)
+    (r .0 .0 .0 .0 .0 .1) (r .0 .0 .0 .0 .1) (r .0 .0 .0 .1) (r .0 .0 .1) (r .0 .1) (r .1)
 
 pub decode-spec : {M : Type 1} → statement M
 decode-spec =
@@ -150,9 +161,11 @@ decode-spec =
     cast-t21
     shared-slice-read-t23
     four-at-requires
+    two-at-requires-6
     returns
     returns-2
     returns-3
     returns-4
     returns-5
-    returns-6)
+    returns-6
+    returns-7)

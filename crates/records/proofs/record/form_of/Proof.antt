@@ -1,10 +1,11 @@
 -- `records::record::form_of` meets its contract: at each kind the table of the definition computes to the arm. Assumes nothing.
 use mathlib.Core.Path.{_≡_, ap, sym}
 use mathlib.Core.Bool.{Bool, cond}
-use Prim.Native.Nat.{ℕ, _≤_}
+use Prim.Native.Nat.{ℕ, suc, _≤_, zero-le}
 use native.Mathlib.Omega.{arith}
 use borrow.Author.Tests.{le-ltb}
-use Rattle.model.specs.Tape.{allowedAfter, bodyLength}
+use lib.ListN.{length}
+use Rattle.model.specs.Tape.{allowedAfter, bodyLengths, bodyLength}
 use Rattle.records.specs.declared.record.Form.{Form}
 use Rattle.records.specs.declared.tally.Tally.{Tally}
 use Rattle.records.specs.Tally.{may}
@@ -12,40 +13,55 @@ use Rattle.records.specs.Record.{formOf}
 use Rattle.records.proofs.record.form_of.Statement.{statement}
 use Rattle.records.proofs.record.form_of.Tie as tie
 
+-- the tally, where the kind is looked at
+abbrev tally : tie.After-struct-known4 → Tally
+tally c = c .before .before .before .before .args .t
+
 at-kind : (t : Tally) {kind k : ℕ} → kind ≡ k → formOf k (may t k) ≡ formOf kind (may t kind)
 at-kind t e = ap (λ (n : ℕ). formOf n (may t n)) (sym e)
 
 returns : tie.Need-returns
 unfolding allowedAfter
-returns c = at-kind (c .before .before .before .before .before .args .t) (c .before .before .match .keys1)
+returns c = at-kind (tally (c .before .before .before)) (c .before .before .match .keys1)
 
 returns-2 : tie.Need-returns-2
 unfolding allowedAfter
-returns-2 c = at-kind (c .before .before .before .before .args .t) (c .before .match .keys2)
+returns-2 c = at-kind (tally (c .before .before)) (c .before .match .keys2)
 
 returns-3 : tie.Need-returns-3
 unfolding allowedAfter
-returns-3 c = at-kind (c .before .before .before .before .args .t) (c .before .match .keys3)
+returns-3 c = at-kind (tally (c .before .before)) (c .before .match .keys3)
 
 returns-4 : tie.Need-returns-4
 unfolding allowedAfter
-returns-4 c = at-kind (c .before .before .before .before .args .t) (c .before .match .keys4)
+returns-4 c = at-kind (tally (c .before .before)) (c .before .match .keys4)
 
 returns-5 : tie.Need-returns-5
 unfolding allowedAfter
-returns-5 c = at-kind (c .before .before .before .before .before .args .t) (c .before .before .match .keys5)
+returns-5 c = at-kind (tally (c .before .before .before)) (c .before .before .match .keys5)
 
 returns-6 : tie.Need-returns-6
 unfolding allowedAfter
-returns-6 c = at-kind (c .before .before .before .before .args .t) (c .before .match .keys6)
+returns-6 c = at-kind (tally (c .before .before)) (c .before .match .keys6)
+
+returns-7 : tie.Need-returns-7
+unfolding allowedAfter
+returns-7 c = at-kind (tally (c .before .before .before)) (c .before .before .match .keys7)
 
 -- no kind of the table
-returns-7 : tie.Need-returns-7
-returns-7 c =
-    let k : ℕ = c .before .before .before .args .kind in
-    let h : 6 ≤ k = omega arith in
-    sym (ap (λ (t : Bool). cond t (Form.Body (bodyLength k) (may (c .before .before .before .args .t) k)) Form.Unknown) (le-ltb k 6 h))
+above : {k n : ℕ} → n ≤ k → ¬ (k ≡ n) → suc n ≤ k
+above h e = omega (arith, e)
+
+returns-8 : tie.Need-returns-8
+returns-8 c =
+    let k : ℕ = c .before .before .before .before .before .args .kind in
+    let r = c .match .rest in
+    let h₃ : 3 ≤ k = above (above (above zero-le (r .0 .0 .0 .0 .0 .0 .1)) (r .0 .0 .0 .0 .0 .1)) (r .0 .0 .0 .0 .1) in
+    let h₇ : length bodyLengths ≤ k = above (above (above (above h₃ (r .0 .0 .0 .1)) (r .0 .0 .1)) (r .0 .1)) (r .1) in
+    sym
+    (ap (λ (t : Bool). cond t (Form.Body (bodyLength k) (may (tally (c .before)) k)) Form.Unknown)
+    (le-ltb k (length bodyLengths) h₇))
 
 pub form-of-spec : {M : Type 1} → statement M
 form-of-spec =
-    tie.close (tie.spec returns returns-2 returns-3 returns-4 returns-5 returns-6 returns-7)
+    tie.close (tie.spec returns returns-2 returns-3 returns-4 returns-5 returns-6 returns-7 returns-8)

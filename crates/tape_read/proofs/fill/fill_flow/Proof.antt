@@ -1,17 +1,14 @@
 -- `tape_read::fill::fill_flow` meets its contract. The loop's invariant: the first `j` numbers have been laid down.
 -- Assumes nothing.
-use mathlib.Core.Path.{_≡_, ap, _∙_}
+use mathlib.Core.Path.{_≡_, _∙_}
 use mathlib.Core.List.{List}
-use Prim.Native.Nat.{ℕ, _+_, _*_, _-_, _≤_, zero-le}
+use Prim.Native.Nat.{ℕ, _+_, _*_, _-_}
 use native.Mathlib.Omega.{arith}
 use lib.IntN.{ℤ}
-use lib.ListN.{length, set}
-use mir.Syntax.{w32}
-use mir.Val.{toZ, ofZ}
+use lib.ListN.{length}
 use mir.Facts.{toZ-ofZ}
-use Rattle.model.specs.Lists.{table, overwritten}
 use Rattle.tape_read.specs.Places.{numberAt}
-use Rattle.roundtrip.proofs.Sequences.{filled-none, filled-length, filled-more}
+use Rattle.tape_read.proofs.Filling.{Filled, fill-start, fill-on, fill-length, fill-end}
 use Rattle.tape_read.proofs.fill.fill_flow.Statement.{statement}
 use Rattle.tape_read.proofs.fill.fill_flow.Tie as tie
 
@@ -19,14 +16,13 @@ abbrev numbers : List ℕ → ℕ → ℕ → ℤ
 numbers tape start j = numberAt tape (start + 5 * j)
 
 abbrev Inv-loop : tie.InvT-loop
-Inv-loop tape start count flow₀ j₀ flow j =
-    (j ≤ count) × (flow ≡ overwritten (table j (numbers tape start)) flow₀)
+Inv-loop tape start count flow₀ j₀ flow j = Filled flow₀ count (numbers tape start) j flow
 
 abbrev μ-loop : tie.MeasureT-loop
 μ-loop tape start count flow₀ j₀ flow j = count - j
 
 loop-holds : tie.Need-loop-holds Inv-loop μ-loop
-loop-holds c = (zero-le, filled-none _ _)
+loop-holds c = fill-start _ _ _
 
 mul-four-at : tie.Need-mul-four-at Inv-loop μ-loop
 mul-four-at c = omega arith
@@ -42,7 +38,7 @@ four-at-requires c κs = omega arith
 
 -- the buffer keeps its length
 long : (c : tie.At-loop Inv-loop μ-loop) → length (c .loop .flow) ≡ length (c .before .before .args .flow .now)
-long c = ap length (c .loop .inv .1) ∙ filled-length _ _ (c .loop .j) (omega (arith, c .before .before .pre, c .loop .inv .0))
+long c = fill-length _ _ _ (c .before .before .pre .1) (c .loop .inv)
 
 mul-t11 : tie.Need-mul-t11 Inv-loop μ-loop
 mul-t11 c = omega arith
@@ -59,22 +55,15 @@ loop-less c = omega arith
 loop-again : tie.Need-loop-again Inv-loop μ-loop
 loop-again c =
     let s = c .before .before in
-    let a = s .before .before .args in (
-      omega arith,
-      ap (λ (l : List ℤ). set l (s .loop .j) (toZ w32 (ofZ w32 (c .four-at .result)))) (s .loop .inv .1)
-          ∙ filled-more (a .flow .now) (numbers (a .tape .now) (a .start)) (s .loop .j) _ (omega arith)
-          (toZ-ofZ (record { sfits = c .four-at .ok }) ∙ c .four-at .ensures),
-    )
+    let a = s .before .before .args in
+    fill-on _ _ (numbers (a .tape .now) (a .start)) (s .before .before .pre .1) (s .loop .inv) (c .before .loop-test .taken)
+    (toZ-ofZ (record { sfits = c .four-at .ok }) ∙ c .four-at .ensures)
 
 same-length : tie.Need-same-length Inv-loop μ-loop
 same-length c = long (c .before)
 
 returns : tie.Need-returns Inv-loop μ-loop
-returns c =
-    let a = c .before .before .before .args in
-    let all : c .before .loop .j ≡ a .count = omega arith in
-    c .before .loop .inv .1
-    ∙ ap (λ (n : ℕ). overwritten (table n (numbers (a .tape .now) (a .start))) (a .flow .now)) all
+returns c = fill-end _ _ _ (c .before .loop .inv) (c .loop-test .left)
 
 pub fill-flow-spec : {M : Type 1} → statement M
 fill-flow-spec =

@@ -1,12 +1,11 @@
 -- `tape_read::fill::fill_samples` meets its contract. The loop's invariant: the first `i` samples have been laid down.
 -- Assumes nothing.
-use mathlib.Core.Path.{_≡_, refl, ap, _∙_}
+use mathlib.Core.Path.{_≡_, refl}
 use mathlib.Core.List.{List}
-use Prim.Native.Nat.{ℕ, _+_, _*_, _-_, _≤_, zero-le}
+use Prim.Native.Nat.{ℕ, _+_, _*_, _-_}
 use native.Mathlib.Omega.{arith}
-use lib.ListN.{length, getD, set}
-use Rattle.model.specs.Lists.{table, overwritten}
-use Rattle.roundtrip.proofs.Sequences.{filled-none, filled-length, filled-more}
+use lib.ListN.{length, getD}
+use Rattle.tape_read.proofs.Filling.{Filled, fill-start, fill-on, fill-length, fill-end}
 use Rattle.tape_read.proofs.fill.fill_samples.Statement.{statement}
 use Rattle.tape_read.proofs.fill.fill_samples.Tie as tie
 
@@ -14,14 +13,13 @@ abbrev codes : List ℕ → ℕ → ℕ → ℕ
 codes tape start i = getD tape (start + 2 * i + 1) 0
 
 abbrev Inv-loop : tie.InvT-loop
-Inv-loop tape start count samples₀ i₀ samples i =
-    (i ≤ count) × (samples ≡ overwritten (table i (codes tape start)) samples₀)
+Inv-loop tape start count samples₀ i₀ samples i = Filled samples₀ count (codes tape start) i samples
 
 abbrev μ-loop : tie.MeasureT-loop
 μ-loop tape start count samples₀ i₀ samples i = count - i
 
 loop-holds : tie.Need-loop-holds Inv-loop μ-loop
-loop-holds c = (zero-le, filled-none _ _)
+loop-holds c = fill-start _ _ _
 
 mul-samples : tie.Need-mul-samples Inv-loop μ-loop
 mul-samples c = omega arith
@@ -37,7 +35,7 @@ shared-slice-read-samples c = omega arith
 
 -- the buffer keeps its length
 long : (c : tie.At-loop Inv-loop μ-loop) → length (c .loop .samples) ≡ length (c .before .args .samples .now)
-long c = ap length (c .loop .inv .1) ∙ filled-length _ _ (c .loop .i) (omega (arith, c .before .pre, c .loop .inv .0))
+long c = fill-length _ _ _ (c .before .pre .1) (c .loop .inv)
 
 slice-write-samples : tie.Need-slice-write-samples Inv-loop μ-loop
 slice-write-samples c = omega (arith, long (c .before .before))
@@ -51,21 +49,14 @@ loop-less c = omega arith
 loop-again : tie.Need-loop-again Inv-loop μ-loop
 loop-again c =
     let s = c .before .before in
-    let a = s .before .args in (
-      omega arith,
-      ap (λ (l : List ℕ). set l (s .loop .i) (codes (a .tape .now) (a .start) (s .loop .i))) (s .loop .inv .1)
-          ∙ filled-more (a .samples .now) (codes (a .tape .now) (a .start)) (s .loop .i) _ (omega arith) refl,
-    )
+    let a = s .before .args in
+    fill-on _ _ (codes (a .tape .now) (a .start)) (s .before .pre .1) (s .loop .inv) (c .before .loop-test .taken) refl
 
 same-length : tie.Need-same-length Inv-loop μ-loop
 same-length c = long (c .before)
 
 returns : tie.Need-returns Inv-loop μ-loop
-returns c =
-    let a = c .before .before .args in
-    let all : c .before .loop .i ≡ a .count = omega arith in
-    c .before .loop .inv .1
-    ∙ ap (λ (n : ℕ). overwritten (table n (codes (a .tape .now) (a .start))) (a .samples .now)) all
+returns c = fill-end _ _ _ (c .before .loop .inv) (c .loop-test .left)
 
 pub fill-samples-spec : {M : Type 1} → statement M
 fill-samples-spec =

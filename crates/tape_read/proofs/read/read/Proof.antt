@@ -1,13 +1,14 @@
 -- `tape_read::read::read` meets its contract. Assumes nothing.
 use mathlib.Core.Path.{_≡_, refl, sym, subst, subst⁻¹}
 use native.Mathlib.Omega.{arith}
+use Rattle.model.specs.declared.Lent.{Lent}
 use Rattle.model.specs.Tape.{lentBy}
 use Rattle.records.specs.declared.tally.Tally.{Tally}
 use Rattle.tape_read.specs.declared.scan.Scanned.{Scanned}
 use Rattle.tape_read.specs.Scan.{Reached, StopsAt}
 use Rattle.tape_read.proofs.Promised.{promised}
 use Rattle.tape_read.proofs.Reached.{start, whole-tape, refused}
-use Rattle.roundtrip.proofs.Judged.{refused-parse, answer-by, samples-by, flow-by}
+use Rattle.roundtrip.proofs.Judged.{refused-parse, answer-by, samples-by, weights-by, flow-by}
 use borrow.Author.Needs.{needs}
 use Rattle.tape_read.proofs.read.read.Statement.{statement}
 use Rattle.tape_read.proofs.read.read.Tie as tie
@@ -18,7 +19,8 @@ fresh-requires c κs = search needs
 scan-tape-requires : tie.Need-scan-tape-requires
 scan-tape-requires c κs =
     let a = c .before .before .before .args in
-    subst⁻¹ (λ (t : Tally). Reached (a .tape .now) (lentBy (a .samples .now) (a .flow .now)) t 0) (c .fresh .ensures) (start (a .tape .now) (lentBy (a .samples .now) (a .flow .now)))
+    let lent : Lent = lentBy (a .samples .now) (a .weights .now) (a .flow .now) in
+    subst⁻¹ (λ (t : Tally). Reached (a .tape .now) lent t 0) (c .fresh .ensures) (start (a .tape .now) lent)
 
 enum-known-scanned : tie.Need-enum-known-scanned
 enum-known-scanned c = search needs
@@ -28,14 +30,14 @@ enum-known-scanned-2 c = search needs
 
 -- where the scan stopped, by the case of its answer
 stopped : (c : tie.After-scan-tape) {s : Scanned} → c .scan-tape .result ≡ s → let a = c .before .before .before .before .args in
-    StopsAt (a .tape .now) (lentBy (a .samples .now) (a .flow .now)) s
+    StopsAt (a .tape .now) (lentBy (a .samples .now) (a .weights .now) (a .flow .now)) s
 stopped c e =
     let a = c .before .before .before .before .args in
-    subst (StopsAt (a .tape .now) (lentBy (a .samples .now) (a .flow .now))) e (c .scan-tape .ensures)
+    subst (StopsAt (a .tape .now) (lentBy (a .samples .now) (a .weights .now) (a .flow .now))) e (c .scan-tape .ensures)
 
 take-numbers-requires : tie.Need-take-numbers-requires
 take-numbers-requires c κs =
-    let d = c .before .before .before in
+    let d = c .before .before .before .before in
     let s = stopped (d .before .before) (d .scanned2 .given .1) in
     whole-tape _ _ (s .0) refl (s .1)
 
@@ -45,11 +47,13 @@ returns c =
     let k = d .before .before in
     let a = k .before .before .args in
     let s = stopped d (c .before .scanned .given .1) in
-    let r = refused-parse (a .tape .now) (a .samples .now) (a .flow .now) (refused _ _ (s .0) (s .1)) in
-    promised (a .tape .now) (a .samples .now) (a .flow .now) (λ i. omega (arith, k .before .shared-slice-known .given i))
-    (sym (answer-by (a .tape .now) (a .samples .now) (a .flow .now) r))
-    (sym (samples-by (a .tape .now) (a .samples .now) (a .flow .now) r))
-    (sym (flow-by (a .tape .now) (a .samples .now) (a .flow .now) r))
+    let r = refused-parse (a .tape .now) (a .samples .now) (a .weights .now) (a .flow .now) (refused _ _ (s .0) (s .1)) in
+    promised (a .tape .now) (a .samples .now) (a .weights .now) (a .flow .now)
+    (λ i. omega (arith, k .before .shared-slice-known .given i))
+    (sym (answer-by (a .tape .now) (a .samples .now) (a .weights .now) (a .flow .now) r))
+    (sym (samples-by (a .tape .now) (a .samples .now) (a .weights .now) (a .flow .now) r))
+    (sym (weights-by (a .tape .now) (a .samples .now) (a .weights .now) (a .flow .now) r))
+    (sym (flow-by (a .tape .now) (a .samples .now) (a .weights .now) (a .flow .now) r))
 
 same-length : tie.Need-same-length
 same-length c = search needs
@@ -57,13 +61,17 @@ same-length c = search needs
 same-length-2 : tie.Need-same-length-2
 same-length-2 c = search needs
 
+same-length-3 : tie.Need-same-length-3
+same-length-3 c = search needs
+
 returns-2 : tie.Need-returns-2
 returns-2 c =
-    let n = c .before .before .before in
-    let k = n .before .before .before .before .before .before .before .before .before in
+    let n = c .before .before .before .before in
+    let k = n .before .before .before .before .before .before .before .before .before .before in
     let a = k .before .args in
     let e = n .take-numbers .ensures in
-    promised (a .tape .now) (a .samples .now) (a .flow .now) (λ i. omega (arith, k .shared-slice-known .given i)) (e .0) (e .1 .0) (e .1 .1)
+    promised (a .tape .now) (a .samples .now) (a .weights .now) (a .flow .now)
+    (λ i. omega (arith, k .shared-slice-known .given i)) (e .0) (e .1 .0) (e .1 .1 .0) (e .1 .1 .1)
 
 pub read-spec : {M : Type 1} → statement M
 read-spec =
@@ -77,4 +85,5 @@ read-spec =
     returns
     same-length
     same-length-2
+    same-length-3
     returns-2)

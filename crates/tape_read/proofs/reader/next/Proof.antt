@@ -43,7 +43,7 @@ use denote.Triple.Table.{entered, cited}
 use denote.Triple.Walked.{says, needs, Stays, stay-none, walkOf, goes-none, Walks, ends-at, walked, walk-meets}
 use denote.Exit.{yes}
 use denote.Triple.Clauses.{ensured, lasts}
-use Rattle.steps.specs.Step.{stepOf}
+use Rattle.steps.specs.Step.{CountsFit, stepOf}
 use Rattle.tape_read.specs.declared.reader.Reader.{Reader}
 use Rattle.model.specs.declared.Lent.{Lent}
 use Rattle.steps.specs.declared.Step.{Step}
@@ -110,10 +110,6 @@ module _ {M : Type 1} (𝓤 : URA M) (H : Heap 𝓤) (A : Atoms 𝓤) (W : Given
   abbrev vd : Values (D .parts)
   vd = (d .tape, (d .at, tt))
 
-  -- what the callee asks of the tally
-  abbrev Small : Type 0
-  Small = (t .samples < 2 ^ 63) × (t .flows < 2 ^ 63)
-
   -- what the callee is passed
   abbrev passed : Vals step.signature (κ, tt)
   passed = (v ∷ [], (vint w64 (d .at) ∷ [], (tm ∷ [], (zm ∷ [], tt))))
@@ -121,11 +117,11 @@ module _ {M : Type 1} (𝓤 : URA M) (H : Heap 𝓤) (A : Atoms 𝓤) (W : Given
   abbrev to : Advance 𝓤 H A mem run .Ghost
   to = (((κ, tt), (q, tt), tt, (d .tape, (d .at, (t, (z, tt)))), passed), tt)
 
-  asked : Small → ent 𝓤 (onEntry 𝓤 H A step.signature (κ, tt) (q, tt) (d .tape, (d .at, (t, (z, tt)))) passed) (Advance 𝓤 H A mem run .pre to)
+  asked : CountsFit t → ent 𝓤 (onEntry 𝓤 H A step.signature (κ, tt) (q, tt) (d .tape, (d .at, (t, (z, tt)))) passed) (Advance 𝓤 H A mem run .pre to)
   asked small = qed W ((‵ (flft κ q) ⊛ ‵ ftrue) ∷ ‵ (owns (ShrSlice (named 0) κ u8 ∷ usize ∷ Y.the-row ∷ Z.the-row ∷ []) (d .tape, (d .at, (t, (z, tt)))) passed) ∷ []) ∵ suffices ! _ (id⊢ 𝓤 _) $ says ! small $ join ! $ done !
 
   -- what the struct owns gives what the callee asks, and is kept
-  apart : d .at < 2 ^ 64 → Small → ent 𝓤 (onEntry 𝓤 H A next.signature (κ, tt) (q, tt) (d, (t, (z, tt))) (mach ∷ [], (tm ∷ [], (zm ∷ [], tt)))) (sep 𝓤 (Advance 𝓤 H A mem run .pre to) (sem 𝓤 H A Own))
+  apart : d .at < 2 ^ 64 → CountsFit t → ent 𝓤 (onEntry 𝓤 H A next.signature (κ, tt) (q, tt) (d, (t, (z, tt))) (mach ∷ [], (tm ∷ [], (zm ∷ [], tt)))) (sep 𝓤 (Advance 𝓤 H A mem run .pre to) (sem 𝓤 H A Own))
   apart fits small =
       qed W ((‵ (flft κ q) ⊛ ‵ ftrue) ∷ ‵ (owns (B (κ, tt) ∷ Y.the-row ∷ Z.the-row ∷ []) (d, (t, (z, tt))) (mach ∷ [], (tm ∷ [], (zm ∷ [], tt)))) ∷ []) ∵
       move ! (1 ∷ []) $ fsplit ! $ move ! (1 ∷ []) $ drop ! $ use1 W (‵ Own ⊛ ‵ Own) (LL.copy D (T′.the-copy (namedLft 1 0 tt (κ, tt))) 𝓤 H A W .twice d (mach ∷ [])) $ split ! $
@@ -145,7 +141,7 @@ module _ {M : Type 1} (𝓤 : URA M) (H : Heap 𝓤) (A : Atoms 𝓤) (W : Given
       move ! (1 ∷ []) $ frame ! $ nothing ! $ owned ! Z.the-row (Is Z.the-row) (LL.makes Z.the-type Z′.the-plain 𝓤 H A) z _ is-z $ fjoin ! $ owned ! Y.the-row (Is Y.the-row) (LL.makes Y.the-type Y′.the-plain 𝓤 H A) t _ is-t $ fjoin ! $ move ! (2 ∷ 0 ∷ []) $ fjoin ! $ frame ! $ done !
 
   module _ (C : Calls 𝓤 H) (Λ : Loops 𝓤 H) (fm : FmC 𝓤 H (W .laws) C) (known : Triple 𝓤 (C #steps·take-record) (Advance 𝓤 H A mem run)) where
-    walk : Holds (hasTy (T′.mir (named 0)) mach) × WT mach → Holds (hasTy Y′.mir tm) × WT tm → Holds (hasTy Z′.mir zm) × WT zm → Small → ent 𝓤 (onEntry 𝓤 H A next.signature (κ, tt) (q, tt) (d, (t, (z, tt))) (mach ∷ [], (tm ∷ [], (zm ∷ [], tt)))) (WpFn 𝓤 H C Λ code.function (mach ∷ tm ∷ zm ∷ []) Post)
+    walk : Holds (hasTy (T′.mir (named 0)) mach) × WT mach → Holds (hasTy Y′.mir tm) × WT tm → Holds (hasTy Z′.mir zm) × WT zm → CountsFit t → ent 𝓤 (onEntry 𝓤 H A next.signature (κ, tt) (q, tt) (d, (t, (z, tt))) (mach ∷ [], (tm ∷ [], (zm ∷ [], tt)))) (WpFn 𝓤 H C Λ code.function (mach ∷ tm ∷ zm ∷ []) Post)
     walk wt tw zw small =
         qed W (raw (onEntry 𝓤 H A next.signature (κ, tt) (q, tt) (d, (t, (z, tt))) (mach ∷ [], (tm ∷ [], (zm ∷ [], tt)))) ∷ []) ∵ enter ! C Λ code.function (mach ∷ tm ∷ zm ∷ []) _ $
         alloc1 ! (λ l₀. alloc1 ! (λ l₁. alloc1 ! (λ l₂. alloc1 ! (λ l₃. alloc1 ! (λ l₄. alloc1 ! (λ l₅. alloc0 ! $ params1 ! $ pass1 ! (init ! 8 refl wt) $ pass1 ! (init ! 6 refl tw) $ pass1 ! (init ! 4 refl zw) $ pass0 ! $

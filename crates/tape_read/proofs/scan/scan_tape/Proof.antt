@@ -54,14 +54,14 @@ use denote.Triple.Walked.{says, needs, Stays, stay-none, stay-none-slice, walkOf
 use denote.Exit.{yes}
 use denote.Triple.Clauses.{ensured, lasts}
 use Rattle.tape_read.specs.Scan.{Reached, StopsAt}
-use Rattle.steps.specs.Step.{stepOf}
+use Rattle.steps.specs.Step.{CountsFit, stepOf}
 use Rattle.tape_read.specs.declared.reader.Reader.{Reader}
 use Rattle.records.specs.declared.record.Cursor.{Cursor}
 use Rattle.tape_read.specs.declared.scan.Scanned.{Scanned}
 use Rattle.model.specs.declared.Lent.{Lent}
 use Rattle.steps.specs.declared.Step.{Step}
 use Rattle.records.specs.declared.tally.Tally.{Tally}
-use Rattle.tape_read.proofs.Reached.{small, onward}
+use Rattle.tape_read.proofs.Reached.{onward}
 use Rattle.tape_read.proofs.reader.Reader as T
 use Rattle.tape_read.proofs.reader.Reader.Laws as T′
 use Rattle.records.proofs.record.Cursor as K
@@ -249,7 +249,7 @@ module _ {M : Type 1} (𝓤 : URA M) (H : Heap 𝓤) (A : Atoms 𝓤) (W : Given
     abbrev to-next : Next 𝓤 H A mem run .Ghost
     to-next = (((κ, tt), (q, tt), tt, (r, (t, (z, tt))), (mach ∷ [], (Y′.lowered t ∷ [], (zm ∷ [], tt)))), tt)
 
-    goes-next : (t .samples < 2 ^ 63) × (t .flows < 2 ^ 63) → ent 𝓤 (⋆ 𝓤 H A (‵ (OwnR r) ∷ Token ∷ [])) (Next 𝓤 H A mem run .pre to-next)
+    goes-next : CountsFit t → ent 𝓤 (⋆ 𝓤 H A (‵ (OwnR r) ∷ Token ∷ [])) (Next 𝓤 H A mem run .pre to-next)
     goes-next few =
         qed W (‵ (OwnR r) ∷ Token ∷ []) ∵ suffices ! _ (id⊢ 𝓤 _) $ says ! few $
         nothing ! $ owned ! Z.the-row (Is Z.the-row) (LL.makes Z.the-type Z′.the-plain 𝓤 H A) z _ is-z $ fjoin ! $ owned ! Y.the-row (Is Y.the-row) (LL.makes Y.the-type Y′.the-plain 𝓤 H A) t _ (x .is) $ fjoin ! $
@@ -306,9 +306,9 @@ module _ {M : Type 1} (𝓤 : URA M) (H : Heap 𝓤) (A : Atoms 𝓤) (W : Given
     abbrev fm : FmC 𝓤 H (W .laws) C
     fm = fmOf 𝓤 H (W .laws) 𝓣
 
-    -- no count passes the tape's length, which fits
-    few : (x : At s z) → (x .tally .samples < 2 ^ 63) × (x .tally .flows < 2 ^ 63)
-    few x = omega (arith, small (now s) z (x .reached), p .0 .1 .1)
+    -- the counts do not pass the tape's length, which fits
+    few : (x : At s z) → CountsFit (x .tally)
+    few x = omega (arith, x .reached .counts, x .reached .inside, p .0 .1 .1)
 
     -- nor does the reader's offset
     at-fits : (x : At s z) → x .reader .at < 2 ^ 64

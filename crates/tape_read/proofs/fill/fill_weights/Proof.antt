@@ -1,0 +1,90 @@
+-- `tape_read::fill::fill_weights` meets its contract. The loop's invariant: the first `j` weights have been laid down.
+-- Assumes nothing.
+use mathlib.Core.Path.{_≡_, ap, _∙_}
+use mathlib.Core.List.{List}
+use Prim.Native.Nat.{ℕ, _+_, _*_, _-_}
+use native.Mathlib.Omega.{arith}
+use lib.IntN.{ℤ, pos}
+use lib.ListN.{length}
+use mir.Syntax.{w32}
+use mir.ValLaws.{toZ-pos}
+use Rattle.tape_read.specs.Places.{weightAt}
+use Rattle.tape_read.proofs.Filling.{Filled, fill-start, fill-on, fill-length, fill-end}
+use Rattle.tape_read.proofs.fill.fill_weights.Statement.{statement}
+use Rattle.tape_read.proofs.fill.fill_weights.Tie as tie
+
+abbrev numbers : List ℕ → ℕ → ℕ → ℤ
+numbers tape start j = pos (weightAt tape (start + 3 * j))
+
+abbrev Inv-loop : tie.InvT-loop
+Inv-loop tape start count weights₀ j₀ weights j = Filled weights₀ count (numbers tape start) j weights
+
+abbrev μ-loop : tie.MeasureT-loop
+μ-loop tape start count weights₀ j₀ weights j = count - j
+
+loop-holds : tie.Need-loop-holds Inv-loop μ-loop
+loop-holds c = fill-start _ _ _
+
+mul-two-at : tie.Need-mul-two-at Inv-loop μ-loop
+mul-two-at c = omega arith
+
+add-two-at : tie.Need-add-two-at Inv-loop μ-loop
+add-two-at c = omega arith
+
+add-two-at-2 : tie.Need-add-two-at-2 Inv-loop μ-loop
+add-two-at-2 c = omega arith
+
+two-at-requires : tie.Need-two-at-requires Inv-loop μ-loop
+two-at-requires c κs = omega arith
+
+cast-weights : tie.Need-cast-weights Inv-loop μ-loop
+cast-weights c = record { sfits = omega (arith, c .two-at .ensures .1) }
+
+-- the buffer keeps its length
+long : (c : tie.At-loop Inv-loop μ-loop) → length (c .loop .weights) ≡ length (c .before .before .args .weights .now)
+long c = fill-length _ _ _ (c .before .before .pre .1) (c .loop .inv)
+
+mul-t12 : tie.Need-mul-t12 Inv-loop μ-loop
+mul-t12 c = omega arith
+
+slice-set-from-weights : tie.Need-slice-set-from-weights Inv-loop μ-loop
+slice-set-from-weights c = omega (arith, long (c .before .before))
+
+add-j : tie.Need-add-j Inv-loop μ-loop
+add-j c = omega arith
+
+loop-less : tie.Need-loop-less Inv-loop μ-loop
+loop-less c = omega arith
+
+loop-again : tie.Need-loop-again Inv-loop μ-loop
+loop-again c =
+    let s = c .before .before in
+    let a = s .before .before .args in
+    fill-on _ _ (numbers (a .tape .now) (a .start)) (s .before .before .pre .1) (s .loop .inv) (c .before .loop-test .taken)
+    (toZ-pos w32 _ (omega (arith, c .two-at .ensures .1)) ∙ ap pos (c .two-at .ensures .0))
+
+same-length : tie.Need-same-length Inv-loop μ-loop
+same-length c = long (c .before)
+
+returns : tie.Need-returns Inv-loop μ-loop
+returns c = fill-end _ _ _ (c .before .loop .inv) (c .loop-test .left)
+
+pub fill-weights-spec : {M : Type 1} → statement M
+fill-weights-spec =
+    tie.close
+    (tie.spec
+    Inv-loop
+    μ-loop
+    loop-holds
+    mul-two-at
+    add-two-at
+    add-two-at-2
+    two-at-requires
+    cast-weights
+    mul-t12
+    slice-set-from-weights
+    add-j
+    loop-less
+    loop-again
+    same-length
+    returns)
