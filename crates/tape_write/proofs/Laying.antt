@@ -63,7 +63,8 @@ module _ (t : Terms) (r : Rounds) (s : List ℕ) (w f : List ℤ) where
   flow = Offsets.flow t r s w f
 
   pub assembled : {p q m l n : ℕ} {buffer b₁ b₂ b₃ b₄ left : List ℕ} →
-      Put 0 header buffer p b₁ → Put p samples b₁ q b₂ → Put q weights b₂ m b₃ → Put m flow b₃ l b₄ → Put l (encoded End) b₄ n left →
+      Put 0 header buffer p b₁ → Put p samples b₁ q b₂ → Put q weights b₂ m b₃ → Put m flow b₃ l b₄ →
+      Put l (encoded End) b₄ n left →
       length (tapeOf t r s w f) ≤ length buffer → (n ≡ length (tapeOf t r s w f)) × (left ≡ overwritten (tapeOf t r s w f) buffer)
   unfolding tapeOf
   assembled {n} {buffer} {left} a b c d e h =

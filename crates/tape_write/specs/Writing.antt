@@ -1,5 +1,5 @@
 -- The rows of write, as the code goes down them: after those of the terms, after those of the rounds and the samples, and
--- after the lengths.
+-- after the lengths of the weights and the flow.
 use mathlib.Core.Bool.{not}
 use mathlib.Core.List.{List, [], _∷_}
 use Prim.Native.Nat.{ℕ, _+_, _*_}
@@ -16,17 +16,15 @@ use Rattle.model.specs.Calls.{pixelsOf, pairsOf, roundsRow, optionalRow, pairWe
 abbrev pub tapeSize : ℕ → List ℤ → List ℤ → ℕ
 tapeSize samples weights numbers = 16 + 2 * samples + 3 * length weights + 5 * length numbers
 
--- 2 of a pair, and 8
-abbrev pub numberRows : Terms → List ℤ → List ℤ → List Row
-numberRows t weights numbers = pairWeightsRow weights ∷ flowRow (weightOf t weights) numbers ∷ []
+-- 16, 2 of a pair, and 8, for a tape of so many bytes
+abbrev pub contentRows : Terms → List ℤ → List ℤ → ℕ → ℕ → List Row
+contentRows t weights numbers size room =
+    row (ltb room size) 16 0 ∷ pairWeightsRow weights ∷ flowRow (weightOf t weights) numbers ∷ []
 
--- 5, 19 and 16 above them, for a tape of so many bytes
+-- 5 and 19 above them
 abbrev pub lengthRows : Terms → List ℤ → List ℤ → ℕ → ℕ → List Row
 lengthRows t weights numbers size room =
-    optionalRow 5 numbers (pairsOf t)
-    ∷ optionalRow 19 weights (pairsOf t)
-    ∷ row (ltb room size) 16 0
-    ∷ numberRows t weights numbers
+    optionalRow 5 numbers (pairsOf t) ∷ optionalRow 19 weights (pairsOf t) ∷ contentRows t weights numbers size room
 
 -- 10 and 4 above them, for so many samples
 abbrev pub lowerRows : Terms → Rounds → ℕ → List ℤ → List ℤ → ℕ → ℕ → List Row

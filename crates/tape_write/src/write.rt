@@ -22,15 +22,22 @@ ghost use Rattle.model.specs.Tape.{writeRows, writeAnswer, writeOutput};
 ghost use lib.ListN.{length, take};
 ghost use Rattle.model.specs.Accepted.{WriteAllowed};
 ghost use Rattle.roundtrip.specs.RoundTrip.{ReadsBack};
-ghost use Rattle.tape_write.specs.Writing.{tapeSize, numberRows, lengthRows, lowerRows};
+ghost use Rattle.tape_write.specs.Writing.{tapeSize, contentRows, lengthRows, lowerRows};
 ghost use Rattle.tape_write.specs.Answers.{writeAnswerOf};
 
-// 2 a pair's weight over the limit; 8 a number beyond ± its pair's weight.
-fn judge_numbers(t: Terms, weights: &[i32], flow: &[i32]) -> Verdict
+// 16 the output's length, for a tape of so many bytes; 2 a pair's weight over the limit; 8 a number
+// beyond ± its pair's weight.
+fn judge_contents(t: Terms, weights: &[i32], flow: &[i32], size: usize, room: usize) -> Verdict
     requires { ⌜ (0 < length (now weights) → length (now flow) ≤ length (now weights)) ⌝ }
-    ensures { λ r. ⌜ r ≡ firstRefusal (numberRows t (now (weights .entry)) (now (flow .entry))) ⌝ }
+    ensures { λ r. ⌜ r ≡ firstRefusal (contentRows t (now (weights .entry)) (now (flow .entry)) size room) ⌝ }
 {
     let over = first_over(weights);
+    if room < size {
+        return Verdict::Refuse {
+            number: 16,
+            place: 0,
+        };
+    }
     if over < weights.len() {
         return Verdict::Refuse {
             number: 2,
@@ -51,7 +58,7 @@ fn wrong_count(count: usize, due: usize) -> bool
     (count != 0) & (count != due)
 }
 
-// 5 flow and 19 weights, of which length 0 is none; 16 the output's length.
+// 5 flow; 19 weights; of each, length 0 is none.
 fn judge_lengths(t: Terms, samples: usize, weights: &[i32], flow: &[i32], room: usize) -> Verdict
     requires { ⌜ (sizeAllowed (t .width) (t .height) ≡ true) × (samples ≡ pixelsOf t) ⌝ }
     ensures { λ r. ⌜ r ≡ firstRefusal (lengthRows t (now (weights .entry)) (now (flow .entry)) (tapeSize samples (now (weights .entry)) (now (flow .entry))) room) ⌝ }
@@ -71,13 +78,8 @@ fn judge_lengths(t: Terms, samples: usize, weights: &[i32], flow: &[i32], room: 
             place: 0,
         };
     }
-    if room < 16 + 2 * samples + 3 * own + 5 * count {
-        return Verdict::Refuse {
-            number: 16,
-            place: 0,
-        };
-    }
-    judge_numbers(t, weights, flow)
+    let size = 16 + 2 * samples + 3 * own + 5 * count;
+    judge_contents(t, weights, flow, size, room)
 }
 
 // 10 quick rounds; 4 samples.

@@ -39,8 +39,8 @@ loop-less c = omega arith
 loop-again : tie.Need-loop-again Inv-loop μ-loop
 loop-again c =
     let s = c .before .before .before .before .before .before in
-    laid-more _ _ _ _ _ _ (s .before .before .before .pre) (s .loop .inv) (c .before .before .before .before .before .loop-test .taken)
-    (c .before .before .put-record .ensures)
+    laid-more _ _ _ _ _ _ (s .before .before .before .pre) (s .loop .inv)
+    (c .before .before .before .before .before .loop-test .taken) (c .before .before .put-record .ensures)
 
 same-length : tie.Need-same-length Inv-loop μ-loop
 same-length c = laid-length _ _ _ _ _ _ (c .before .before .before .before .pre) (c .before .loop .inv)

@@ -22,17 +22,28 @@ lay-header-requires : tie.Need-lay-header-requires
 lay-header-requires c κs = omega (arith, sizes (c .before .before .before))
 
 lay-samples-requires : tie.Need-lay-samples-requires
-lay-samples-requires c κs = omega (arith, sizes (c .before .before .before .before .before .before .before))
+lay-samples-requires c κs = let headed = c .before .before .before .before in omega (arith, sizes (headed .before .before .before))
 
 lay-weights-requires : tie.Need-lay-weights-requires
-lay-weights-requires c κs = omega (arith, sizes (c .before .before .before .before .before .before .before .before .before .before .before))
+lay-weights-requires c κs =
+    let sampled = c .before .before .before .before in
+    let headed = sampled .before .before .before .before in
+    omega (arith, sizes (headed .before .before .before))
 
 lay-flow-requires : tie.Need-lay-flow-requires
-lay-flow-requires c κs = omega (arith, sizes (c .before .before .before .before .before .before .before .before .before .before .before .before .before .before .before))
+lay-flow-requires c κs =
+    let weighed = c .before .before .before .before in
+    let sampled = weighed .before .before .before .before in
+    let headed = sampled .before .before .before .before in
+    omega (arith, sizes (headed .before .before .before))
 
 put-record-requires : tie.Need-put-record-requires
 put-record-requires c κs =
-    omega (arith, sizes (c .before .before .before .before .before .before .before .before .before .before .before .before .before .before .before .before .before .before .before))
+    let flowed = c .before .before .before .before in
+    let weighed = flowed .before .before .before .before in
+    let sampled = weighed .before .before .before .before in
+    let headed = sampled .before .before .before .before in
+    omega (arith, sizes (headed .before .before .before))
 
 same-length : tie.Need-same-length
 same-length c = search needs
@@ -45,8 +56,9 @@ returns c =
     let headed = sampled .before .before .before .before in
     let start = headed .before .before .before .before in
     let a = start .args in
-    assembled (a .t) (a .r) (a .samples .now) (a .weights .now) (a .flow .now) (headed .lay-header .ensures) (sampled .lay-samples .ensures)
-    (weighed .lay-weights .ensures) (flowed .lay-flow .ensures) (c .before .before .put-record .ensures) (start .pre)
+    assembled (a .t) (a .r) (a .samples .now) (a .weights .now) (a .flow .now) (headed .lay-header .ensures)
+    (sampled .lay-samples .ensures) (weighed .lay-weights .ensures) (flowed .lay-flow .ensures) (c .before .before .put-record .ensures)
+    (start .pre)
 
 pub lay-tape-spec : {M : Type 1} → statement M
 lay-tape-spec =

@@ -54,10 +54,9 @@ loop-again c =
     let sized = c .before .before .before .before in
     let s = sized .before .before .before in
     let z : ℤ = at (s .before .before .args .weights .now) (s .loop .j) in
+    let size = sized .magnitude .ensures ∙ ap natAbs (read w32 {r = z} (sized .before .magnitude-arg .given)) in
     laid-more _ _ _ _ _ _ (s .before .before .pre) (s .loop .inv) (sized .before .before .loop-test .taken)
-    (put-as
-    (ap (λ (n : ℕ). encoded (Entry.PairWeight n)) (sized .magnitude .ensures ∙ ap natAbs (read w32 {r = z} (sized .before .magnitude-arg .given))))
-    (c .before .before .put-record .ensures))
+    (put-as (ap (λ (n : ℕ). encoded (Entry.PairWeight n)) size) (c .before .before .put-record .ensures))
 
 same-length : tie.Need-same-length Inv-loop μ-loop
 same-length c = laid-length _ _ _ _ _ _ (c .before .before .before .pre) (c .before .loop .inv)

@@ -4,7 +4,6 @@ use mathlib.Core.Logic.{_⊎_}
 use Prim.Native.Nat.{_≤_}
 use native.Mathlib.Omega.{arith}
 use lib.ListN.{length}
-use borrow.Author.Tests.{lt-ltb, le-ltb}
 use Rattle.model.specs.Calls.{pairsOf}
 use Rattle.model.proofs.Refusals.{refused, passed}
 use Rattle.terms.proofs.Size.{allowed-size}
@@ -62,41 +61,33 @@ returns-2 c =
     (passed _ _ (flow-tested (c .before .before .before) ∙ c .before .before .if1 .left)
     ∙ refused _ _ (weights-tested (c .before) ∙ c .if2 .taken))
 
-mul-if3 : tie.Need-mul-if3
-mul-if3 c = omega (arith, few c)
+mul-size : tie.Need-mul-size
+mul-size c = omega (arith, few c)
 
-add-if3 : tie.Need-add-if3
-add-if3 c = omega (arith, few c)
+add-size : tie.Need-add-size
+add-size c = omega (arith, few c)
 
-mul-if3-2 : tie.Need-mul-if3-2
-mul-if3-2 c = search needs
+mul-size-2 : tie.Need-mul-size-2
+mul-size-2 c = search needs
 
-add-if3-2 : tie.Need-add-if3-2
-add-if3-2 c = omega (arith, few c)
+add-size-2 : tie.Need-add-size-2
+add-size-2 c = omega (arith, few c)
 
-mul-if3-3 : tie.Need-mul-if3-3
-mul-if3-3 c = search needs
+mul-size-3 : tie.Need-mul-size-3
+mul-size-3 c = search needs
 
-add-if3-3 : tie.Need-add-if3-3
-add-if3-3 c = omega (arith, few c)
+add-size-3 : tie.Need-add-size-3
+add-size-3 c = omega (arith, few c)
+
+judge-contents-requires : tie.Need-judge-contents-requires
+judge-contents-requires c κs = no-longer (flow-due (c .before .before)) (weights-due c)
 
 returns-3 : tie.Need-returns-3
 returns-3 c =
-    sym
-    (passed _ _ (flow-tested (c .before .before .before .before) ∙ c .before .before .before .if1 .left)
-    ∙ passed _ _ (weights-tested (c .before .before) ∙ c .before .if2 .left)
-    ∙ refused _ _ (lt-ltb _ _ (c .if3 .taken)))
-
-judge-numbers-requires : tie.Need-judge-numbers-requires
-judge-numbers-requires c κs = no-longer (flow-due (c .before .before .before)) (weights-due (c .before))
-
-returns-4 : tie.Need-returns-4
-returns-4 c =
-    c .judge-numbers .ensures
+    c .judge-contents .ensures
     ∙ sym
-    (passed _ _ (flow-tested (c .before .before .before .before .before) ∙ c .before .before .before .before .if1 .left)
-    ∙ passed _ _ (weights-tested (c .before .before .before) ∙ c .before .before .if2 .left)
-    ∙ passed _ _ (le-ltb _ _ (c .before .if3 .left)))
+    (passed _ _ (flow-tested (c .before .before .before .before) ∙ c .before .before .before .if1 .left)
+    ∙ passed _ _ (weights-tested (c .before .before) ∙ c .before .if2 .left))
 
 pub judge-lengths-spec : {M : Type 1} → statement M
 judge-lengths-spec =
@@ -107,12 +98,11 @@ judge-lengths-spec =
     returns
     wrong-count-requires-2
     returns-2
-    mul-if3
-    add-if3
-    mul-if3-2
-    add-if3-2
-    mul-if3-3
-    add-if3-3
-    returns-3
-    judge-numbers-requires
-    returns-4)
+    mul-size
+    add-size
+    mul-size-2
+    add-size-2
+    mul-size-3
+    add-size-3
+    judge-contents-requires
+    returns-3)

@@ -21,7 +21,8 @@ lower c =
 -- the verdict on the terms decides, or the lower rows do
 rows : (c : tie.Start) {v : Verdict} → let a = c .args in
     firstRefusal (termRows (a .t)) ≡ v →
-    firstRefusal (writeRows (a .t) (a .r) (a .samples .now) (a .weights .now) (a .flow .now) (a .room)) ≡ decided v (firstRefusal (lower c)) Verdict.Refuse
+    firstRefusal (writeRows (a .t) (a .r) (a .samples .now) (a .weights .now) (a .flow .now) (a .room))
+    ≡ decided v (firstRefusal (lower c)) Verdict.Refuse
 rows c h =
     let a = c .args in
     write-rows (a .t) (a .r) (a .samples .now) (a .weights .now) (a .flow .now) (a .room)
@@ -37,13 +38,18 @@ enum-told : tie.Need-enum-told
 enum-told c = search needs
 
 judge-lower-requires : tie.Need-judge-lower-requires
-judge-lower-requires c κs = accepted-size (c .before .before .before .before .args .t) (sym (c .before .before .judge-terms .ensures) ∙ c .enum-told .given .1)
+judge-lower-requires c κs =
+    accepted-size (c .before .before .before .before .args .t) (sym (c .before .before .judge-terms .ensures) ∙ c .enum-told .given .1)
 
 returns : tie.Need-returns
-returns c = sym (rows (c .before .before .before .before .before) (sym (c .before .before .before .judge-terms .ensures) ∙ c .before .v .given .1))
+returns c =
+    let judged = c .before .before .before in
+    sym (rows (judged .before .before) (sym (judged .judge-terms .ensures) ∙ c .before .v .given .1))
 
 returns-2 : tie.Need-returns-2
-returns-2 c = c .judge-lower .ensures ∙ sym (rows (c .before .before .before .before .before) (sym (c .before .before .before .judge-terms .ensures) ∙ c .before .enum-told .given .1))
+returns-2 c =
+    let judged = c .before .before .before in
+    c .judge-lower .ensures ∙ sym (rows (judged .before .before) (sym (judged .judge-terms .ensures) ∙ c .before .enum-told .given .1))
 
 pub judge-write-spec : {M : Type 1} → statement M
 judge-write-spec =
