@@ -32,7 +32,8 @@ fn judge_contents(t: Terms, weights: &[i32], flow: &[i32], size: usize, room: us
     ensures { λ r. ⌜ r ≡ firstRefusal (contentRows t (now (weights .entry)) (now (flow .entry)) size room) ⌝ }
 {
     let over = first_over(weights);
-    if room < size {
+    let short = room < size;
+    if short {
         return Verdict::Refuse {
             number: 16,
             place: 0,
