@@ -39,6 +39,16 @@ module _ (t : Terms) (r : Rounds) (s : List ℕ) (w f : List ℤ) where
   abbrev pub flow : List ℕ
   flow = chain (length f) flowAt
 
+  abbrev pub StretchLengths : Type 0
+  StretchLengths = (length samples ≡ length s * 2) × (length weights ≡ length w * 3) × (length flow ≡ length f * 5)
+
+  pub stretch-lengths : StretchLengths
+  stretch-lengths = (
+    length-chain 2 sampleAt (λ _. refl) (length s),
+    length-chain 3 weightAt (λ _. refl) (length w),
+    length-chain 5 flowAt (λ _. refl) (length f),
+  )
+
   pub tape-length : length (tapeOf t r s w f) ≡ 16 + 2 * length s + 3 * length w + 5 * length f
   unfolding tapeOf
   tape-length =
@@ -48,9 +58,7 @@ module _ (t : Terms) (r : Rounds) (s : List ℕ) (w f : List ℤ) where
         length-append (header ++ samples ++ weights) flow,
         length-append (header ++ samples) weights,
         length-append header samples,
-        length-chain 2 sampleAt (λ _. refl) (length s),
-        length-chain 3 weightAt (λ _. refl) (length w),
-        length-chain 5 flowAt (λ _. refl) (length f),
+        stretch-lengths,
       )
 
   -- what begins behind the header, behind the samples, behind the weights and behind the flow

@@ -14,14 +14,14 @@ use Rattle.roundtrip.specs.RoundTrip.{ReadsBack}
 use Rattle.roundtrip.proofs.WriteRows.{write-number}
 use Rattle.roundtrip.proofs.RoundTrip.{left-reads-back}
 
-module _ (t : Terms) (r : Rounds) (samples : List ℕ) (numbers : List ℤ) (output : List ℕ) where
+module _ (t : Terms) (r : Rounds) (samples : List ℕ) (weights numbers : List ℤ) (output : List ℕ) where
   pub promised : r .allowance < 65536 → {left : List ℕ} {a : WriteAnswer} →
-      a ≡ writeAnswer t r samples numbers output → left ≡ writeOutput t r samples numbers output →
-      (a ≡ writeAnswer t r samples numbers output)
-      × ((left ≡ writeOutput t r samples numbers output)
-      × (((a .number ≡ 0) ↔ WriteAllowed t r samples numbers output)
-      × (a .number ≡ 0 → ReadsBack t r samples numbers (take (a .count) left))))
+      a ≡ writeAnswer t r samples weights numbers output → left ≡ writeOutput t r samples weights numbers output →
+      (a ≡ writeAnswer t r samples weights numbers output)
+      × ((left ≡ writeOutput t r samples weights numbers output)
+      × (((a .number ≡ 0) ↔ WriteAllowed t r samples weights numbers output)
+      × (a .number ≡ 0 → ReadsBack t r samples weights numbers (take (a .count) left))))
   promised small e h =
-      let n = write-number t r samples numbers output in
+      let n = write-number t r samples weights numbers output in
       let same = ap (λ (b : WriteAnswer). b .number) e in
-      (e, (h, (zero-by same n, left-reads-back t r samples numbers output small e h)))
+      (e, (h, (zero-by same n, left-reads-back t r samples weights numbers output small e h)))

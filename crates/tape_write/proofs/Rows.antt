@@ -1,36 +1,66 @@
--- The rows of write: those of the terms, then the lower ones. Assumes nothing.
-use mathlib.Core.Path.{_≡_, ap, _∙_}
-use mathlib.Core.Bool.{not, _&&_}
-use mathlib.Core.List.{List, [], _∷_}
-use Prim.Native.Nat.{ℕ}
+-- The rows of write: those of the terms, then the lower ones; and what tests that the code has made say of a row. Assumes
+-- nothing.
+use mathlib.Core.Path.{_≡_, sym, ap, _∙_}
+use mathlib.Core.Bool.{Bool, false, not, _&&_}
+use mathlib.Core.List.{List, [], _∷_, _++_}
+use mathlib.Core.Logic.{_⊎_, ⊎-elim}
+use Prim.Native.Nat.{ℕ, _≤_, _<_}
+use native.Mathlib.Omega.{arith}
 use lib.Dec.{eqb, ltb}
 use lib.IntN.{ℤ}
 use lib.ListN.{length}
+use borrow.Author.Tests.{lt-ltb, le-ltb}
 use Rattle.model.specs.declared.Terms.{Terms}
 use Rattle.model.specs.declared.Rounds.{Rounds}
 use Rattle.model.specs.declared.Verdict.{Verdict}
-use Rattle.model.specs.Verdict.{row, firstRefusal, decided}
-use Rattle.model.specs.Calls.{pixelsOf, pairsOf, sizeRow, weightRow, boxRow, roundsRow, lengthRow, flowRow}
+use Rattle.model.specs.Verdict.{Row, row, firstRefusal, decided}
+use Rattle.model.specs.Calls.{sizeRow, weightRow, boxRow}
 use Rattle.model.specs.Tape.{writeRows}
-use Rattle.model.proofs.Refusals.{firstRefusal-append}
-use Rattle.tape_write.specs.Writing.{lowerRows}
+use Rattle.model.proofs.Refusals.{refused, passed, firstRefusal-append}
+use Rattle.model.proofs.Accepted.{optional-passes}
+use Rattle.tape_write.specs.Writing.{tapeSize, lowerRows}
 use Rattle.roundtrip.proofs.Offsets.{tape-length}
 
-pub write-rows : (t : Terms) (r : Rounds) (samples : List ℕ) (numbers : List ℤ) (room : ℕ) →
-    firstRefusal (writeRows t r samples numbers room)
-    ≡ decided (firstRefusal (sizeRow t 0 ∷ weightRow t 0 ∷ boxRow t 0 ∷ [])) (firstRefusal (lowerRows t r (length samples) numbers room)) Verdict.Refuse
-write-rows t r samples numbers room =
-    ap
-    (λ (n : ℕ).
-    firstRefusal
-    (sizeRow t 0
-    ∷ weightRow t 0
-    ∷ boxRow t 0
-    ∷ roundsRow r 0
-    ∷ lengthRow 4 samples (pixelsOf t)
-    ∷ row (not (eqb (length numbers) 0) && not (eqb (length numbers) (pairsOf t))) 5 0
-    ∷ row (ltb room n) 16 0
-    ∷ flowRow (t .weight) numbers
-    ∷ []))
-    (tape-length t r samples numbers)
-    ∙ firstRefusal-append (sizeRow t 0 ∷ weightRow t 0 ∷ boxRow t 0 ∷ []) (lowerRows t r (length samples) numbers room)
+abbrev pub termRows : Terms → List Row
+termRows t = sizeRow t 0 ∷ weightRow (t .weight) 0 ∷ boxRow t 0 ∷ []
+
+pub write-rows : (t : Terms) (r : Rounds) (samples : List ℕ) (weights numbers : List ℤ) (room : ℕ) →
+    firstRefusal (writeRows t r samples weights numbers room)
+    ≡ decided (firstRefusal (termRows t))
+    (firstRefusal (lowerRows t r (length samples) weights numbers (tapeSize (length samples) weights numbers) room))
+    Verdict.Refuse
+write-rows t r samples weights numbers room =
+    ap (λ (size : ℕ). firstRefusal (termRows t ++ lowerRows t r (length samples) weights numbers size room))
+    (tape-length t r samples weights numbers)
+    ∙ firstRefusal-append (termRows t) (lowerRows t r (length samples) weights numbers _ room)
+
+-- a row whose place is the first index at which a test holds: the code has looked for it below n
+module _ {place first : ℕ} (e : place ≡ first) (n number : ℕ) (rows : List Row) where
+  abbrev searched : List Row
+  searched = row (ltb first n) number first ∷ rows
+
+  pub found : place < n → firstRefusal searched ≡ Verdict.Refuse number place
+  found h =
+      refused _ _ (ap (λ (m : ℕ). ltb m n) (sym e) ∙ lt-ltb place n h) ∙ ap (Verdict.Refuse number) (sym e)
+
+  pub none-found : n ≤ place → firstRefusal searched ≡ firstRefusal rows
+  none-found h = passed _ _ (ap (λ (m : ℕ). ltb m n) (sym e) ∙ le-ltb place n h)
+
+-- the test of a length that has to be 0 or the one that is due
+abbrev pub wrong : ℕ → ℕ → Bool
+wrong n due = not (eqb n 0) && not (eqb n due)
+
+pub tested : (n : ℕ) {due pairs : ℕ} {b : Bool} → due ≡ pairs → b ≡ wrong n due → wrong n pairs ≡ b
+tested n e h = ap (wrong n) (sym e) ∙ sym h
+
+-- such a length, once it has passed (the row's number does not count); what it is to what is due, and to another
+pub none-or-due : {A : Type 0} (buffer : List A) {pairs : ℕ} → wrong (length buffer) pairs ≡ false →
+    (length buffer ≡ 0) ⊎ (length buffer ≡ pairs)
+none-or-due buffer {pairs} = optional-passes 0 buffer pairs .0
+
+pub at-most : {n pairs : ℕ} → (n ≡ 0) ⊎ (n ≡ pairs) → n ≤ pairs
+at-most {n} {pairs} = ⊎-elim (λ (z : n ≡ 0). omega arith) (λ (g : n ≡ pairs). omega arith)
+
+pub no-longer : {m n pairs : ℕ} → (m ≡ 0) ⊎ (m ≡ pairs) → (n ≡ 0) ⊎ (n ≡ pairs) → 0 < n → m ≤ n
+no-longer {m} {n} {pairs} a b h =
+    ⊎-elim (λ (z : n ≡ 0). absurd (omega arith)) (λ (g : n ≡ pairs). omega (arith, at-most a)) b

@@ -1,5 +1,6 @@
--- The rows of write, as the code goes down them: after those of the terms, and after those of the rounds and the samples.
-use mathlib.Core.Bool.{not, _&&_}
+-- The rows of write, as the code goes down them: after those of the terms, after those of the rounds and the samples, and
+-- after the lengths of the weights and the flow.
+use mathlib.Core.Bool.{not}
 use mathlib.Core.List.{List, [], _∷_}
 use Prim.Native.Nat.{ℕ, _+_, _*_}
 use lib.Dec.{eqb, ltb}
@@ -7,18 +8,25 @@ use lib.IntN.{ℤ}
 use lib.ListN.{length}
 use Rattle.model.specs.declared.Terms.{Terms}
 use Rattle.model.specs.declared.Rounds.{Rounds}
+use Rattle.model.specs.Grid.{weightOf}
 use Rattle.model.specs.Verdict.{Row, row}
-use Rattle.model.specs.Calls.{pixelsOf, pairsOf, roundsRow, flowRow}
+use Rattle.model.specs.Calls.{pixelsOf, pairsOf, roundsRow, optionalRow, pairWeightsRow, flowRow}
 
--- 5, 16 and 8, for so many samples
-abbrev pub flowRows : Terms → ℕ → List ℤ → ℕ → List Row
-flowRows t samples numbers room =
-    row (not (eqb (length numbers) 0) && not (eqb (length numbers) (pairsOf t))) 5 0
-    ∷ row (ltb room (16 + 2 * samples + 5 * length numbers)) 16 0
-    ∷ flowRow (t .weight) numbers
-    ∷ []
+-- how many bytes a tape of so many samples and these numbers has
+abbrev pub tapeSize : ℕ → List ℤ → List ℤ → ℕ
+tapeSize samples weights numbers = 16 + 2 * samples + 3 * length weights + 5 * length numbers
 
--- 10 and 4 above them
-abbrev pub lowerRows : Terms → Rounds → ℕ → List ℤ → ℕ → List Row
-lowerRows t r samples numbers room =
-    roundsRow r 0 ∷ row (not (eqb samples (pixelsOf t))) 4 0 ∷ flowRows t samples numbers room
+-- 16, 2 of a pair, and 8, for a tape of so many bytes
+abbrev pub contentRows : Terms → List ℤ → List ℤ → ℕ → ℕ → List Row
+contentRows t weights numbers size room =
+    row (ltb room size) 16 0 ∷ pairWeightsRow weights ∷ flowRow (weightOf t weights) numbers ∷ []
+
+-- 5 and 19 above them
+abbrev pub lengthRows : Terms → List ℤ → List ℤ → ℕ → ℕ → List Row
+lengthRows t weights numbers size room =
+    optionalRow 5 numbers (pairsOf t) ∷ optionalRow 19 weights (pairsOf t) ∷ contentRows t weights numbers size room
+
+-- 10 and 4 above them, for so many samples
+abbrev pub lowerRows : Terms → Rounds → ℕ → List ℤ → List ℤ → ℕ → ℕ → List Row
+lowerRows t r samples weights numbers size room =
+    roundsRow r 0 ∷ row (not (eqb samples (pixelsOf t))) 4 0 ∷ lengthRows t weights numbers size room

@@ -1,5 +1,6 @@
 // The records of a whole job, one behind the other.
 
+use integers::signed;
 use model::Entry;
 use model::Rounds;
 use model::Terms;
@@ -7,6 +8,7 @@ use records::put::put_record;
 ghost use mathlib.Core.Path.{_≡_};
 ghost use mathlib.Core.List.{_++_};
 ghost use Prim.Native.Nat.{_+_, _*_, _≤_};
+ghost use lib.IntN.{natAbs};
 ghost use lib.ListN.{length, getD};
 ghost use Rattle.model.specs.declared.Entry.{Entry};
 ghost use Rattle.model.specs.Lists.{at, chain, overwritten};
@@ -23,6 +25,21 @@ fn lay_samples(samples: &[u8], output: &mut [u8], o: usize) -> usize
     while i < samples.len() {
         next = put_record(output, next, Entry::Sample { code: samples[i] });
         i += 1;
+    }
+    next
+}
+
+// A record for each pair's weight.
+fn lay_weights(weights: &[i32], output: &mut [u8], o: usize) -> usize
+    requires { ⌜ o + 3 * length (now weights) ≤ length (now output) ⌝ }
+    ensures { λ r. ⌜ Put o (chain (length (now (weights .entry))) (λ j. encoded (Entry.PairWeight (natAbs (at (now (weights .entry)) j))))) (now (output .entry)) r (now (output .exit)) ⌝ }
+{
+    let mut next = o;
+    let mut j = 0;
+    while j < weights.len() {
+        let weight = signed::magnitude(weights[j]);
+        next = put_record(output, next, Entry::PairWeight { weight });
+        j += 1;
     }
     next
 }
@@ -65,13 +82,21 @@ fn lay_header(t: Terms, r: Rounds, output: &mut [u8]) -> usize
 }
 
 // The whole tape, at the front of the output; how many bytes it has.
-pub fn lay_tape(t: Terms, r: Rounds, samples: &[u8], flow: &[i32], output: &mut [u8]) -> usize
-    requires { ⌜ length (tapeOf t r (now samples) (now flow)) ≤ length (now output) ⌝ }
-    ensures { λ n. ⌜ n ≡ length (tapeOf t r (now (samples .entry)) (now (flow .entry))) ⌝ }
-    ensures { λ _. ⌜ now (output .exit) ≡ overwritten (tapeOf t r (now (samples .entry)) (now (flow .entry))) (now (output .entry)) ⌝ }
+pub fn lay_tape(
+    t: Terms,
+    r: Rounds,
+    samples: &[u8],
+    weights: &[i32],
+    flow: &[i32],
+    output: &mut [u8],
+) -> usize
+    requires { ⌜ length (tapeOf t r (now samples) (now weights) (now flow)) ≤ length (now output) ⌝ }
+    ensures { λ n. ⌜ n ≡ length (tapeOf t r (now (samples .entry)) (now (weights .entry)) (now (flow .entry))) ⌝ }
+    ensures { λ _. ⌜ now (output .exit) ≡ overwritten (tapeOf t r (now (samples .entry)) (now (weights .entry)) (now (flow .entry))) (now (output .entry)) ⌝ }
 {
     let first = lay_header(t, r, output);
     let second = lay_samples(samples, output, first);
-    let third = lay_flow(flow, output, second);
-    put_record(output, third, Entry::End)
+    let third = lay_weights(weights, output, second);
+    let fourth = lay_flow(flow, output, third);
+    put_record(output, fourth, Entry::End)
 }

@@ -5,53 +5,95 @@ use model::Rounds;
 use model::Terms;
 use model::Verdict;
 use terms::first_beyond;
+use terms::first_over;
 use terms::judge_terms;
 use terms::pairs;
 use terms::pixels;
 use terms::quick_allowed;
 ghost use mathlib.Core.Path.{_≡_};
 ghost use mathlib.Core.Logic.{_↔_};
-ghost use mathlib.Core.Bool.{true};
+ghost use mathlib.Core.Bool.{true, not, _&&_};
+ghost use Prim.Native.Nat.{_≤_, _<_};
+ghost use lib.Dec.{eqb};
 ghost use Rattle.model.specs.Grid.{sizeAllowed};
 ghost use Rattle.model.specs.Verdict.{firstRefusal};
 ghost use Rattle.model.specs.Calls.{pixelsOf};
 ghost use Rattle.model.specs.Tape.{writeRows, writeAnswer, writeOutput};
-ghost use lib.ListN.{take};
+ghost use lib.ListN.{length, take};
 ghost use Rattle.model.specs.Accepted.{WriteAllowed};
 ghost use Rattle.roundtrip.specs.RoundTrip.{ReadsBack};
-ghost use Rattle.tape_write.specs.Writing.{flowRows, lowerRows};
+ghost use Rattle.tape_write.specs.Writing.{tapeSize, contentRows, lengthRows, lowerRows};
 ghost use Rattle.tape_write.specs.Answers.{writeAnswerOf};
 
-// 5 flow, of which length 0 is none; 16 the output's length; 8 a number beyond ±weight.
-fn judge_flow(t: Terms, samples: usize, flow: &[i32], room: usize) -> Verdict
-    requires { ⌜ (sizeAllowed (t .width) (t .height) ≡ true) × (samples ≡ pixelsOf t) ⌝ }
-    ensures { λ r. ⌜ r ≡ firstRefusal (flowRows t samples (now (flow .entry)) room) ⌝ }
+// 16 the output's length, for a tape of so many bytes; 2 a pair's weight over the limit; 8 a number
+// beyond ± its pair's weight.
+fn judge_contents(t: Terms, weights: &[i32], flow: &[i32], size: usize, room: usize) -> Verdict
+    requires { ⌜ (0 < length (now weights) → length (now flow) ≤ length (now weights)) ⌝ }
+    ensures { λ r. ⌜ r ≡ firstRefusal (contentRows t (now (weights .entry)) (now (flow .entry)) size room) ⌝ }
 {
-    let count = flow.len();
-    let wrong = (count != 0) & (count != pairs(t.width, t.height));
-    if wrong {
-        return Verdict::Refuse {
-            number: 5,
-            place: 0,
-        };
-    }
-    if room < 16 + 2 * samples + 5 * count {
+    let over = first_over(weights);
+    let short = room < size;
+    if short {
         return Verdict::Refuse {
             number: 16,
             place: 0,
         };
     }
-    let place = first_beyond(flow, t.weight);
-    if place < count {
+    if over < weights.len() {
+        return Verdict::Refuse {
+            number: 2,
+            place: over,
+        };
+    }
+    let place = first_beyond(t, weights, flow);
+    if place < flow.len() {
         return Verdict::Refuse { number: 8, place };
     }
     Verdict::Accept
 }
 
+// Whether numbers that come for every pair or for none are neither.
+fn wrong_count(count: usize, due: usize) -> bool
+    ensures { λ r. ⌜ r ≡ (not (eqb count 0) && not (eqb count due)) ⌝ }
+{
+    (count != 0) & (count != due)
+}
+
+// 5 flow; 19 weights; of each, length 0 is none.
+fn judge_lengths(t: Terms, samples: usize, weights: &[i32], flow: &[i32], room: usize) -> Verdict
+    requires { ⌜ (sizeAllowed (t .width) (t .height) ≡ true) × (samples ≡ pixelsOf t) ⌝ }
+    ensures { λ r. ⌜ r ≡ firstRefusal (lengthRows t (now (weights .entry)) (now (flow .entry)) (tapeSize samples (now (weights .entry)) (now (flow .entry))) room) ⌝ }
+{
+    let due = pairs(t.width, t.height);
+    let own = weights.len();
+    let count = flow.len();
+    if wrong_count(count, due) {
+        return Verdict::Refuse {
+            number: 5,
+            place: 0,
+        };
+    }
+    if wrong_count(own, due) {
+        return Verdict::Refuse {
+            number: 19,
+            place: 0,
+        };
+    }
+    let size = 16 + 2 * samples + 3 * own + 5 * count;
+    judge_contents(t, weights, flow, size, room)
+}
+
 // 10 quick rounds; 4 samples.
-fn judge_lower(t: Terms, r: Rounds, samples: usize, flow: &[i32], room: usize) -> Verdict
+fn judge_lower(
+    t: Terms,
+    r: Rounds,
+    samples: usize,
+    weights: &[i32],
+    flow: &[i32],
+    room: usize,
+) -> Verdict
     requires { ⌜ sizeAllowed (t .width) (t .height) ≡ true ⌝ }
-    ensures { λ v. ⌜ v ≡ firstRefusal (lowerRows t r samples (now (flow .entry)) room) ⌝ }
+    ensures { λ v. ⌜ v ≡ firstRefusal (lowerRows t r samples (now (weights .entry)) (now (flow .entry)) (tapeSize samples (now (weights .entry)) (now (flow .entry))) room) ⌝ }
 {
     if !quick_allowed(r.quick) {
         return Verdict::Refuse {
@@ -65,17 +107,24 @@ fn judge_lower(t: Terms, r: Rounds, samples: usize, flow: &[i32], room: usize) -
             place: 0,
         };
     }
-    judge_flow(t, samples, flow, room)
+    judge_lengths(t, samples, weights, flow, room)
 }
 
 // All the rows of write, for an output of so many bytes.
-fn judge_write(t: Terms, r: Rounds, samples: &[u8], flow: &[i32], room: usize) -> Verdict
-    ensures { λ v. ⌜ v ≡ firstRefusal (writeRows t r (now (samples .entry)) (now (flow .entry)) room) ⌝ }
+fn judge_write(
+    t: Terms,
+    r: Rounds,
+    samples: &[u8],
+    weights: &[i32],
+    flow: &[i32],
+    room: usize,
+) -> Verdict
+    ensures { λ v. ⌜ v ≡ firstRefusal (writeRows t r (now (samples .entry)) (now (weights .entry)) (now (flow .entry)) room) ⌝ }
 {
     let v = judge_terms(t);
     match v {
         Verdict::Refuse { number, place } => Verdict::Refuse { number, place },
-        Verdict::Accept => judge_lower(t, r, samples.len(), flow, room),
+        Verdict::Accept => judge_lower(t, r, samples.len(), weights, flow, room),
     }
 }
 
@@ -86,17 +135,24 @@ pub enum WriteResult {
 }
 
 // A job is written to the front of the output. A refused one leaves it as it was.
-pub fn write(t: Terms, r: Rounds, samples: &[u8], flow: &[i32], output: &mut [u8]) -> WriteResult
-    ensures { λ w. ⌜ writeAnswerOf w ≡ writeAnswer t r (now (samples .entry)) (now (flow .entry)) (now (output .entry)) ⌝ }
-    ensures { λ _. ⌜ now (output .exit) ≡ writeOutput t r (now (samples .entry)) (now (flow .entry)) (now (output .entry)) ⌝ }
-    ensures { λ w. ⌜ ((writeAnswerOf w .number ≡ 0) ↔ WriteAllowed t r (now (samples .entry)) (now (flow .entry)) (now (output .entry))) ⌝ }
-    ensures { λ w. ⌜ (writeAnswerOf w .number ≡ 0 → ReadsBack t r (now (samples .entry)) (now (flow .entry)) (take (writeAnswerOf w .count) (now (output .exit)))) ⌝ }
+pub fn write(
+    t: Terms,
+    r: Rounds,
+    samples: &[u8],
+    weights: &[i32],
+    flow: &[i32],
+    output: &mut [u8],
+) -> WriteResult
+    ensures { λ w. ⌜ writeAnswerOf w ≡ writeAnswer t r (now (samples .entry)) (now (weights .entry)) (now (flow .entry)) (now (output .entry)) ⌝ }
+    ensures { λ _. ⌜ now (output .exit) ≡ writeOutput t r (now (samples .entry)) (now (weights .entry)) (now (flow .entry)) (now (output .entry)) ⌝ }
+    ensures { λ w. ⌜ ((writeAnswerOf w .number ≡ 0) ↔ WriteAllowed t r (now (samples .entry)) (now (weights .entry)) (now (flow .entry)) (now (output .entry))) ⌝ }
+    ensures { λ w. ⌜ (writeAnswerOf w .number ≡ 0 → ReadsBack t r (now (samples .entry)) (now (weights .entry)) (now (flow .entry)) (take (writeAnswerOf w .count) (now (output .exit)))) ⌝ }
 {
-    let v = judge_write(t, r, samples, flow, output.len());
+    let v = judge_write(t, r, samples, weights, flow, output.len());
     match v {
         Verdict::Refuse { number, place } => WriteResult::Refused { number, place },
         Verdict::Accept => WriteResult::Written {
-            count: lay_tape(t, r, samples, flow, output),
+            count: lay_tape(t, r, samples, weights, flow, output),
         },
     }
 }

@@ -1,50 +1,64 @@
 -- `tape_write::lay::lay_tape` meets its contract. Assumes nothing.
-use mathlib.Core.Path.{_≡_, refl}
-use mathlib.Core.List.{List}
-use Prim.Native.Nat.{ℕ, _+_, _*_, _≤_}
+use Prim.Native.Nat.{_+_, _*_, _≤_}
 use native.Mathlib.Omega.{arith}
-use lib.IntN.{ℤ}
-use lib.ListN.{length, getD}
-use Rattle.model.specs.declared.Entry.{Entry}
-use Rattle.model.specs.Lists.{at, chain}
-use Rattle.model.specs.Tape.{encoded}
-use Rattle.model.proofs.Lists.{length-chain}
-use Rattle.roundtrip.proofs.Offsets.{tape-length}
+use lib.ListN.{length}
+use Rattle.roundtrip.proofs.Offsets.{tape-length, StretchLengths, stretch-lengths}
 use Rattle.tape_write.proofs.Laying.{assembled}
 use borrow.Author.Needs.{needs}
 use Rattle.tape_write.proofs.lay.lay_tape.Statement.{statement}
 use Rattle.tape_write.proofs.lay.lay_tape.Tie as tie
 
--- the lengths
-room : (c : tie.Start) → let a = c .args in 16 + 2 * length (a .samples .now) + 5 * length (a .flow .now) ≤ length (a .output .now)
-room c = let a = c .args in omega (arith, tape-length (a .t) (a .r) (a .samples .now) (a .flow .now), c .pre)
-
-samples-length : (c : tie.Start) → let s : List ℕ = c .args .samples .now in length (chain (length s) (λ i. encoded (Entry.Sample (getD s i 0)))) ≡ length s * 2
-samples-length c = length-chain 2 _ (λ _. refl) (length (c .args .samples .now))
-
-flow-length : (c : tie.Start) → let f : List ℤ = c .args .flow .now in length (chain (length f) (λ j. encoded (Entry.Flow (at f j)))) ≡ length f * 5
-flow-length c = length-chain 5 _ (λ _. refl) (length (c .args .flow .now))
+-- the lengths of the tape's parts, and that the output holds them
+sizes : (c : tie.Start) → let a = c .args in
+    (16 + 2 * length (a .samples .now) + 3 * length (a .weights .now) + 5 * length (a .flow .now) ≤ length (a .output .now))
+    × StretchLengths (a .t) (a .r) (a .samples .now) (a .weights .now) (a .flow .now)
+sizes c =
+    let a = c .args in (
+      omega (arith, tape-length (a .t) (a .r) (a .samples .now) (a .weights .now) (a .flow .now), c .pre),
+      stretch-lengths (a .t) (a .r) (a .samples .now) (a .weights .now) (a .flow .now),
+    )
 
 lay-header-requires : tie.Need-lay-header-requires
-lay-header-requires c κs = omega (arith, room (c .before .before .before))
+lay-header-requires c κs = omega (arith, sizes (c .before .before .before))
 
 lay-samples-requires : tie.Need-lay-samples-requires
-lay-samples-requires c κs = omega (arith, room (c .before .before .before .before .before .before .before))
+lay-samples-requires c κs = let headed = c .before .before .before .before in omega (arith, sizes (headed .before .before .before))
+
+lay-weights-requires : tie.Need-lay-weights-requires
+lay-weights-requires c κs =
+    let sampled = c .before .before .before .before in
+    let headed = sampled .before .before .before .before in
+    omega (arith, sizes (headed .before .before .before))
 
 lay-flow-requires : tie.Need-lay-flow-requires
-lay-flow-requires c κs = omega (arith, room (c .before .before .before .before .before .before .before .before .before .before .before), samples-length (c .before .before .before .before .before .before .before .before .before .before .before))
+lay-flow-requires c κs =
+    let weighed = c .before .before .before .before in
+    let sampled = weighed .before .before .before .before in
+    let headed = sampled .before .before .before .before in
+    omega (arith, sizes (headed .before .before .before))
 
 put-record-requires : tie.Need-put-record-requires
-put-record-requires c κs = omega (arith, room (c .before .before .before .before .before .before .before .before .before .before .before .before .before .before .before), samples-length (c .before .before .before .before .before .before .before .before .before .before .before .before .before .before .before), flow-length (c .before .before .before .before .before .before .before .before .before .before .before .before .before .before .before))
+put-record-requires c κs =
+    let flowed = c .before .before .before .before in
+    let weighed = flowed .before .before .before .before in
+    let sampled = weighed .before .before .before .before in
+    let headed = sampled .before .before .before .before in
+    omega (arith, sizes (headed .before .before .before))
 
 same-length : tie.Need-same-length
 same-length c = search needs
 
 returns : tie.Need-returns
 returns c =
-    let a = c .before .before .before .before .before .before .before .before .before .before .before .before .before .before .before .before .before .before .args in
-    assembled (a .t) (a .r) (a .samples .now) (a .flow .now) (c .before .before .before .before .before .before .before .before .before .before .before .before .before .before .lay-header .ensures) (c .before .before .before .before .before .before .before .before .before .before .lay-samples .ensures)
-    (c .before .before .before .before .before .before .lay-flow .ensures) (c .before .before .put-record .ensures) (c .before .before .before .before .before .before .before .before .before .before .before .before .before .before .before .before .before .before .pre)
+    let flowed = c .before .before .before .before .before .before in
+    let weighed = flowed .before .before .before .before in
+    let sampled = weighed .before .before .before .before in
+    let headed = sampled .before .before .before .before in
+    let start = headed .before .before .before .before in
+    let a = start .args in
+    assembled (a .t) (a .r) (a .samples .now) (a .weights .now) (a .flow .now) (headed .lay-header .ensures)
+    (sampled .lay-samples .ensures) (weighed .lay-weights .ensures) (flowed .lay-flow .ensures) (c .before .before .put-record .ensures)
+    (start .pre)
 
 pub lay-tape-spec : {M : Type 1} → statement M
 lay-tape-spec =
@@ -52,6 +66,7 @@ lay-tape-spec =
     (tie.spec
     lay-header-requires
     lay-samples-requires
+    lay-weights-requires
     lay-flow-requires
     put-record-requires
     same-length

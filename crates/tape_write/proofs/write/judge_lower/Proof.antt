@@ -23,17 +23,21 @@ pixels-requires c κs = search needs
 
 returns-2 : tie.Need-returns-2
 returns-2 c =
+    let a = c .before .before .before .before .args in
     sym
-    (passed _ _ (quick (c .before .before)) ∙ refused _ _ (ap not (ne-eqb (c .before .before .before .before .args .samples) (pixelsOf (c .before .before .before .before .args .t)) (λ e. c .if2 .taken (e ∙ sym (c .before .pixels .ensures))))))
+    (passed _ _ (quick (c .before .before))
+    ∙ refused _ _ (ap not (ne-eqb (a .samples) (pixelsOf (a .t)) (λ e. c .if2 .taken (e ∙ sym (c .before .pixels .ensures))))))
 
-judge-flow-requires : tie.Need-judge-flow-requires
-judge-flow-requires c κs = search needs
+judge-lengths-requires : tie.Need-judge-lengths-requires
+judge-lengths-requires c κs = search needs
 
 returns-3 : tie.Need-returns-3
 returns-3 c =
-    c .judge-flow .ensures
+    let a = c .before .before .before .before .before .args in
+    c .judge-lengths .ensures
     ∙ sym
-    (passed _ _ (quick (c .before .before .before)) ∙ passed _ _ (ap not (eq-eqb (c .before .before .before .before .before .args .samples) (pixelsOf (c .before .before .before .before .before .args .t)) (c .before .if2 .left ∙ c .before .before .pixels .ensures))))
+    (passed _ _ (quick (c .before .before .before))
+    ∙ passed _ _ (ap not (eq-eqb (a .samples) (pixelsOf (a .t)) (c .before .if2 .left ∙ c .before .before .pixels .ensures))))
 
 pub judge-lower-spec : {M : Type 1} → statement M
 judge-lower-spec =
@@ -43,5 +47,5 @@ judge-lower-spec =
     returns
     pixels-requires
     returns-2
-    judge-flow-requires
+    judge-lengths-requires
     returns-3)

@@ -19,29 +19,35 @@ enum-told : tie.Need-enum-told
 enum-told c = search needs
 
 lay-tape-requires : tie.Need-lay-tape-requires
-lay-tape-requires c κs = write-accepted _ _ _ _ (c .before .before .before .before .before .before .args .output .now) .0 (sym (c .before .before .before .judge-write .ensures) ∙ c .before .enum-told .given .1) .output-length
+lay-tape-requires c κs =
+    let judged = c .before .before .before in
+    write-accepted _ _ _ _ _ (judged .before .before .before .args .output .now) .0
+    (sym (judged .judge-write .ensures) ∙ c .before .enum-told .given .1) .output-length
 
 returns : tie.Need-returns
 returns c =
     let s = c .before .before .before .before .before .before in
     let a = s .args in
     let v = sym (c .before .before .before .judge-write .ensures) ∙ c .before .v .given .1 in
-    promised (a .t) (a .r) (a .samples .now) (a .flow .now) (a .output .now) (omega (arith, s .good))
-    (sym (written-answer (a .t) (a .r) (a .samples .now) (a .flow .now) (a .output .now) v))
-    (sym (written-output (a .t) (a .r) (a .samples .now) (a .flow .now) (a .output .now) v))
+    promised (a .t) (a .r) (a .samples .now) (a .weights .now) (a .flow .now) (a .output .now) (omega (arith, s .good))
+    (sym (written-answer (a .t) (a .r) (a .samples .now) (a .weights .now) (a .flow .now) (a .output .now) v))
+    (sym (written-output (a .t) (a .r) (a .samples .now) (a .weights .now) (a .flow .now) (a .output .now) v))
 
 same-length : tie.Need-same-length
 same-length c = search needs
 
 returns-2 : tie.Need-returns-2
 returns-2 c =
-    let s = c .before .before .before .before .before .before .before .before .before in
+    let told = c .before .before .before .before in
+    let judged = told .before .before in
+    let s = judged .before .before .before in
     let a = s .args in
-    let v = sym (c .before .before .before .before .before .before .judge-write .ensures) ∙ c .before .before .before .before .enum-told .given .1 in
-    promised (a .t) (a .r) (a .samples .now) (a .flow .now) (a .output .now) (omega (arith, s .good))
+    let v = sym (judged .judge-write .ensures) ∙ told .enum-told .given .1 in
+    promised (a .t) (a .r) (a .samples .now) (a .weights .now) (a .flow .now) (a .output .now) (omega (arith, s .good))
     (ap (λ (n : ℕ). record { number = 0; place = 0; count = n }) (c .before .before .lay-tape .ensures .0)
-    ∙ sym (written-answer (a .t) (a .r) (a .samples .now) (a .flow .now) (a .output .now) v))
-    (c .before .before .lay-tape .ensures .1 ∙ sym (written-output (a .t) (a .r) (a .samples .now) (a .flow .now) (a .output .now) v))
+    ∙ sym (written-answer (a .t) (a .r) (a .samples .now) (a .weights .now) (a .flow .now) (a .output .now) v))
+    (c .before .before .lay-tape .ensures .1
+    ∙ sym (written-output (a .t) (a .r) (a .samples .now) (a .weights .now) (a .flow .now) (a .output .now) v))
 
 pub write-spec : {M : Type 1} → statement M
 write-spec =

@@ -1,0 +1,108 @@
+-- `tape_write::write::judge_lengths` meets its contract: it goes down the rows. Assumes nothing.
+use mathlib.Core.Path.{_≡_, sym, _∙_}
+use mathlib.Core.Logic.{_⊎_}
+use Prim.Native.Nat.{_≤_}
+use native.Mathlib.Omega.{arith}
+use lib.ListN.{length}
+use Rattle.model.specs.Calls.{pairsOf}
+use Rattle.model.proofs.Refusals.{refused, passed}
+use Rattle.terms.proofs.Size.{allowed-size}
+use Rattle.tape_write.proofs.Rows.{wrong, tested, none-or-due, at-most, no-longer}
+use borrow.Author.Needs.{needs}
+use Rattle.tape_write.proofs.write.judge_lengths.Statement.{statement}
+use Rattle.tape_write.proofs.write.judge_lengths.Tie as tie
+
+-- the tests of the flow's and the weights' lengths are those of their rows
+flow-tested : (c : tie.After-wrong-count) → let a = c .before .before .args in
+    wrong (length (a .flow .now)) (pairsOf (a .t)) ≡ c .wrong-count .result
+flow-tested c = tested (length (c .before .before .args .flow .now)) (c .before .pairs .ensures) (c .wrong-count .ensures)
+
+weights-tested : (c : tie.After-wrong-count2) → let a = c .before .before .before .before .args in
+    wrong (length (a .weights .now)) (pairsOf (a .t)) ≡ c .wrong-count2 .result
+weights-tested c =
+    tested (length (c .before .before .before .before .args .weights .now)) (c .before .before .before .pairs .ensures)
+    (c .wrong-count2 .ensures)
+
+-- .. so where both have passed, each has a number for every pair or none
+flow-due : (c : tie.Else1) → let a = c .before .before .before .args in
+    (length (a .flow .now) ≡ 0) ⊎ (length (a .flow .now) ≡ pairsOf (a .t))
+flow-due c = none-or-due (c .before .before .before .args .flow .now) (flow-tested (c .before) ∙ c .if1 .left)
+
+weights-due : (c : tie.Else2) → let a = c .before .before .before .before .before .args in
+    (length (a .weights .now) ≡ 0) ⊎ (length (a .weights .now) ≡ pairsOf (a .t))
+weights-due c =
+    none-or-due (c .before .before .before .before .before .args .weights .now) (weights-tested (c .before) ∙ c .if2 .left)
+
+-- no count is large
+few : (c : tie.Else2) → let a = c .before .before .before .before .before .args in
+    (a .samples ≤ 1048576) × (length (a .weights .now) ≤ 2097152) × (length (a .flow .now) ≤ 2097152)
+few c =
+    let s = c .before .before .before .before .before in
+    let size = allowed-size (s .pre .0) in
+    let flow = at-most (flow-due (c .before .before)) in
+    let weights = at-most (weights-due c) in
+    (omega (arith, s .pre .1), omega arith, omega arith)
+
+pairs-requires : tie.Need-pairs-requires
+pairs-requires c κs = search needs
+
+wrong-count-requires : tie.Need-wrong-count-requires
+wrong-count-requires c κs = search needs
+
+returns : tie.Need-returns
+returns c = sym (refused _ _ (flow-tested (c .before) ∙ c .if1 .taken))
+
+wrong-count-requires-2 : tie.Need-wrong-count-requires-2
+wrong-count-requires-2 c κs = search needs
+
+returns-2 : tie.Need-returns-2
+returns-2 c =
+    sym
+    (passed _ _ (flow-tested (c .before .before .before) ∙ c .before .before .if1 .left)
+    ∙ refused _ _ (weights-tested (c .before) ∙ c .if2 .taken))
+
+mul-size : tie.Need-mul-size
+mul-size c = omega (arith, few c)
+
+add-size : tie.Need-add-size
+add-size c = omega (arith, few c)
+
+mul-size-2 : tie.Need-mul-size-2
+mul-size-2 c = search needs
+
+add-size-2 : tie.Need-add-size-2
+add-size-2 c = omega (arith, few c)
+
+mul-size-3 : tie.Need-mul-size-3
+mul-size-3 c = search needs
+
+add-size-3 : tie.Need-add-size-3
+add-size-3 c = omega (arith, few c)
+
+judge-contents-requires : tie.Need-judge-contents-requires
+judge-contents-requires c κs = no-longer (flow-due (c .before .before)) (weights-due c)
+
+returns-3 : tie.Need-returns-3
+returns-3 c =
+    c .judge-contents .ensures
+    ∙ sym
+    (passed _ _ (flow-tested (c .before .before .before .before) ∙ c .before .before .before .if1 .left)
+    ∙ passed _ _ (weights-tested (c .before .before) ∙ c .before .if2 .left))
+
+pub judge-lengths-spec : {M : Type 1} → statement M
+judge-lengths-spec =
+    tie.close
+    (tie.spec
+    pairs-requires
+    wrong-count-requires
+    returns
+    wrong-count-requires-2
+    returns-2
+    mul-size
+    add-size
+    mul-size-2
+    add-size-2
+    mul-size-3
+    add-size-3
+    judge-contents-requires
+    returns-3)
