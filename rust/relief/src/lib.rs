@@ -8,12 +8,11 @@
 //! sample + 128; image values are in sub-units too.
 //!
 //! A pair is two neighbouring pixels. First comes every (pixel, pixel below), row by row of the
-//! upper pixel, then every (pixel, pixel to its right), row by row of the left one. A flow has a
-//! number for each pair, in this order.
+//! upper pixel, then every (pixel, pixel to its right), row by row of the left one. Weights and flow
+//! have one number for each pair, in this order.
 //!
-//! So have weights, each 0 to [`MAX_WEIGHT`] sub-units: how strongly the pair is smoothed. Across a
-//! joint with weight 0 nothing is. Weights of length 0 are none: each pair then has the weight of
-//! the [`Terms`].
+//! A weight, 0 to [`MAX_WEIGHT`] sub-units, says how strongly its pair is smoothed: with 0, as at a
+//! joint, not at all. Weights of length 0 are none, and every pair has the weight of the [`Terms`].
 //!
 //! A call is there with its feature: `judge` (price, check), `run`, `tape` (read, write).
 //!
