@@ -64,15 +64,16 @@
  * Every buffer is a pointer and then its length in values. Lengths must be exact, but for those of
  * relief_read and for relief_write's output; weights, and relief_write's flow, may have length 0.
  * - Alignment: every pointer, to a buffer or to a number, has the natural alignment of its type.
- * - Null: no pointer is ever null, also where the length is 0. Any aligned pointer does there, such
- *   as the address of a variable of that type; malloc(0) may give null.
+ * - Null: no pointer is ever null, also where the length is 0, as that of weights which are none.
+ *   Any aligned pointer does there, such as the address of a variable of that type; malloc(0) may
+ *   give null.
  * - Overlap: what a call writes to, buffers and numbers, overlaps nothing else that it is lent.
  *   Buffers that are const may overlap each other.
  *
  * Contents are read only after terms and lengths have passed: price, check, run and write touch no
- * buffer when they are refused with 1, 3 to 7, 10, 16 or 19, or with 2 for weight. Number 2 has two
- * places: of weight it is tested with the terms; of the values of weights after the lengths, before
- * 8 and 9, with the first index. (2 at 0 is weight's where that is over 65,280, else weights[0]'s.)
+ * buffer when they are refused with 1, 3 to 7, 10, 16 or 19, or with 2 for weight. 2 is tested
+ * twice: of weight with the terms, at place 0; of the values of weights after the lengths, before 8
+ * and 9, at the first index. (2 at 0 is weight's where that is over 65,280, else weights[0]'s.)
  *
  * THREADS
  *
