@@ -50,6 +50,32 @@ unsafe extern "C" {
 /// of them is left as it was; without weight records all of `weights` is, and without flow
 /// records all of `flow`.
 ///
+/// A job is read, then run:
+///
+/// ```
+/// # #[cfg(feature = "run")] {
+/// # let tape = [
+/// #     1, 3, 0, 1, 0, 2, 0, 1, 0, 255, 3, 0, 0, 100, 0, // terms and rounds
+/// #     4, 0, 4, 2, 4, 100, 6, 0, 1, 6, 0, 0, 0, // samples 0, 2, 100; weights 256, 0
+/// # ];
+/// let mut samples = vec![0; relief::read_samples_len(tape.len())];
+/// let mut weights = vec![0; relief::read_weights_len(tape.len())];
+/// let mut flow = vec![0; relief::read_flow_len(tape.len())];
+/// let job = relief::read(&tape, &mut samples, &mut weights, &mut flow)?;
+///
+/// let (pixels, pairs) = (job.terms.pixel_count(), job.terms.pair_count());
+/// samples.truncate(pixels);
+/// weights.truncate(if job.has_weights { pairs } else { 0 });
+/// flow.truncate(pairs);
+/// let (mut image, mut work) = (vec![0; pixels], vec![0; 2 * pairs]);
+/// let (terms, rounds) = (job.terms, job.rounds);
+/// relief::run(&terms, &rounds, &samples, &weights, &mut flow, &mut image, &mut work)?;
+/// # assert_eq!(weights, [256, 0]);
+/// # assert_eq!(image, [382, 386, 25_728]);
+/// # }
+/// # Ok::<(), relief::Refusal>(())
+/// ```
+///
 /// # Lengths
 ///
 /// - `samples`: at least the job's [`Terms::pixel_count`]. [`read_samples_len`] is enough.
