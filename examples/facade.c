@@ -1,8 +1,10 @@
 /*
- * A worked example: makes a scan of 1,024 x 1,024 pixels, cleans it with relief_run, and prints the
- * figures and a small excerpt before and after. tools/example.sh compiles and runs it.
+ * A worked example: makes a scan of 1,024 x 1,024 pixels, cleans it with relief_run, with weights
+ * that keep the joints, and prints the figures and a small excerpt before and after.
+ * tools/example.sh compiles and runs it.
  */
 #include <inttypes.h>
+#include <stdbool.h>
 #include <stdio.h>
 #include <stdlib.h>
 
@@ -26,14 +28,21 @@ static uint64_t next_random(uint64_t *state)
     return *state;
 }
 
+/* How far along its course a pixel lies: every second course is moved by half a stone. */
+static int along(int x, int y)
+{
+    return x + y / COURSE % 2 * STONE / 2;
+}
+
+static bool joint(int x, int y)
+{
+    return y % COURSE < JOINT || along(x, y) % STONE < JOINT;
+}
+
 /* The height of a wall in codes: stones that stick out differently, with joints between them. */
 static int wall(int x, int y)
 {
-    int course = y / COURSE;
-    int along = x + course % 2 * STONE / 2;
-    if (y % COURSE < JOINT || along % STONE < JOINT)
-        return 110;
-    return 140 + (along / STONE * 7 + course * 5) % 17;
+    return joint(x, y) ? 110 : 140 + (along(x, y) / STONE * 7 + y / COURSE * 5) % 17;
 }
 
 static void scan(uint8_t *samples)
@@ -46,8 +55,20 @@ static void scan(uint8_t *samples)
         }
 }
 
-/* Prints the codes about the crossing of two joints, before and after: an image value becomes the code
-   whose level it lies in. */
+/* A weight for each pair, first of every pixel with the one below, then of every pixel with the one
+   to its right: 0 between a joint and a stone. Each is then smoothed, but not into the other. */
+static void weigh(int32_t *weights, int32_t weight)
+{
+    for (int y = 0; y + 1 < HEIGHT; y++)
+        for (int x = 0; x < WIDTH; x++)
+            *weights++ = joint(x, y) == joint(x, y + 1) ? weight : 0;
+    for (int y = 0; y < HEIGHT; y++)
+        for (int x = 0; x + 1 < WIDTH; x++)
+            *weights++ = joint(x, y) == joint(x + 1, y) ? weight : 0;
+}
+
+/* Prints the codes about the crossing of two joints, before and after: an image value becomes the
+   code whose level it lies in. */
 static void print_excerpt(const uint8_t *samples, const int32_t *image)
 {
     int left = STONE - 6, top = 2 * COURSE - 4;
@@ -67,34 +88,39 @@ int main(void)
     static const char *const outcomes[] = {"refused", "checked", "settled", "spent"};
     const size_t pixels = RELIEF_PIXELS(WIDTH, HEIGHT), pairs = RELIEF_PAIRS(WIDTH, HEIGHT);
     uint8_t *samples = malloc(pixels * sizeof *samples);
+    int32_t *weights = malloc(pairs * sizeof *weights);
     int32_t *flow = malloc(pairs * sizeof *flow);
     int32_t *image = malloc(pixels * sizeof *image);
     int32_t *work = malloc(2 * pairs * sizeof *work);
-    if (!samples || !flow || !image || !work) {
+    if (!samples || !weights || !flow || !image || !work) {
         fprintf(stderr, "no memory\n");
         return EXIT_FAILURE;
     }
-    scan(samples);
-
     const uint32_t weight = 12 * 256, quick = 60;
+    scan(samples);
+    weigh(weights, weight);
+
     const uint16_t allowance = 20;
     const uint8_t low = 0, high = 255;
     uint64_t place, price, slack;
     int64_t floor;
     uint32_t outcome, moved;
     uint32_t number = relief_run(
-        WIDTH, HEIGHT, weight, low, high, quick, allowance, samples, pixels, flow, pairs, image, pixels,
-        work, 2 * pairs, &place, &outcome, &moved, &price, &floor, &slack);
+        WIDTH, HEIGHT, weight, low, high, quick, allowance, samples, pixels, weights, pairs, flow,
+        pairs, image, pixels, work, 2 * pairs, &place, &outcome, &moved, &price, &floor, &slack);
     if (number != RELIEF_ACCEPTED) {
         printf(
             "refused %" PRIu32 " at %" PRIu64 ": %s\n", number, place, relief_refusal_text(number));
         return EXIT_FAILURE;
     }
     printf("outcome moved price floor slack\n");
-    printf("%s %" PRIu32 " %" PRIu64 " %" PRId64 " %" PRIu64 "\n", outcomes[outcome], moved, price, floor, slack);
+    printf(
+        "%s %" PRIu32 " %" PRIu64 " %" PRId64 " %" PRIu64 "\n", outcomes[outcome], moved, price,
+        floor, slack);
     print_excerpt(samples, image);
 
     free(samples);
+    free(weights);
     free(flow);
     free(image);
     free(work);

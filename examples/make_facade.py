@@ -1,16 +1,19 @@
 #!/usr/bin/env python3
-"""Makes a scan of a small façade, as PGM on standard output.
+"""Makes a scan of a small façade, as PGM on standard output, and its weight picture.
 
     python3 examples/make_facade.py > examples/facade.pgm
+    python3 examples/make_facade.py --weights > examples/facade-weights.pgm
 
 Heights of the surface, in codes: courses of stones with joints between them, a window with its reveal,
-lintel and sill, stones that are worn, and the noise of a scanner.
+lintel and sill, stones that are worn, and the noise of a scanner. The weight picture has the joints in
+black, where nothing is to be smoothed, and all else in white.
 """
 
 import random
 import sys
 
 import pgm
+import script
 
 WIDTH, HEIGHT = 64, 48
 COURSE, STONE = 8, 16
@@ -60,9 +63,17 @@ def scanned(height, source):
     return max(0, min(255, round(height + noise)))
 
 
+def strength(height):
+    """How strongly to smooth at a height of the surface, 0 to 255: not at all at a joint."""
+    return 0 if height == JOINT else 255
+
+
 def main():
-    source = random.Random(1)
-    rows = [[scanned(facade(x, y), source) for x in range(WIDTH)] for y in range(HEIGHT)]
+    parser = script.Parser(prog="make_facade", description="Makes the scan of a small façade.")
+    parser.add_argument("--weights", action="store_true", help="make its weight picture instead")
+    weights, source = parser.parse_args().weights, random.Random(1)
+    heights = [[facade(x, y) for x in range(WIDTH)] for y in range(HEIGHT)]
+    rows = [[strength(height) if weights else scanned(height, source) for height in row] for row in heights]
     sys.stdout.write(pgm.text(rows))
 
 

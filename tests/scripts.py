@@ -69,13 +69,15 @@ def scaled(file, maxval):
             f" `answer2pgm.py --maxval {maxval}` scales back\n")
 
 
+FACADE = ["--low", "30", "--high", "200"]
+
+
 class Tapes(Scripts):
     def test_sample(self):
         picture = (TOP / "examples/facade.pgm").read_bytes()
         tape = (TOP / "examples/facade.tape").read_bytes()
-        words = ["--low", "30", "--high", "200"]
-        self.assertEqual(self.tape(picture, *words), tape)
-        done = self.run_script("pgm2tape.py", *words, str(TOP / "examples/facade.pgm"), "out.tape")
+        self.assertEqual(self.tape(picture, *FACADE), tape)
+        done = self.run_script("pgm2tape.py", *FACADE, str(TOP / "examples/facade.pgm"), "out.tape")
         self.assertEqual((done.returncode, done.stdout, done.stderr), (0, b"", b""))
         self.assertEqual((self.folder / "out.tape").read_bytes(), tape)
         self.assertEqual(self.names(), ["out.tape"])
@@ -137,6 +139,99 @@ class Tapes(Scripts):
         ]:
             with self.subTest(words):
                 self.fails(message, "pgm2tape.py", *words, data=b"P2 1 1 255\n0\n")
+
+
+class Weights(Scripts):
+    """Tapes with a weight for each pair, from a second picture."""
+
+    def weights(self, strengths, *words, size="3 2"):
+        """The weights in the tape of a scan of this size, with a picture of how strongly to smooth."""
+        (self.folder / "weights.pgm").write_bytes(strengths)
+        width, height = map(int, size.split())
+        picture = f"P2 {size} 255\n{' '.join(['7'] * width * height)}\n".encode()
+        tape = self.tape(picture, "--weights", "weights.pgm", *words)
+        start = 15 + 2 * width * height
+        self.assertEqual(tape[:start] + tape[-1:], self.tape(picture, *words))
+        records = [tape[offset:offset + 3] for offset in range(start, len(tape) - 1, 3)]
+        self.assertEqual({record[0] for record in records} | {6}, {6})
+        return [int.from_bytes(record[1:], "little") for record in records]
+
+    def test_sample(self):
+        words = [*FACADE, "--weights", str(TOP / "examples/facade-weights.pgm")]
+        tape = self.tape((TOP / "examples/facade.pgm").read_bytes(), *words)
+        self.assertEqual(tape, (TOP / "examples/facade-joints.tape").read_bytes())
+        self.assertLessEqual(len(tape), 65536)
+        for words, name in [([], "facade.pgm"), (["--weights"], "facade-weights.pgm")]:
+            done = self.run_script("make_facade.py", *words)
+            self.assertEqual((done.returncode, done.stderr), (0, b""))
+            self.assertEqual(done.stdout, (TOP / "examples" / name).read_bytes())
+
+    def test_smaller_of_two(self):
+        """Pixels 0 to 5 with the one below, then each row's with the one to the right."""
+        strengths = b"P2 3 2 255\n255 100 0\n90 255 255\n"
+        self.assertEqual(self.weights(strengths, "--weight", "255"), [90, 100, 0, 100, 0, 90, 255])
+        self.assertEqual(self.weights(strengths), [361, 401, 0, 401, 0, 361, 1024])
+        self.assertEqual(self.weights(strengths, "--weight", "65280"),
+                         [23040, 25600, 0, 25600, 0, 23040, 65280])
+        self.assertEqual(self.weights(strengths, "--weight", "0"), 7 * [0])
+
+    def test_maxval(self):
+        """White is the whole weight on every scale, and no picture is scaled first."""
+        for maxval in 1, 63, 254, 255:
+            white = pgm.text([[maxval] * 3] * 2, maxval).encode()
+            self.assertEqual(self.weights(white, "--weight", "65280"), 7 * [65280])
+        self.assertEqual(self.weights(b"P5 2 1 1\n\0\1", size="2 1"), [0])
+        self.assertEqual(self.weights(b"P2 2 1 3\n2 3\n", "--weight", "100", size="2 1"), [66])
+
+    def test_few_pairs(self):
+        self.assertEqual(self.weights(b"P2 1 1 255\n9\n", size="1 1"), [])
+        self.assertEqual(self.weights(b"P2 1 3 4\n4 1 2\n", size="1 3"), [256, 256])
+
+    def test_most_pairs(self):
+        white = b"P5 64 64 1\n" + bytes(4096 * [1])
+        self.assertEqual(self.weights(white, size="64 64"), 8064 * [1024])
+
+    def test_standard_input(self):
+        """Either picture may come from it, but not both."""
+        scan, white = b"P2 2 1 255\n0 2\n", b"P2 2 1 1\n1 1\n"
+        for name, data in ("scan.pgm", scan), ("white.pgm", white):
+            (self.folder / name).write_bytes(data)
+        tape = self.tape(scan, "--weights", "white.pgm")
+        self.assertEqual(self.tape(white, "--weights", "-", "scan.pgm"), tape)
+        for words in ["--weights", "-"], ["--weights", "-", "-", "out.tape"]:
+            self.fails("picture and --weights are both standard input", "pgm2tape.py", *words, data=scan)
+
+    def test_faulty_pictures(self):
+        for data, message in [
+            (b"", "empty, not a PGM picture"),
+            (b"P6 1 1 255\n000", "not a PGM picture (P2 or P5)"),
+            (b"P2 2 1 63\n1 64\n", "a sample is not a number from 0 to 63"),
+            (b"P2 2 1 256\n0 0\n", "maxval 256: samples of 16 bits are not taken, 255 is the most"),
+            (b"P2 1 2 255\n0 0\n", "1 x 2 pixels, but the scan has 2 x 1"),
+            (b"P2 2 2 255\n0 0 0 0\n", "2 x 2 pixels, but the scan has 2 x 1"),
+            (b"P2 1 1 255\n0\n", "1 x 1 pixels, but the scan has 2 x 1"),
+        ]:
+            with self.subTest(data[:20]):
+                (self.folder / "weights.pgm").write_bytes(data)
+                self.fails("weights.pgm: " + message, "pgm2tape.py", "--weights", "weights.pgm", "-", "out.tape",
+                           data=b"P2 2 1 255\n0 2\n")
+        self.fails("no/such: No such file or directory", "pgm2tape.py", "--weights", "no/such",
+                   data=b"P2 2 1 255\n0 2\n")
+        self.fails("standard input: empty, not a PGM picture", "pgm2tape.py", "--weights", "no/such")
+
+    @unittest.skipUnless(PROGRAM, "RELIEF_BIN is not set")
+    def test_black_keeps_its_reading(self):
+        """The sample's joints come out as they were scanned, with weights and not without."""
+        scan, weights = (pgm.read((TOP / "examples" / name).read_bytes())[0]
+                         for name in ("facade.pgm", "facade-weights.pgm"))
+        for tape, kept in ("facade-joints.tape", True), ("facade.tape", False):
+            with open(TOP / "examples" / tape, "rb") as file:
+                answer = subprocess.run([PROGRAM], stdin=file, capture_output=True, check=True).stdout
+            rows = answer2pgm.read(answer)[1]
+            joints = [(value, 256 * sample + 128) for row, samples, strengths in zip(rows, scan, weights, strict=True)
+                      for value, sample, strength in zip(row, samples, strengths, strict=True) if strength == 0]
+            self.assertEqual(len(joints), 476)
+            self.assertEqual(all(value == reading for value, reading in joints), kept)
 
 
 class Pictures(Scripts):

@@ -1,7 +1,8 @@
 #!/usr/bin/env bash
-# The main job on a sample: cleans the scanned façade examples/facade.tape with the program and shows the answer. The
-# program is proved before it is built: some minutes the first time, a second after that. The prover's lines go to
-# target/program.log. RELIEF_BIN, if set, is the path of another program: that is taken as it is, and nothing is built.
+# The main job on a sample: cleans the scanned façade examples/facade.tape with the program and shows the answer, then the
+# same scan with its joints kept, examples/facade-joints.tape. The program is proved before it is built: some minutes the
+# first time, a second after that. The prover's lines go to target/program.log. RELIEF_BIN, if set, is the path of another
+# program: that is taken as it is, and nothing is built.
 set -euo pipefail
 if [ -n "${RELIEF_BIN:-}" ]; then
     program=$(realpath "$RELIEF_BIN")
@@ -12,14 +13,19 @@ if [ -z "${RELIEF_BIN:-}" ]; then
     bash tools/quiet.sh target/program.log rt check relief
     program=target/bin/relief
 fi
-
 mkdir -p target/examples
-answer=target/examples/facade.txt
-picture=target/examples/facade-cleaned.pgm
-rm -f "$answer" "$picture"
-"$program" < examples/facade.tape > "$answer" || { rm -f "$answer"; exit 1; }
-# what the script says beside its picture: the answer's first two lines, or what is wrong
-said=$(python3 examples/answer2pgm.py "$answer" "$picture" 2>&1) || { echo "$said" >&2; exit 1; }
-echo "$said"
-echo "with a line of values in sub-units for each row: $answer"
-echo "before and after, as pictures: examples/facade.pgm, $picture"
+rm -f target/examples/facade{,-joints}{.txt,-cleaned.pgm}
+
+# cleans the sample of this name, and shows the answer below a title
+clean() {
+    local answer=target/examples/$1.txt picture=target/examples/$1-cleaned.pgm said
+    "$program" < "examples/$1.tape" > "$answer" || { rm -f "$answer"; exit 1; }
+    # what the script says beside its picture: the answer's first two lines, or what is wrong
+    said=$(python3 examples/answer2pgm.py "$answer" "$picture" 2>&1) || { echo "$said" >&2; exit 1; }
+    echo "$2:"
+    echo "$said"
+    echo "with a line of values in sub-units for each row: $answer; as a picture: $picture"
+}
+
+clean facade "the scan examples/facade.pgm, cleaned"
+clean facade-joints "the same with its joints kept, by the weights of examples/facade-weights.pgm"

@@ -1,7 +1,7 @@
 #!/usr/bin/env python3
 """Works out the figures that README.md and docs/BENCHMARKS.md give for the sample, with target/bin/relief (or the program
 that RELIEF_BIN names): what its slack bounds, how far a solution in floating point really is, and what a weight does to
-joints and noise. It takes some seconds.
+joints and noise, also where a weight for each pair keeps the joints. It takes some seconds.
 
     python3 tools/figures.py
 """
@@ -27,10 +27,10 @@ def centred(codes):
     return [code + 0.5 for code in codes]
 
 
-def clean(samples, weight, low=0, high=255):
+def clean(samples, weight, low=0, high=255, *words):
     """The slack and the image, as depths in levels, that the program gives for samples."""
     picture = f"P2\n{WIDTH} {HEIGHT}\n255\n{' '.join(map(str, samples))}\n".encode()
-    terms = ["--weight", str(weight), "--low", str(low), "--high", str(high)]
+    terms = ["--weight", str(weight), "--low", str(low), "--high", str(high), *words]
     tape = subprocess.run([sys.executable, TOP / "examples/pgm2tape.py", *terms],
                           input=picture, stdout=subprocess.PIPE, check=True).stdout
     words = subprocess.run([PROGRAM], input=tape, stdout=subprocess.PIPE, check=True).stdout.split()
@@ -79,9 +79,17 @@ def main():
     best, own = solve(centred(scan), weight, low, high)
     print(f"distance to a solution in floating point (itself within {own:.4f} of the best):")
     print(f"  root mean square {rms(cleaned, best):.3f}, one pixel {max(abs(a - b) for a, b in zip(cleaned, best)):.2f}")
+    weights = TOP / "examples/facade-weights.pgm"
+    slack, kept = clean(scan, weight, low, high, "--weights", weights)
+    print(f"the same with a weight for each pair, by {weights.name}: slack {slack}")
+    rasters = {"scan": centred(scan), "cleaned": cleaned, "with weights": kept}
     joints = [i for i, code in enumerate(CODES) if code == make_facade.JOINT]
     print("mean depth of the joints:", *(f"{name} {sum(raster[i] for i in joints) / len(joints):.1f}"
-                                         for name, raster in (("scan", centred(scan)), ("cleaned", cleaned))))
+                                         for name, raster in rasters.items()))
+    print("distance (root mean square) to the surface without noise:")
+    for name, part in ("joints", joints), ("all else", sorted(set(range(pixels)) - set(joints))):
+        true = centred(CODES[i] for i in part)
+        print(f"  {name}:", *(f"{of} {rms([raster[i] for i in part], true):.2f}" for of, raster in rasters.items()))
     print("noise, and distance (root mean square) of scan and cleaned rasters to the surface without noise:")
     surface, shares = centred(CODES), (0.25, 0.5, 0.75, 1)
     print("  noise  scan ", *(f"{share:5}" for share in shares), "(weight / 256 as a share of the noise)")

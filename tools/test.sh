@@ -43,6 +43,8 @@ bash tools/season.sh quick
 
 echo "== the examples"
 python3 examples/pgm2tape.py --low 30 --high 200 < examples/facade.pgm | cmp - examples/facade.tape
+python3 examples/pgm2tape.py --low 30 --high 200 --weights examples/facade-weights.pgm < examples/facade.pgm |
+    cmp - examples/facade-joints.tape
 python3 tests/scripts.py
 # the sample season is these tapes, one behind the other
 cat examples/two-by-one.tape examples/facade.tape examples/two-by-one-flow.tape | cmp - examples/season.tape
