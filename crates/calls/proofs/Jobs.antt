@@ -1,47 +1,44 @@
 -- An allowed job is within the limits of the passes. Assumes nothing.
 use mathlib.Core.Path.{_≡_, sym, ap, _∙_, subst}
-use mathlib.Core.List.{List}
+use mathlib.Core.List.{List, []}
 use Prim.Native.Nat.{ℕ, _^_, _≤_, _<_}
 use native.Mathlib.Omega.{arith}
 use lib.IntN.{ℤ, pos, natAbs}
 use lib.ListN.{length, getD}
 use lib.Signed.{_≤ℤ_}
-use Rattle.integers.proofs.Parts.{parts, whole, by-≤, of-≤}
-use Rattle.integers.proofs.Absolute.{bounds→natAbs}
+use Rattle.integers.proofs.Absolute.{natAbs-upto}
 use Rattle.model.specs.declared.Terms.{Terms}
 use Rattle.model.specs.Lists.{at}
 use Rattle.model.specs.Problem.{Feasible, image, InBox}
 use Rattle.model.specs.Grid.{grid}
 use Rattle.model.specs.Calls.{pixelsOf, pairsOf, imageOf}
-use Rattle.model.specs.Accepted.{TermsAllowed}
+use Rattle.model.specs.Accepted.{TermsAllowed, WeightsAllowed}
+use Rattle.model.proofs.Weights.{weight-most}
 use Rattle.model.proofs.Lists.{length-table}
-use Rattle.model.proofs.Range.{widest, widest-fits}
+use Rattle.model.proofs.Range.{widest-fits}
 use Rattle.model.proofs.Bounds as Bounds
 use Rattle.model.proofs.Bounds.{value-least, value-most, image-inside}
 use Rattle.runs.specs.Limits.{Within, MisfitLimits}
-use Rattle.raster.specs.Whole.{RasterLimits, WorkLimits}
+use Rattle.raster.specs.Whole.{RasterLimits, FallLimits, WorkLimits}
+use Rattle.raster.proofs.Model.{weight-limits}
 use Rattle.runs.proofs.Elements.{within-below}
 use Rattle.model.proofs.Answers.{held-image}
 
-module _ (t : Terms) (samples : List ℕ) where
-  pub with-bytes : TermsAllowed t → t .high < 256 → ((i : ℕ) → getD samples i 0 < 256) → Bounds.Allowed t samples
-  with-bytes a high bytes = record { terms = a; high-byte = omega arith; bytes = λ i. omega (arith, bytes i) }
+module _ (t : Terms) (samples : List ℕ) (weights : List ℤ) where
+  pub with-bytes : TermsAllowed t → WeightsAllowed t weights → t .high < 256 → ((i : ℕ) → getD samples i 0 < 256) → Bounds.Allowed t samples weights
+  with-bytes a w high bytes = record { terms = a; pair-weights = w; high-byte = omega arith; bytes = λ i. omega (arith, bytes i) }
 
-  -- a flow within the weight
-  pub flow-most : (flow : List ℤ) → length flow ≡ pairsOf t → t .weight ≤ 65280 → Feasible (grid t samples) (at flow) → Within (2 ^ 20) flow
-  flow-most flow n h within = within-below flow (λ j l. omega (arith, within j (rw n at l)))
+  -- a flow within the weights
+  pub flow-most : (flow : List ℤ) → length flow ≡ pairsOf t → WeightsAllowed t weights → t .weight ≤ 65280 → Feasible (grid t samples weights) (at flow) →
+      Within (2 ^ 20) flow
+  flow-most flow n w h within = within-below flow (λ j l. omega (arith, within j (rw n at l), weight-most t weights w h j))
 
-  module _ (ok : Bounds.Allowed t samples) where
+  module _ (ok : Bounds.Allowed t samples weights) where
     -- an image of the box
-    module _ (values : List ℤ) (n : length values ≡ pixelsOf t) (inside : InBox (grid t samples) (at values)) where
+    module _ (values : List ℤ) (n : length values ≡ pixelsOf t) (inside : InBox (grid t samples weights) (at values)) where
       image-most : Within (2 ^ 20) values
-      image-most = within-below values (λ i l. each (at values i)
-          (value-least t samples ok (at values) inside i (rw n at l)) (value-most t samples ok (at values) inside i (rw n at l)))
-        where
-          each : (x : ℤ) → pos 0 ≤ℤ x → x ≤ℤ pos widest → natAbs x ≤ 2 ^ 20
-          each x h k =
-              let size : natAbs x ≤ widest = bounds→natAbs x (by-≤ (search parts depth 12) (omega (whole, of-≤ h (search parts depth 12)))) k in
-              omega (arith, widest-fits)
+      image-most = within-below values (λ i l. omega (arith, widest-fits,
+          natAbs-upto (value-least t samples weights ok (at values) inside i (rw n at l)) (value-most t samples weights ok (at values) inside i (rw n at l))))
 
       pub raster-limits : RasterLimits (t .width) (t .height) values
       raster-limits =
@@ -53,6 +50,9 @@ module _ (t : Terms) (samples : List ℕ) where
             image-most = image-most;
           }
 
+      pub fall-limits : FallLimits (t .width) (t .height) (pairsOf t) values weights
+      fall-limits = record { raster = raster-limits; weights-limits = weight-limits t weights (ok .pair-weights) }
+
       pub misfit-limits : length samples ≡ pixelsOf t → MisfitLimits values samples
       misfit-limits m =
           record {
@@ -61,17 +61,17 @@ module _ (t : Terms) (samples : List ℕ) where
             image-most = image-most;
           }
 
-    -- a flow within the weight, and its image
-    module _ (flow : List ℤ) (n : length flow ≡ pairsOf t) (within : Feasible (grid t samples) (at flow)) where
+    -- a flow within the weights, and its image
+    module _ (flow : List ℤ) (n : length flow ≡ pairsOf t) (within : Feasible (grid t samples weights) (at flow)) where
       module _ {values : List ℤ} (e : values ≡ imageOf t samples flow) where
         pub image-size : length values ≡ pixelsOf t
         unfolding imageOf
-        image-size = ap length e ∙ length-table (pixelsOf t) (image (grid t samples) (at flow))
+        image-size = ap length e ∙ length-table (pixelsOf t) (image (grid t samples []) (at flow))
 
-        pub image-inside-box : InBox (grid t samples) (at values)
+        pub image-inside-box : InBox (grid t samples weights) (at values)
         image-inside-box i l =
-            subst (λ (x : ℤ). (grid t samples .low ≤ℤ x) × (x ≤ℤ grid t samples .high)) (sym (held-image t samples flow e i l))
-            (image-inside t samples ok (at flow) i l)
+            subst (λ (x : ℤ). (grid t samples weights .low ≤ℤ x) × (x ≤ℤ grid t samples weights .high)) (sym (held-image t samples weights flow e i l))
+            (image-inside t samples weights ok (at flow) i l)
 
         pub work-limits : WorkLimits (t .width) (t .height) (pairsOf t) flow values
-        work-limits = record { raster = raster-limits values image-size image-inside-box; flow-length = n; flow-most = flow-most flow n (ok .terms .weight-most) within }
+        work-limits = record { raster = raster-limits values image-size image-inside-box; flow-length = n; flow-most = flow-most flow n (ok .pair-weights) (ok .terms .weight-most) within }

@@ -23,28 +23,28 @@ use Rattle.calls.proofs.Jobs.{with-bytes}
 pub most-slack-fits : mostSlack ≤ 10 * 2 ^ 32
 most-slack-fits = omega (arith, mul-le-mul widest-fits widest-fits)
 
-module _ (t : Terms) (samples : List ℕ) (high : t .high < 256) (bytes : (i : ℕ) → getD samples i 0 < 256) where
+module _ (t : Terms) (samples : List ℕ) (weights : List ℤ) (high : t .high < 256) (bytes : (i : ℕ) → getD samples i 0 < 256) where
   abbrev Small : Answer → Type 0
   Small a = natAbs (a .slack) ≤ mostSlack * pixelsOf t
 
-  pub check-small : (flow values : List ℤ) → Small (checkAnswer t samples flow values)
+  pub check-small : (flow values : List ℤ) → Small (checkAnswer t samples weights flow values)
   unfolding figuresOf
-  check-small flow values = go (checkVerdict t samples flow values) refl
+  check-small flow values = go (checkVerdict t samples weights flow values) refl
     where
-      go : (v : Verdict) → checkVerdict t samples flow values ≡ v → Small (checkAnswer t samples flow values)
+      go : (v : Verdict) → checkVerdict t samples weights flow values ≡ v → Small (checkAnswer t samples weights flow values)
       go Verdict.Accept e =
-          let a = check-accepted t samples flow values .0 e in
-          subst Small (sym (check-answer t samples flow values e))
-          (omega (arith, slack-by-pixels t samples (with-bytes t samples (a .terms) high bytes) (at flow) (check-feasible t samples flow values a)))
-      go (Verdict.Refuse n q) e = subst Small (sym (check-answer t samples flow values e)) zero-le
+          let a = check-accepted t samples weights flow values .0 e in
+          subst Small (sym (check-answer t samples weights flow values e))
+          (omega (arith, slack-by-pixels t samples weights (with-bytes t samples weights (a .terms) (a .pair-weights) high bytes) (at flow) (check-feasible t samples weights flow values a)))
+      go (Verdict.Refuse n q) e = subst Small (sym (check-answer t samples weights flow values e)) zero-le
 
-  pub run-small : (r : Rounds) (flow values work : List ℤ) → Small (runAnswer t r samples flow values work)
+  pub run-small : (r : Rounds) (flow values work : List ℤ) → Small (runAnswer t r samples weights flow values work)
   unfolding figuresOf
-  run-small r flow values work = go (runVerdict t r samples flow values work) refl
+  run-small r flow values work = go (runVerdict t r samples weights flow values work) refl
     where
-      go : (v : Verdict) → runVerdict t r samples flow values work ≡ v → Small (runAnswer t r samples flow values work)
+      go : (v : Verdict) → runVerdict t r samples weights flow values work ≡ v → Small (runAnswer t r samples weights flow values work)
       go Verdict.Accept e =
-          let a = run-accepted t r samples flow values work .0 e in
-          subst Small (sym (run-answer t r samples flow values work e))
-          (omega (arith, slack-by-pixels t samples (with-bytes t samples (a .terms) high bytes) (at (ending t r samples .flow)) (ending-flow t r samples (a .terms .box) .1)))
-      go (Verdict.Refuse n q) e = subst Small (sym (run-answer t r samples flow values work e)) zero-le
+          let a = run-accepted t r samples weights flow values work .0 e in
+          subst Small (sym (run-answer t r samples weights flow values work e))
+          (omega (arith, slack-by-pixels t samples weights (with-bytes t samples weights (a .terms) (a .pair-weights) high bytes) (at (ending t r samples weights .flow)) (ending-flow t r samples weights (a .terms .box) .1)))
+      go (Verdict.Refuse n q) e = subst Small (sym (run-answer t r samples weights flow values work e)) zero-le

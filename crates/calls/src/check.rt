@@ -13,13 +13,19 @@ ghost use Rattle.model.specs.Accepted.{CheckAllowed};
 ghost use Rattle.certificate.specs.Demand.{CheckDemand};
 ghost use Rattle.calls.specs.Answers.{answerOf};
 
-pub fn check(t: Terms, samples: &[u8], flow: &[i32], image: &mut [i32]) -> Answer
-    ensures { λ r. ⌜ answerOf r ≡ checkAnswer t (now (samples .entry)) (now (flow .entry)) (now (image .entry)) ⌝ }
-    ensures { λ _. ⌜ now (image .exit) ≡ checkImage t (now (samples .entry)) (now (flow .entry)) (now (image .entry)) ⌝ }
-    ensures { λ r. ⌜ ((answerOf r .number ≡ 0) ↔ CheckAllowed t (now (samples .entry)) (now (flow .entry)) (now (image .entry))) ⌝ }
-    ensures { λ r. ⌜ (answerOf r .number ≡ 0 → CheckDemand t (now (samples .entry)) (now (flow .entry)) (now (image .exit)) (answerOf r)) ⌝ }
+pub fn check(
+    t: Terms,
+    samples: &[u8],
+    weights: &[i32],
+    flow: &[i32],
+    image: &mut [i32],
+) -> Answer
+    ensures { λ r. ⌜ answerOf r ≡ checkAnswer t (now (samples .entry)) (now (weights .entry)) (now (flow .entry)) (now (image .entry)) ⌝ }
+    ensures { λ _. ⌜ now (image .exit) ≡ checkImage t (now (samples .entry)) (now (weights .entry)) (now (flow .entry)) (now (image .entry)) ⌝ }
+    ensures { λ r. ⌜ ((answerOf r .number ≡ 0) ↔ CheckAllowed t (now (samples .entry)) (now (weights .entry)) (now (flow .entry)) (now (image .entry))) ⌝ }
+    ensures { λ r. ⌜ (answerOf r .number ≡ 0 → CheckDemand t (now (samples .entry)) (now (weights .entry)) (now (flow .entry)) (now (image .exit)) (answerOf r)) ⌝ }
 {
-    let verdict = judges::judge_check(t, samples.len(), flow, image.len());
+    let verdict = judges::judge_check(t, samples.len(), weights, flow, image.len());
     if let Verdict::Refuse { number, place } = verdict {
         return Answer::Refused { number, place };
     }
@@ -28,7 +34,7 @@ pub fn check(t: Terms, samples: &[u8], flow: &[i32], image: &mut [i32]) -> Answe
     let lower = pixel::low_end(t.low);
     let upper = pixel::high_end(t.high);
     fill_image(image, samples, flow, w, h, lower, upper);
-    let f = figures::of_flow(t, samples, flow, image);
+    let f = figures::of_flow(t, samples, weights, flow, image);
     Answer::Checked {
         price: f.price,
         floor: f.floor,

@@ -12,7 +12,7 @@ ghost use lib.Signed.{_≤ℤ_};
 ghost use Rattle.model.specs.Lists.{at};
 ghost use Rattle.model.specs.Problem;
 ghost use Rattle.model.specs.Grid.{grid};
-ghost use Rattle.calls.specs.Ready.{PriceReady, FlowReady};
+ghost use Rattle.calls.specs.Ready.{PriceReady, FlowReady, scaleOf};
 
 pub struct Figures {
     pub price: u64,
@@ -26,6 +26,13 @@ fn objective(fidelity: u64, variation: u64, weight: u32) -> u64
     ensures { λ r. ⌜ r ≡ fidelity + 2 * (weight * variation) ⌝ }
 {
     fidelity + 2 * ((weight as u64) * variation)
+}
+
+// What the sum over pairs is multiplied by: the terms' weight, or 1 where it has the pairs' own.
+fn scale(weight: u32, weights: &[i32]) -> u32
+    ensures { λ r. ⌜ r ≡ scaleOf weight (now (weights .entry)) ⌝ }
+{
+    if weights.len() == 0 { weight } else { 1 }
 }
 
 // The dual objective: the data fidelity term plus twice the sum of flow times fall.
@@ -45,25 +52,36 @@ fn gap(price: u64, floor: i64) -> u64
 }
 
 // The price of an image of the box.
-pub fn image_price(t: Terms, samples: &[u8], image: &[i32]) -> u64
-    requires { ⌜ PriceReady t (now samples) (now image) ⌝ }
-    ensures { λ r. ⌜ pos r ≡ Problem.price (grid t (now (samples .entry))) (at (now (image .entry))) ⌝ }
+pub fn image_price(t: Terms, samples: &[u8], weights: &[i32], image: &[i32]) -> u64
+    requires { ⌜ PriceReady t (now samples) (now weights) (now image) ⌝ }
+    ensures { λ r. ⌜ pos r ≡ Problem.price (grid t (now (samples .entry)) (now (weights .entry))) (at (now (image .entry))) ⌝ }
 {
-    let variation = total_variation_grid(image, t.width as usize, t.height as usize);
-    objective(misfit(image, samples), variation, t.weight)
+    let variation = total_variation_grid(image, t.width as usize, t.height as usize, weights);
+    objective(
+        misfit(image, samples),
+        variation,
+        scale(t.weight, weights),
+    )
 }
 
 // The figures of a flow whose image is at hand.
-pub fn of_flow(t: Terms, samples: &[u8], flow: &[i32], image: &[i32]) -> Figures
-    requires { ⌜ FlowReady t (now samples) (now flow) (now image) ⌝ }
-    ensures { λ r. ⌜ pos (r .price) ≡ Problem.price (grid t (now (samples .entry))) (Problem.image (grid t (now (samples .entry))) (at (now (flow .entry)))) ⌝ }
-    ensures { λ r. ⌜ r .floor ≡ Problem.floor (grid t (now (samples .entry))) (at (now (flow .entry))) ⌝ }
-    ensures { λ r. ⌜ pos (r .slack) ≡ Problem.slack (grid t (now (samples .entry))) (at (now (flow .entry))) ⌝ }
+pub fn of_flow(
+    t: Terms,
+    samples: &[u8],
+    weights: &[i32],
+    flow: &[i32],
+    image: &[i32],
+) -> Figures
+    requires { ⌜ FlowReady t (now samples) (now weights) (now flow) (now image) ⌝ }
+    ensures { λ r. ⌜ pos (r .price) ≡ Problem.price (grid t (now (samples .entry)) (now (weights .entry))) (Problem.image (grid t (now (samples .entry)) (now (weights .entry))) (at (now (flow .entry)))) ⌝ }
+    ensures { λ r. ⌜ r .floor ≡ Problem.floor (grid t (now (samples .entry)) (now (weights .entry))) (at (now (flow .entry))) ⌝ }
+    ensures { λ r. ⌜ pos (r .slack) ≡ Problem.slack (grid t (now (samples .entry)) (now (weights .entry))) (at (now (flow .entry))) ⌝ }
 {
     let w = t.width as usize;
     let h = t.height as usize;
     let fidelity = misfit(image, samples);
-    let price = objective(fidelity, total_variation_grid(image, w, h), t.weight);
+    let variation = total_variation_grid(image, w, h, weights);
+    let price = objective(fidelity, variation, scale(t.weight, weights));
     let floor = dual(fidelity, total_work_grid(flow, image, w, h));
     Figures {
         price,

@@ -11,18 +11,18 @@ ghost use Rattle.model.specs.Calls.{priceAnswer};
 ghost use Rattle.model.specs.Accepted.{PriceAllowed};
 ghost use Rattle.calls.specs.Answers.{answerOf};
 
-pub fn price(t: Terms, samples: &[u8], image: &[i32]) -> Answer
-    ensures { λ r. ⌜ answerOf r ≡ priceAnswer t (now (samples .entry)) (now (image .entry)) ⌝ }
-    ensures { λ r. ⌜ ((answerOf r .number ≡ 0) ↔ PriceAllowed t (now (samples .entry)) (now (image .entry))) ⌝ }
+pub fn price(t: Terms, samples: &[u8], weights: &[i32], image: &[i32]) -> Answer
+    ensures { λ r. ⌜ answerOf r ≡ priceAnswer t (now (samples .entry)) (now (weights .entry)) (now (image .entry)) ⌝ }
+    ensures { λ r. ⌜ ((answerOf r .number ≡ 0) ↔ PriceAllowed t (now (samples .entry)) (now (weights .entry)) (now (image .entry))) ⌝ }
 {
     let lower = pixel::low_end(t.low);
     let upper = pixel::high_end(t.high);
-    let verdict = judges::judge_price(t, lower, upper, samples.len(), image);
+    let verdict = judges::judge_price(t, lower, upper, samples.len(), weights, image);
     if let Verdict::Refuse { number, place } = verdict {
         return Answer::Refused { number, place };
     }
     Answer::Checked {
-        price: figures::image_price(t, samples, image),
+        price: figures::image_price(t, samples, weights, image),
         floor: 0,
         slack: 0,
     }

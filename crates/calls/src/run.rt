@@ -20,21 +20,23 @@ pub fn run(
     t: Terms,
     r: Rounds,
     samples: &[u8],
+    weights: &[i32],
     flow: &mut [i32],
     image: &mut [i32],
     work: &mut [i32],
 ) -> Answer
-    ensures { λ a. ⌜ answerOf a ≡ runAnswer t r (now (samples .entry)) (now (flow .entry)) (now (image .entry)) (now (work .entry)) ⌝ }
-    ensures { λ _. ⌜ now (flow .exit) ≡ runFlow t r (now (samples .entry)) (now (flow .entry)) (now (image .entry)) (now (work .entry)) ⌝ }
-    ensures { λ _. ⌜ now (image .exit) ≡ runImage t r (now (samples .entry)) (now (flow .entry)) (now (image .entry)) (now (work .entry)) ⌝ }
-    ensures { λ _. ⌜ now (work .exit) ≡ runWork t r (now (samples .entry)) (now (flow .entry)) (now (image .entry)) (now (work .entry)) ⌝ }
-    ensures { λ a. ⌜ ((answerOf a .number ≡ 0) ↔ RunAllowed t r (now (samples .entry)) (now (flow .entry)) (now (image .entry)) (now (work .entry))) ⌝ }
-    ensures { λ a. ⌜ (answerOf a .number ≡ 0 → RunDemand t r (now (samples .entry)) (now (flow .exit)) (now (image .exit)) (answerOf a)) ⌝ }
+    ensures { λ a. ⌜ answerOf a ≡ runAnswer t r (now (samples .entry)) (now (weights .entry)) (now (flow .entry)) (now (image .entry)) (now (work .entry)) ⌝ }
+    ensures { λ _. ⌜ now (flow .exit) ≡ runFlow t r (now (samples .entry)) (now (weights .entry)) (now (flow .entry)) (now (image .entry)) (now (work .entry)) ⌝ }
+    ensures { λ _. ⌜ now (image .exit) ≡ runImage t r (now (samples .entry)) (now (weights .entry)) (now (flow .entry)) (now (image .entry)) (now (work .entry)) ⌝ }
+    ensures { λ _. ⌜ now (work .exit) ≡ runWork t r (now (samples .entry)) (now (weights .entry)) (now (flow .entry)) (now (image .entry)) (now (work .entry)) ⌝ }
+    ensures { λ a. ⌜ ((answerOf a .number ≡ 0) ↔ RunAllowed t r (now (samples .entry)) (now (weights .entry)) (now (flow .entry)) (now (image .entry)) (now (work .entry))) ⌝ }
+    ensures { λ a. ⌜ (answerOf a .number ≡ 0 → RunDemand t r (now (samples .entry)) (now (weights .entry)) (now (flow .exit)) (now (image .exit)) (answerOf a)) ⌝ }
 {
     let verdict = judges::judge_run(
         t,
         r.quick,
         samples.len(),
+        weights,
         flow.len(),
         image.len(),
         work.len(),
@@ -44,10 +46,12 @@ pub fn run(
     }
     let lower = pixel::low_end(t.low);
     let upper = pixel::high_end(t.high);
-    quick_rounds(t, lower, upper, r.quick, samples, flow, image, work);
+    quick_rounds(
+        t, lower, upper, r.quick, samples, weights, flow, image, work,
+    );
     buffers::clear(work);
-    let end = steady_rounds(t, lower, upper, r.allowance, samples, flow, image);
-    let f = figures::of_flow(t, samples, flow, image);
+    let end = steady_rounds(t, lower, upper, r.allowance, samples, weights, flow, image);
+    let f = figures::of_flow(t, samples, weights, flow, image);
     if end.settled {
         Answer::Settled {
             moved: end.moved,

@@ -30,7 +30,7 @@ use Rattle.runs.specs.Ends.{BoxEnds}
 use Rattle.runs.specs.Run.{weightAt}
 use Rattle.primal.specs.Image.{imageValue}
 use Rattle.stencil.specs.Pair.{stepValue}
-use Rattle.raster.specs.Whole.{gridStep, gridMoves, gridFall}
+use Rattle.raster.specs.Whole.{gridStep, gridMoves, gridFall, gridVariation}
 use Rattle.runs.proofs.Fill.{table-cong}
 use Rattle.primal.proofs.Stencil.{pull-gathered}
 
@@ -98,8 +98,9 @@ module _ (t : Terms) (samples : List ℕ) (weights : List ℤ) where
       moving-is = firstWhere-cong (pairCount (grid t samples weights)) (λ j l. ap (λ (z : ℤ). not (sameZ z (at flow j))) (step-is j l))
 
     -- The sums of price and floor
-    pub variation-is : total (pairCount (grid t samples weights)) (λ j. abs (gridFall (t .width) (t .height) values j)) ≡ total (pairCount (grid t samples weights)) (λ j. abs (fall (grid t samples weights) (image (grid t samples weights) (at flow)) j))
-    variation-is = total-cong (pairCount (grid t samples weights)) (λ j l. ap abs (fall-is j l))
+    pub variation-is : (weight : ℕ → ℤ) → total (pairCount (grid t samples weights)) (gridVariation (t .width) (t .height) weight values)
+        ≡ total (pairCount (grid t samples weights)) (λ j. weight j *ℤ abs (fall (grid t samples weights) (image (grid t samples weights) (at flow)) j))
+    variation-is weight = total-cong (pairCount (grid t samples weights)) (λ j l. ap (λ (d : ℤ). weight j *ℤ abs d) (fall-is j l))
 
     pub work-is : total (pairCount (grid t samples weights)) (λ j. at flow j *ℤ gridFall (t .width) (t .height) values j) ≡ total (pairCount (grid t samples weights)) (λ j. at flow j *ℤ fall (grid t samples weights) (image (grid t samples weights) (at flow)) j)
     work-is = total-cong (pairCount (grid t samples weights)) (λ j l. ap (λ (d : ℤ). at flow j *ℤ d) (fall-is j l))

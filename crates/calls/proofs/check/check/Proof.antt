@@ -32,30 +32,31 @@ returns c =
     let h = sym (c .before .before .before .judge-check .ensures) ∙ c .before .verdict .given .1 in
     let t = s .args .t in
     let b = s .args .samples .now in
+    let o = s .args .weights .now in
     let f = s .args .flow .now in
     let x = s .args .image .now in
-    let e = sym (check-answer t b f x h) in
-    let g = sym (check-image t b f x h) in
-    (e, (g, (told e (check-number t b f x), check-demand t b f x e g)))
+    let e = sym (check-answer t b o f x h) in
+    let g = sym (check-image t b o f x h) in
+    (e, (g, (told e (check-number t b o f x), check-demand t b o f x e g)))
 
 enum-told : tie.Need-enum-told
 enum-told c = search needs
 
 -- past the verdict
 accepted : (c : tie.After-enum-told) → let s = c .before .before .before .before in
-    checkVerdict (s .args .t) (s .args .samples .now) (s .args .flow .now) (s .args .image .now) ≡ Verdict.Accept
+    checkVerdict (s .args .t) (s .args .samples .now) (s .args .weights .now) (s .args .flow .now) (s .args .image .now) ≡ Verdict.Accept
 unfolding checkVerdict
 accepted c = sym (c .before .before .judge-check .ensures) ∙ c .enum-told .given .1
 
 facts : (c : tie.After-enum-told) → let s = c .before .before .before .before in
-    CheckAllowed (s .args .t) (s .args .samples .now) (s .args .flow .now) (s .args .image .now)
-facts c = let s = c .before .before .before .before in check-accepted (s .args .t) (s .args .samples .now) (s .args .flow .now) (s .args .image .now) .0 (accepted c)
+    CheckAllowed (s .args .t) (s .args .samples .now) (s .args .weights .now) (s .args .flow .now) (s .args .image .now)
+facts c = let s = c .before .before .before .before in check-accepted (s .args .t) (s .args .samples .now) (s .args .weights .now) (s .args .flow .now) (s .args .image .now) .0 (accepted c)
 
 feasible : (c : tie.After-enum-told) → let s = c .before .before .before .before in
-    Feasible (grid (s .args .t) (s .args .samples .now)) (at (s .args .flow .now))
+    Feasible (grid (s .args .t) (s .args .samples .now) (s .args .weights .now)) (at (s .args .flow .now))
 feasible c =
     let s = c .before .before .before .before in
-    check-feasible (s .args .t) (s .args .samples .now) (s .args .flow .now) (s .args .image .now) (facts c)
+    check-feasible (s .args .t) (s .args .samples .now) (s .args .weights .now) (s .args .flow .now) (s .args .image .now) (facts c)
 
 cast-w : tie.Need-cast-w
 cast-w c = search needs
@@ -81,7 +82,7 @@ fill-image-requires c κs =
       image-count = a .image-length;
       sample-count = a .samples-length;
       flow-count = a .flow-length ∙ grid-count (t .width) (t .height);
-      flow-most = flow-most t (s .args .samples .now) (s .args .flow .now) (a .flow-length) (a .terms .weight-most) (feasible e);
+      flow-most = flow-most t (s .args .samples .now) (s .args .weights .now) (s .args .flow .now) (a .flow-length) (a .pair-weights) (a .terms .weight-most) (feasible e);
     }
 
 -- the image is the flow's
@@ -102,6 +103,7 @@ of-flow-requires c κs =
     let a = facts e in
     record {
       terms = a .terms;
+      pair-weights = a .pair-weights;
       samples-length = a .samples-length;
       flow-length = a .flow-length;
       feasible = feasible e;
@@ -119,14 +121,15 @@ returns-2 c =
     let s = e .before .before .before .before in
     let t = s .args .t in
     let b = s .args .samples .now in
+    let o = s .args .weights .now in
     let f = s .args .flow .now in
     let x = s .args .image .now in
     let k =
-    figured checked 0 t b f (r .of-flow .ensures .0) (read w64 (r .of-flow .ok .1 .1 .1 .0 .1) ∙ r .of-flow .ensures .1 .0) (r .of-flow .ensures .1 .1)
-    ∙ sym (check-answer t b f x (accepted e))
+    figured checked 0 t b o f (r .of-flow .ensures .0) (read w64 (r .of-flow .ok .1 .1 .1 .0 .1) ∙ r .of-flow .ensures .1 .0) (r .of-flow .ensures .1 .1)
+    ∙ sym (check-answer t b o f x (accepted e))
     in
-    let g = filled i ∙ sym (check-image t b f x (accepted e)) in
-    (k, (g, (told k (check-number t b f x), check-demand t b f x k g)))
+    let g = filled i ∙ sym (check-image t b o f x (accepted e)) in
+    (k, (g, (told k (check-number t b o f x), check-demand t b o f x k g)))
 
 pub check-spec : {M : Type 1} → statement M
 check-spec =

@@ -23,13 +23,13 @@ judge-price-requires c κs = search needs
 
 -- the verdict, by the ends of the box
 judged : (c : tie.After-judge-price) → let s = c .before .before .before .before in
-    c .judge-price .result ≡ priceVerdict (s .args .t) (s .args .samples .now) (s .args .image .now)
+    c .judge-price .result ≡ priceVerdict (s .args .t) (s .args .samples .now) (s .args .weights .now) (s .args .image .now)
 judged c =
     let high = c .before in
     let low = high .before in
     let s = low .before .before in
     c .judge-price .ensures
-    ∙ price-verdict (s .args .t) (s .args .samples .now) (s .args .image .now)
+    ∙ price-verdict (s .args .t) (s .args .samples .now) (s .args .weights .now) (s .args .image .now)
     (record { low-is = read w32 (low .low-end .ok) ∙ low .low-end .ensures; high-is = read w32 (high .high-end .ok) ∙ high .high-end .ensures })
 
 enum-known-verdict : tie.Need-enum-known-verdict
@@ -38,26 +38,27 @@ enum-known-verdict c = search needs
 returns : tie.Need-returns
 returns c =
     let s = c .before .before .before .before .before .before .before in
-    let e = sym (price-answer (s .args .t) (s .args .samples .now) (s .args .image .now) (sym (judged (c .before .before .before)) ∙ c .before .verdict .given .1)) in
-    (e, told e (price-number (s .args .t) (s .args .samples .now) (s .args .image .now)))
+    let e = sym (price-answer (s .args .t) (s .args .samples .now) (s .args .weights .now) (s .args .image .now) (sym (judged (c .before .before .before)) ∙ c .before .verdict .given .1)) in
+    (e, told e (price-number (s .args .t) (s .args .samples .now) (s .args .weights .now) (s .args .image .now)))
 
 enum-told : tie.Need-enum-told
 enum-told c = search needs
 
 -- past the verdict
 accepted : (c : tie.After-enum-told) → let s = c .before .before .before .before .before .before in
-    priceVerdict (s .args .t) (s .args .samples .now) (s .args .image .now) ≡ Verdict.Accept
+    priceVerdict (s .args .t) (s .args .samples .now) (s .args .weights .now) (s .args .image .now) ≡ Verdict.Accept
 accepted c = sym (judged (c .before .before)) ∙ c .enum-told .given .1
 
 image-price-requires : tie.Need-image-price-requires
 image-price-requires c κs =
     let s = c .before .before .before .before .before .before in
-    let a = price-accepted (s .args .t) (s .args .samples .now) (s .args .image .now) .0 (accepted c) in
+    let a = price-accepted (s .args .t) (s .args .samples .now) (s .args .weights .now) (s .args .image .now) .0 (accepted c) in
     record {
       terms = a .terms;
+      pair-weights = a .pair-weights;
       samples-length = a .samples-length;
       image-length = a .image-length;
-      inside = price-inside (s .args .t) (s .args .samples .now) (s .args .image .now) a;
+      inside = price-inside (s .args .t) (s .args .samples .now) (s .args .weights .now) (s .args .image .now) a;
     }
 
 returns-2 : tie.Need-returns-2
@@ -65,9 +66,9 @@ returns-2 c =
     let s = c .before .before .before .before .before .before .before in
     let e =
     ap (λ (z : ℤ). figures checked 0 z (pos 0) (pos 0)) (c .image-price .ensures)
-    ∙ sym (price-answer (s .args .t) (s .args .samples .now) (s .args .image .now) (accepted (c .before)))
+    ∙ sym (price-answer (s .args .t) (s .args .samples .now) (s .args .weights .now) (s .args .image .now) (accepted (c .before)))
     in
-    (e, told e (price-number (s .args .t) (s .args .samples .now) (s .args .image .now)))
+    (e, told e (price-number (s .args .t) (s .args .samples .now) (s .args .weights .now) (s .args .image .now)))
 
 pub price-spec : {M : Type 1} → statement M
 price-spec =

@@ -43,29 +43,30 @@ returns c =
     let h = sym (c .before .before .before .judge-run .ensures) ∙ c .before .verdict .given .1 in
     let t = s .args .t in
     let b = s .args .samples .now in
+    let o′ = s .args .weights .now in
     let f = s .args .flow .now in
     let x = s .args .image .now in
     let w = s .args .work .now in
     let r = s .args .r in
-    let e = sym (run-answer t r b f x w h) in
-    let g = sym (run-flow t r b f x w h) in
-    let k = sym (run-image t r b f x w h) in
-    (e, (g, (k, (sym (run-work t r b f x w h), (told e (run-number t r b f x w), run-demand t r b f x w e g k)))))
+    let e = sym (run-answer t r b o′ f x w h) in
+    let g = sym (run-flow t r b o′ f x w h) in
+    let k = sym (run-image t r b o′ f x w h) in
+    (e, (g, (k, (sym (run-work t r b o′ f x w h), (told e (run-number t r b o′ f x w), run-demand t r b o′ f x w e g k)))))
 
 enum-told : tie.Need-enum-told
 enum-told c = search needs
 
 -- past the verdict
 accepted : (c : tie.After-enum-told) → let s = c .before .before .before .before in
-    runVerdict (s .args .t) (s .args .r) (s .args .samples .now) (s .args .flow .now) (s .args .image .now) (s .args .work .now) ≡ Verdict.Accept
+    runVerdict (s .args .t) (s .args .r) (s .args .samples .now) (s .args .weights .now) (s .args .flow .now) (s .args .image .now) (s .args .work .now) ≡ Verdict.Accept
 unfolding runVerdict
 accepted c = sym (c .before .before .judge-run .ensures) ∙ c .enum-told .given .1
 
 facts : (c : tie.After-enum-told) → let s = c .before .before .before .before in
-    RunAllowed (s .args .t) (s .args .r) (s .args .samples .now) (s .args .flow .now) (s .args .image .now) (s .args .work .now)
+    RunAllowed (s .args .t) (s .args .r) (s .args .samples .now) (s .args .weights .now) (s .args .flow .now) (s .args .image .now) (s .args .work .now)
 facts c =
     let s = c .before .before .before .before in
-    run-accepted (s .args .t) (s .args .r) (s .args .samples .now) (s .args .flow .now) (s .args .image .now) (s .args .work .now) .0 (accepted c)
+    run-accepted (s .args .t) (s .args .r) (s .args .samples .now) (s .args .weights .now) (s .args .flow .now) (s .args .image .now) (s .args .work .now) .0 (accepted c)
 
 low-end-requires : tie.Need-low-end-requires
 low-end-requires c κs = search needs
@@ -87,6 +88,7 @@ quick-rounds-requires c κs =
       ends high,
       record {
         limits = a .terms;
+        pair-weights = a .pair-weights;
         lengths = record { samples-length = a .samples-length; flow-length = a .flow-length; image-length = a .image-length };
         quick-most = omega (arith, a .quick-most);
         work-length = a .work-length ∙ ap (λ (n : ℕ). 2 * n) (sym (a .flow-length));
@@ -98,7 +100,7 @@ clear-requires c κs = search needs
 
 -- the flow that the quick rounds leave
 iterate : (c : tie.After-quick-rounds) → let s = c .before .before .before .before .before .before .before .before .before .before in
-    c .quick-rounds .last .1 .1 .1 .1 .1 .0 ≡ quickFlow (s .args .t) (s .args .r) (s .args .samples .now)
+    c .quick-rounds .last .1 .1 .1 .1 .1 .1 .0 ≡ quickFlow (s .args .t) (s .args .r) (s .args .samples .now) (s .args .weights .now)
 unfolding quickFlow
 iterate c = c .quick-rounds .ensures .0
 
@@ -111,27 +113,29 @@ steady-rounds-requires c κs =
     let s = e .before .before .before .before in
     let a = facts e in
     let t = s .args .t in
-    let b = s .args .samples .now in (
+    let b = s .args .samples .now in
+    let o = s .args .weights .now in (
       ends high,
       record {
         limits = a .terms;
-        lengths = record { samples-length = a .samples-length; flow-length = ap length (iterate q) ∙ iterate-size eighth (grid t b) (s .args .r .quick); image-length = c .before .before .before .before .before .before .image .given ∙ a .image-length };
-        flow-most = subst (Within (t .weight)) (sym (iterate q)) (iterate-within eighth t b (s .args .r .quick));
+        pair-weights = a .pair-weights;
+        lengths = record { samples-length = a .samples-length; flow-length = ap length (iterate q) ∙ iterate-size eighth (grid t b o) (s .args .r .quick); image-length = c .before .before .before .before .before .before .image .given ∙ a .image-length };
+        flow-most = subst (Within 65280) (sym (iterate q)) (iterate-within eighth t b o (a .terms) (a .pair-weights) (s .args .r .quick));
       },
     )
 
 -- how the steady rounds end
 last : (c : tie.After-steady-rounds) → let s = c .before .before .before .before .before .before .before .before .before .before .before .before .before .before .before .before .before .before .before in
-    let e = ending (s .args .t) (s .args .r) (s .args .samples .now) in
-    (c .steady-rounds .last .1 .1 .1 .1 .1 .0 ≡ e .flow)
-    × (c .steady-rounds .last .1 .1 .1 .1 .1 .1 .0 ≡ imageOf (s .args .t) (s .args .samples .now) (e .flow))
+    let e = ending (s .args .t) (s .args .r) (s .args .samples .now) (s .args .weights .now) in
+    (c .steady-rounds .last .1 .1 .1 .1 .1 .1 .0 ≡ e .flow)
+    × (c .steady-rounds .last .1 .1 .1 .1 .1 .1 .1 .0 ≡ imageOf (s .args .t) (s .args .samples .now) (e .flow))
     × (c .steady-rounds .result .moved ≡ e .moved)
     × (c .steady-rounds .result .settled ≡ e .settled)
 unfolding ending
 last c =
     let q = c .before .before .before .before .before .before .before .before .before in
     let s = q .before .before .before .before .before .before .before .before .before .before in
-    let p = grid (s .args .t) (s .args .samples .now) in
+    let p = grid (s .args .t) (s .args .samples .now) (s .args .weights .now) in
     let left = c .steady-rounds .ensures in
     let f = left .0 ∙ ap (λ (g : List ℤ). steadyRounds nearestEighth p (s .args .r .allowance) g .flow) (iterate q) in (
       f,
@@ -148,13 +152,15 @@ of-flow-requires c κs =
     let a = facts e in
     let t = s .args .t in
     let b = s .args .samples .now in
+    let o = s .args .weights .now in
     let f = last l .0 in
-    let g = ending-flow t (s .args .r) b (a .terms .box) in
+    let g = ending-flow t (s .args .r) b o (a .terms .box) in
     record {
       terms = a .terms;
+      pair-weights = a .pair-weights;
       samples-length = a .samples-length;
       flow-length = ap length f ∙ g .0;
-      feasible = subst (λ (h : List ℤ). Feasible (grid t b) (at h)) (sym f) (g .1);
+      feasible = subst (λ (h : List ℤ). Feasible (grid t b o) (at h)) (sym f) (g .1);
       image = last l .1 ∙ ap (imageOf t b) (sym f);
     }
 
@@ -165,18 +171,19 @@ ran : (c : tie.After-of-flow) → let l = c .before .before .before .before .bef
     let t = s .args .t in
     let r = s .args .r in
     let b = s .args .samples .now in
+    let o′ = s .args .weights .now in
     let f = s .args .flow .now in
     let x = s .args .image .now in
     let w = s .args .work .now in
     (o : Outcome) → cond (l .steady-rounds .result .settled) settled spent ≡ o →
     let a = figures o (l .steady-rounds .result .moved) (pos (c .of-flow .result .price)) (toZ w64 (ofZ w64 (c .of-flow .result .floor))) (pos (c .of-flow .result .slack)) in
-    let flow = l .steady-rounds .last .1 .1 .1 .1 .1 .0 in
-    let image = l .steady-rounds .last .1 .1 .1 .1 .1 .1 .0 in
-    (a ≡ runAnswer t r b f x w)
-    × ((flow ≡ runFlow t r b f x w)
-    × ((image ≡ runImage t r b f x w)
-    × ((l .before .before .before .before .clear .last .0 ≡ runWork t r b f x w)
-    × (((a .number ≡ 0) ↔ RunAllowed t r b f x w) × (a .number ≡ 0 → RunDemand t r b flow image a)))))
+    let flow = l .steady-rounds .last .1 .1 .1 .1 .1 .1 .0 in
+    let image = l .steady-rounds .last .1 .1 .1 .1 .1 .1 .1 .0 in
+    (a ≡ runAnswer t r b o′ f x w)
+    × ((flow ≡ runFlow t r b o′ f x w)
+    × ((image ≡ runImage t r b o′ f x w)
+    × ((l .before .before .before .before .clear .last .0 ≡ runWork t r b o′ f x w)
+    × (((a .number ≡ 0) ↔ RunAllowed t r b o′ f x w) × (a .number ≡ 0 → RunDemand t r b o′ flow image a)))))
 ran c o h =
     let l = c .before .before .before .before .before in
     let e = l .before .before .before .before .before .before .before .before .before .before .before .before .before .before .before in
@@ -184,6 +191,7 @@ ran c o h =
     let t = s .args .t in
     let r = s .args .r in
     let b = s .args .samples .now in
+    let o′ = s .args .weights .now in
     let f = s .args .flow .now in
     let x = s .args .image .now in
     let w = s .args .work .now in
@@ -192,19 +200,19 @@ ran c o h =
     let n = last l in
     let cleared = l .before .before .before .before in
     let answer =
-    figured o (l .steady-rounds .result .moved) t b (l .steady-rounds .last .1 .1 .1 .1 .1 .0) (g .0) (read w64 (c .of-flow .ok .1 .1 .1 .0 .1) ∙ g .1 .0) (g .1 .1)
-    ∙ ap₂ (λ (m : ℕ) (z : List ℤ). figuresOf o m t b z) (n .2) (n .0)
-    ∙ ap (λ (z : Outcome). figuresOf z (ending t r b .moved) t b (ending t r b .flow)) (sym h ∙ ap (λ (z : Bool). cond z settled spent) (n .3))
-    ∙ sym (run-answer t r b f x w yes)
+    figured o (l .steady-rounds .result .moved) t b o′ (l .steady-rounds .last .1 .1 .1 .1 .1 .1 .0) (g .0) (read w64 (c .of-flow .ok .1 .1 .1 .0 .1) ∙ g .1 .0) (g .1 .1)
+    ∙ ap₂ (λ (m : ℕ) (z : List ℤ). figuresOf o m t b o′ z) (n .2) (n .0)
+    ∙ ap (λ (z : Outcome). figuresOf z (ending t r b o′ .moved) t b o′ (ending t r b o′ .flow)) (sym h ∙ ap (λ (z : Bool). cond z settled spent) (n .3))
+    ∙ sym (run-answer t r b o′ f x w yes)
     in
-    let flow = n .0 ∙ sym (run-flow t r b f x w yes) in
-    let image = n .1 ∙ sym (run-image t r b f x w yes) in
+    let flow = n .0 ∙ sym (run-flow t r b o′ f x w yes) in
+    let image = n .1 ∙ sym (run-image t r b o′ f x w yes) in
     let work =
     cleared .clear .ensures
     ∙ ap (λ (i : ℕ). replicate i (pos 0)) (cleared .before .before .work .given ∙ facts e .work-length)
-    ∙ sym (run-work t r b f x w yes)
+    ∙ sym (run-work t r b o′ f x w yes)
     in
-    (answer, (flow, (image, (work, (told answer (run-number t r b f x w), run-demand t r b f x w answer flow image)))))
+    (answer, (flow, (image, (work, (told answer (run-number t r b o′ f x w), run-demand t r b o′ f x w answer flow image)))))
 
 same-length : tie.Need-same-length
 same-length c = search needs
