@@ -13,7 +13,7 @@ use Rattle.model.specs.Problem.{Problem}
 use Rattle.model.specs.Calls.{Outcome, refused, checked, settled, spent, Answer, pixelsOf, pairsOf}
 use Rattle.model.specs.Tape.{ReadAnswer, WriteAnswer}
 use Rattle.certificate.specs.Demand.{Certificate, RunDemand}
-use Rattle.roundtrip.specs.RoundTrip.{ReadsBack, WritesBack, flowCount}
+use Rattle.roundtrip.specs.RoundTrip.{ReadsBack, WritesBack, weightCount, flowCount}
 use Rattle.relief_c.specs.Plain.{outcomeNumber, outcomeOf, told, Handed, HandedJob, HandedTape}
 
 -- price, check and run; the sign of a floor is read from its bits
@@ -48,27 +48,34 @@ module _ {number place outcome moved price : ℕ} {floor : ℤ} {slack : ℕ} {a
       Certificate p flow image (told number place outcome moved price floor slack)
   check-by {p} {flow} {image} k z = subst (Certificate p flow image) (sym told-is) (k (sym (h .number) ∙ z))
 
-  pub run-by : {t : Terms} {r : Rounds} {samples : List ℕ} {flow image : List ℤ} → (a .number ≡ 0 → RunDemand t r samples flow image a) → number ≡ 0 →
-      RunDemand t r samples flow image (told number place outcome moved price floor slack)
-  run-by {t} {r} {samples} {flow} {image} k z = subst (RunDemand t r samples flow image) (sym told-is) (k (sym (h .number) ∙ z))
+  pub run-by : {t : Terms} {r : Rounds} {samples : List ℕ} {weights flow image : List ℤ} → (a .number ≡ 0 → RunDemand t r samples weights flow image a) → number ≡ 0 →
+      RunDemand t r samples weights flow image (told number place outcome moved price floor slack)
+  run-by {t} {r} {samples} {weights} {flow} {image} k z = subst (RunDemand t r samples weights flow image) (sym told-is) (k (sym (h .number) ∙ z))
 
 -- read
-module _ {number place : ℕ} {t : Terms} {r : Rounds} {w : ℕ} {a : ReadAnswer} (h : HandedJob number place t r w a) where
-  pub same-job : {b : ReadAnswer} → a ≡ b → HandedJob number place t r w b
-  same-job e = subst (HandedJob number place t r w) e h
+module _ {number place : ℕ} {t : Terms} {r : Rounds} {w f : ℕ} {a : ReadAnswer} (h : HandedJob number place t r w f a) where
+  pub same-job : {b : ReadAnswer} → a ≡ b → HandedJob number place t r w f b
+  same-job e = subst (HandedJob number place t r w f) e h
 
-  times-flowed : (x : Bool) (n : ℕ) → cond x 1 0 * n ≡ cond x n 0
-  times-flowed true n = omega arith
-  times-flowed false n = omega arith
+  times : (x : Bool) (n : ℕ) → cond x 1 0 * n ≡ cond x n 0
+  times true n = omega arith
+  times false n = omega arith
+
+  -- all pairs' numbers where they were there, else none
+  counted : {x : ℕ} (b : Bool) → x ≡ cond b 1 0 → x * pairsOf t ≡ cond b (pairsOf (a .terms)) 0
+  counted b e = ap₂ (λ (n : ℕ) (y : Terms). n * pairsOf y) e (h .terms) ∙ times b (pairsOf (a .terms))
 
   -- the job written back, by the numbers that are handed out
-  pub back-by : (codes : List ℕ) (numbers : List ℤ) {tape : List ℕ} →
-      (a .number ≡ 0 → WritesBack (a .terms) (a .rounds) (take (pixelsOf (a .terms)) codes) (take (flowCount a) numbers) tape) →
-      number ≡ 0 → WritesBack t r (take (pixelsOf t) codes) (take (w * pairsOf t) numbers) tape
-  back-by codes numbers {tape} k z =
-      let count : w * pairsOf t ≡ flowCount a = ap₂ (λ (x : ℕ) (y : Terms). x * pairsOf y) (h .flowed) (h .terms) ∙ times-flowed (a .flowed) (pairsOf (a .terms)) in
+  pub back-by : (codes : List ℕ) (weights numbers : List ℤ) {tape : List ℕ} →
+      (a .number ≡ 0 → WritesBack (a .terms) (a .rounds) (take (pixelsOf (a .terms)) codes) (take (weightCount a) weights) (take (flowCount a) numbers) tape) →
+      number ≡ 0 → WritesBack t r (take (pixelsOf t) codes) (take (w * pairsOf t) weights) (take (f * pairsOf t) numbers) tape
+  back-by codes weights numbers {tape} k z =
+      let own = counted (a .weighted) (h .weighted) in
+      let count = counted (a .flowed) (h .flowed) in
       subst (λ (T : Type 0). T)
-      (λ i. WritesBack (sym (h .terms) i) (sym (h .rounds) i) (take (pixelsOf (sym (h .terms) i)) codes) (take (sym count i) numbers) tape)
+      (λ i.
+      WritesBack (sym (h .terms) i) (sym (h .rounds) i) (take (pixelsOf (sym (h .terms) i)) codes) (take (sym own i) weights) (take (sym count i) numbers)
+      tape)
       (k (sym (h .number) ∙ z))
 
 -- write
@@ -76,7 +83,7 @@ module _ {number place count : ℕ} {a : WriteAnswer} (h : HandedTape number pla
   pub same-tape : {b : WriteAnswer} → a ≡ b → HandedTape number place count b
   same-tape e = subst (HandedTape number place count) e h
 
-  pub tape-by : (t : Terms) (r : Rounds) (samples : List ℕ) (numbers : List ℤ) (left : List ℕ) →
-      (a .number ≡ 0 → ReadsBack t r samples numbers (take (a .count) left)) → number ≡ 0 → ReadsBack t r samples numbers (take count left)
-  tape-by t r samples numbers left k z =
-      subst (λ (n : ℕ). ReadsBack t r samples numbers (take n left)) (sym (h .count)) (k (sym (h .number) ∙ z))
+  pub tape-by : (t : Terms) (r : Rounds) (samples : List ℕ) (weights numbers : List ℤ) (left : List ℕ) →
+      (a .number ≡ 0 → ReadsBack t r samples weights numbers (take (a .count) left)) → number ≡ 0 → ReadsBack t r samples weights numbers (take count left)
+  tape-by t r samples weights numbers left k z =
+      subst (λ (n : ℕ). ReadsBack t r samples weights numbers (take n left)) (sym (h .count)) (k (sym (h .number) ∙ z))

@@ -52,14 +52,15 @@ pub record Handed (n q o m p : ℕ) (f : ℤ) (s : ℕ) (a : Answer) : Type 0 wh
   pub floor : f ≡ a .floor
   pub slack : pos s ≡ a .slack
 
--- What read hands out: n and q are the number and place of its answer, t and r the job's terms and rounds, and w is 1 where a
--- flow was there, else 0
-pub record HandedJob (n q : ℕ) (t : Terms) (r : Rounds) (w : ℕ) (a : ReadAnswer) : Type 0 where
+-- What read hands out: n and q are the number and place of its answer, t and r the job's terms and rounds, w is 1 where weights
+-- and f is 1 where a flow were there, else 0
+pub record HandedJob (n q : ℕ) (t : Terms) (r : Rounds) (w f : ℕ) (a : ReadAnswer) : Type 0 where
   pub number : n ≡ a .number
   pub place : q ≡ a .place
   pub terms : t ≡ a .terms
   pub rounds : r ≡ a .rounds
-  pub flowed : w ≡ cond (a .flowed) 1 0
+  pub weighted : w ≡ cond (a .weighted) 1 0
+  pub flowed : f ≡ cond (a .flowed) 1 0
 
 -- What write hands out: number, place and byte count of its answer
 pub record HandedTape (n q c : ℕ) (a : WriteAnswer) : Type 0 where

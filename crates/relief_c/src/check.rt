@@ -18,6 +18,7 @@ pub extern "C" fn relief_check(
     low: u8,
     high: u8,
     samples: &[u8],
+    weights: &[i32],
     flow: &[i32],
     image: &mut [i32],
     place: &mut u64,
@@ -27,10 +28,10 @@ pub extern "C" fn relief_check(
     floor: &mut i64,
     slack: &mut u64,
 ) -> u32
-    ensures { λ r. ⌜ Handed r (now (place .exit)) (now (outcome .exit)) (now (moved .exit)) (now (price .exit)) (now (floor .exit)) (now (slack .exit)) (checkAnswer (termsOf width height weight low high) (now (samples .entry)) (now (flow .entry)) (now (image .entry))) ⌝ }
-    ensures { λ _. ⌜ now (image .exit) ≡ checkImage (termsOf width height weight low high) (now (samples .entry)) (now (flow .entry)) (now (image .entry)) ⌝ }
-    ensures { λ r. ⌜ ((r ≡ 0) ↔ CheckAllowed (termsOf width height weight low high) (now (samples .entry)) (now (flow .entry)) (now (image .entry))) ⌝ }
-    ensures { λ r. ⌜ (r ≡ 0 → CheckDemand (termsOf width height weight low high) (now (samples .entry)) (now (flow .entry)) (now (image .exit)) (told r (now (place .exit)) (now (outcome .exit)) (now (moved .exit)) (now (price .exit)) (now (floor .exit)) (now (slack .exit)))) ⌝ }
+    ensures { λ r. ⌜ Handed r (now (place .exit)) (now (outcome .exit)) (now (moved .exit)) (now (price .exit)) (now (floor .exit)) (now (slack .exit)) (checkAnswer (termsOf width height weight low high) (now (samples .entry)) (now (weights .entry)) (now (flow .entry)) (now (image .entry))) ⌝ }
+    ensures { λ _. ⌜ now (image .exit) ≡ checkImage (termsOf width height weight low high) (now (samples .entry)) (now (weights .entry)) (now (flow .entry)) (now (image .entry)) ⌝ }
+    ensures { λ r. ⌜ ((r ≡ 0) ↔ CheckAllowed (termsOf width height weight low high) (now (samples .entry)) (now (weights .entry)) (now (flow .entry)) (now (image .entry))) ⌝ }
+    ensures { λ r. ⌜ (r ≡ 0 → CheckDemand (termsOf width height weight low high) (now (samples .entry)) (now (weights .entry)) (now (flow .entry)) (now (image .exit)) (told r (now (place .exit)) (now (outcome .exit)) (now (moved .exit)) (now (price .exit)) (now (floor .exit)) (now (slack .exit)))) ⌝ }
 {
     let t = Terms {
         width,
@@ -39,7 +40,7 @@ pub extern "C" fn relief_check(
         low,
         high,
     };
-    let n = numbers_of(check(t, samples, flow, image));
+    let n = numbers_of(check(t, samples, weights, flow, image));
     *place = n.place;
     *outcome = n.outcome;
     *moved = n.moved;

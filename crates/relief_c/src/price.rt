@@ -17,6 +17,7 @@ pub extern "C" fn relief_price(
     low: u8,
     high: u8,
     samples: &[u8],
+    weights: &[i32],
     image: &[i32],
     place: &mut u64,
     outcome: &mut u32,
@@ -25,8 +26,8 @@ pub extern "C" fn relief_price(
     floor: &mut i64,
     slack: &mut u64,
 ) -> u32
-    ensures { λ r. ⌜ Handed r (now (place .exit)) (now (outcome .exit)) (now (moved .exit)) (now (price .exit)) (now (floor .exit)) (now (slack .exit)) (priceAnswer (termsOf width height weight low high) (now (samples .entry)) (now (image .entry))) ⌝ }
-    ensures { λ r. ⌜ ((r ≡ 0) ↔ PriceAllowed (termsOf width height weight low high) (now (samples .entry)) (now (image .entry))) ⌝ }
+    ensures { λ r. ⌜ Handed r (now (place .exit)) (now (outcome .exit)) (now (moved .exit)) (now (price .exit)) (now (floor .exit)) (now (slack .exit)) (priceAnswer (termsOf width height weight low high) (now (samples .entry)) (now (weights .entry)) (now (image .entry))) ⌝ }
+    ensures { λ r. ⌜ ((r ≡ 0) ↔ PriceAllowed (termsOf width height weight low high) (now (samples .entry)) (now (weights .entry)) (now (image .entry))) ⌝ }
 {
     let t = Terms {
         width,
@@ -35,7 +36,7 @@ pub extern "C" fn relief_price(
         low,
         high,
     };
-    let n = numbers_of(price_image(t, samples, image));
+    let n = numbers_of(price_image(t, samples, weights, image));
     *place = n.place;
     *outcome = n.outcome;
     *moved = n.moved;

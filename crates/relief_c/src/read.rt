@@ -11,7 +11,7 @@ ghost use lib.ListN.{take};
 ghost use Rattle.model.specs.Calls.{pixelsOf, pairsOf};
 ghost use Rattle.model.specs.Accepted.{ReadAllowed};
 ghost use Rattle.roundtrip.specs.RoundTrip.{WritesBack};
-ghost use Rattle.model.specs.Tape.{readAnswer, readSamples, readFlow};
+ghost use Rattle.model.specs.Tape.{readAnswer, readSamples, readWeights, readFlow};
 ghost use Rattle.tape_read.specs.Answers.{readAnswerOf};
 ghost use Rattle.relief_c.specs.Plain.{termsOf, roundsOf, HandedJob};
 
@@ -21,24 +21,28 @@ pub struct Job {
     pub place: u64,
     pub terms: Terms,
     pub rounds: Rounds,
+    pub weighted: u32,
     pub flowed: u32,
 }
 
 fn job_of(a: ReadResult) -> Job
-    ensures { λ r. ⌜ HandedJob (r .number) (r .place) (r .terms) (r .rounds) (r .flowed) (readAnswerOf a) ⌝ }
+    ensures { λ r. ⌜ HandedJob (r .number) (r .place) (r .terms) (r .rounds) (r .weighted) (r .flowed) (readAnswerOf a) ⌝ }
 {
     match a {
         ReadResult::Job {
             terms,
             rounds,
+            weighted,
             flowed,
         } => {
+            let own = weighted as u32;
             let seen = flowed as u32;
             Job {
                 number: 0,
                 place: 0,
                 terms,
                 rounds,
+                weighted: own,
                 flowed: seen,
             }
         }
@@ -59,6 +63,7 @@ fn job_of(a: ReadResult) -> Job
                 place: place as u64,
                 terms,
                 rounds,
+                weighted: 0,
                 flowed: 0,
             }
         }
@@ -69,6 +74,7 @@ fn job_of(a: ReadResult) -> Job
 pub extern "C" fn relief_read(
     tape: &[u8],
     samples: &mut [u8],
+    weights: &mut [i32],
     flow: &mut [i32],
     place: &mut u64,
     width: &mut u32,
@@ -78,15 +84,17 @@ pub extern "C" fn relief_read(
     high: &mut u8,
     quick: &mut u32,
     allowance: &mut u16,
+    weighted: &mut u32,
     flowed: &mut u32,
 ) -> u32
-    ensures { λ r. ⌜ HandedJob r (now (place .exit)) (termsOf (now (width .exit)) (now (height .exit)) (now (weight .exit)) (now (low .exit)) (now (high .exit))) (roundsOf (now (quick .exit)) (now (allowance .exit))) (now (flowed .exit)) (readAnswer (now (tape .entry)) (now (samples .entry)) (now (flow .entry))) ⌝ }
-    ensures { λ _. ⌜ now (samples .exit) ≡ readSamples (now (tape .entry)) (now (samples .entry)) (now (flow .entry)) ⌝ }
-    ensures { λ _. ⌜ now (flow .exit) ≡ readFlow (now (tape .entry)) (now (samples .entry)) (now (flow .entry)) ⌝ }
-    ensures { λ r. ⌜ ((r ≡ 0) ↔ ReadAllowed (now (tape .entry)) (now (samples .entry)) (now (flow .entry))) ⌝ }
-    ensures { λ r. ⌜ (r ≡ 0 → WritesBack (termsOf (now (width .exit)) (now (height .exit)) (now (weight .exit)) (now (low .exit)) (now (high .exit))) (roundsOf (now (quick .exit)) (now (allowance .exit))) (take (pixelsOf (termsOf (now (width .exit)) (now (height .exit)) (now (weight .exit)) (now (low .exit)) (now (high .exit)))) (now (samples .exit))) (take (now (flowed .exit) * pairsOf (termsOf (now (width .exit)) (now (height .exit)) (now (weight .exit)) (now (low .exit)) (now (high .exit)))) (now (flow .exit))) (now (tape .entry))) ⌝ }
+    ensures { λ r. ⌜ HandedJob r (now (place .exit)) (termsOf (now (width .exit)) (now (height .exit)) (now (weight .exit)) (now (low .exit)) (now (high .exit))) (roundsOf (now (quick .exit)) (now (allowance .exit))) (now (weighted .exit)) (now (flowed .exit)) (readAnswer (now (tape .entry)) (now (samples .entry)) (now (weights .entry)) (now (flow .entry))) ⌝ }
+    ensures { λ _. ⌜ now (samples .exit) ≡ readSamples (now (tape .entry)) (now (samples .entry)) (now (weights .entry)) (now (flow .entry)) ⌝ }
+    ensures { λ _. ⌜ now (weights .exit) ≡ readWeights (now (tape .entry)) (now (samples .entry)) (now (weights .entry)) (now (flow .entry)) ⌝ }
+    ensures { λ _. ⌜ now (flow .exit) ≡ readFlow (now (tape .entry)) (now (samples .entry)) (now (weights .entry)) (now (flow .entry)) ⌝ }
+    ensures { λ r. ⌜ ((r ≡ 0) ↔ ReadAllowed (now (tape .entry)) (now (samples .entry)) (now (weights .entry)) (now (flow .entry))) ⌝ }
+    ensures { λ r. ⌜ (r ≡ 0 → WritesBack (termsOf (now (width .exit)) (now (height .exit)) (now (weight .exit)) (now (low .exit)) (now (high .exit))) (roundsOf (now (quick .exit)) (now (allowance .exit))) (take (pixelsOf (termsOf (now (width .exit)) (now (height .exit)) (now (weight .exit)) (now (low .exit)) (now (high .exit)))) (now (samples .exit))) (take (now (weighted .exit) * pairsOf (termsOf (now (width .exit)) (now (height .exit)) (now (weight .exit)) (now (low .exit)) (now (high .exit)))) (now (weights .exit))) (take (now (flowed .exit) * pairsOf (termsOf (now (width .exit)) (now (height .exit)) (now (weight .exit)) (now (low .exit)) (now (high .exit)))) (now (flow .exit))) (now (tape .entry))) ⌝ }
 {
-    let j = job_of(read(tape, samples, flow));
+    let j = job_of(read(tape, samples, weights, flow));
     let t = j.terms;
     let r = j.rounds;
     *place = j.place;
@@ -97,6 +105,7 @@ pub extern "C" fn relief_read(
     *high = t.high;
     *quick = r.quick;
     *allowance = r.allowance;
+    *weighted = j.weighted;
     *flowed = j.flowed;
     j.number
 }

@@ -21,6 +21,7 @@ pub extern "C" fn relief_run(
     quick: u32,
     allowance: u16,
     samples: &[u8],
+    weights: &[i32],
     flow: &mut [i32],
     image: &mut [i32],
     work: &mut [i32],
@@ -31,12 +32,12 @@ pub extern "C" fn relief_run(
     floor: &mut i64,
     slack: &mut u64,
 ) -> u32
-    ensures { λ r. ⌜ Handed r (now (place .exit)) (now (outcome .exit)) (now (moved .exit)) (now (price .exit)) (now (floor .exit)) (now (slack .exit)) (runAnswer (termsOf width height weight low high) (roundsOf quick allowance) (now (samples .entry)) (now (flow .entry)) (now (image .entry)) (now (work .entry))) ⌝ }
-    ensures { λ _. ⌜ now (flow .exit) ≡ runFlow (termsOf width height weight low high) (roundsOf quick allowance) (now (samples .entry)) (now (flow .entry)) (now (image .entry)) (now (work .entry)) ⌝ }
-    ensures { λ _. ⌜ now (image .exit) ≡ runImage (termsOf width height weight low high) (roundsOf quick allowance) (now (samples .entry)) (now (flow .entry)) (now (image .entry)) (now (work .entry)) ⌝ }
-    ensures { λ _. ⌜ now (work .exit) ≡ runWork (termsOf width height weight low high) (roundsOf quick allowance) (now (samples .entry)) (now (flow .entry)) (now (image .entry)) (now (work .entry)) ⌝ }
-    ensures { λ r. ⌜ ((r ≡ 0) ↔ RunAllowed (termsOf width height weight low high) (roundsOf quick allowance) (now (samples .entry)) (now (flow .entry)) (now (image .entry)) (now (work .entry))) ⌝ }
-    ensures { λ r. ⌜ (r ≡ 0 → RunDemand (termsOf width height weight low high) (roundsOf quick allowance) (now (samples .entry)) (now (flow .exit)) (now (image .exit)) (told r (now (place .exit)) (now (outcome .exit)) (now (moved .exit)) (now (price .exit)) (now (floor .exit)) (now (slack .exit)))) ⌝ }
+    ensures { λ r. ⌜ Handed r (now (place .exit)) (now (outcome .exit)) (now (moved .exit)) (now (price .exit)) (now (floor .exit)) (now (slack .exit)) (runAnswer (termsOf width height weight low high) (roundsOf quick allowance) (now (samples .entry)) (now (weights .entry)) (now (flow .entry)) (now (image .entry)) (now (work .entry))) ⌝ }
+    ensures { λ _. ⌜ now (flow .exit) ≡ runFlow (termsOf width height weight low high) (roundsOf quick allowance) (now (samples .entry)) (now (weights .entry)) (now (flow .entry)) (now (image .entry)) (now (work .entry)) ⌝ }
+    ensures { λ _. ⌜ now (image .exit) ≡ runImage (termsOf width height weight low high) (roundsOf quick allowance) (now (samples .entry)) (now (weights .entry)) (now (flow .entry)) (now (image .entry)) (now (work .entry)) ⌝ }
+    ensures { λ _. ⌜ now (work .exit) ≡ runWork (termsOf width height weight low high) (roundsOf quick allowance) (now (samples .entry)) (now (weights .entry)) (now (flow .entry)) (now (image .entry)) (now (work .entry)) ⌝ }
+    ensures { λ r. ⌜ ((r ≡ 0) ↔ RunAllowed (termsOf width height weight low high) (roundsOf quick allowance) (now (samples .entry)) (now (weights .entry)) (now (flow .entry)) (now (image .entry)) (now (work .entry))) ⌝ }
+    ensures { λ r. ⌜ (r ≡ 0 → RunDemand (termsOf width height weight low high) (roundsOf quick allowance) (now (samples .entry)) (now (weights .entry)) (now (flow .exit)) (now (image .exit)) (told r (now (place .exit)) (now (outcome .exit)) (now (moved .exit)) (now (price .exit)) (now (floor .exit)) (now (slack .exit)))) ⌝ }
 {
     let t = Terms {
         width,
@@ -46,7 +47,7 @@ pub extern "C" fn relief_run(
         high,
     };
     let r = Rounds { quick, allowance };
-    let n = numbers_of(run(t, r, samples, flow, image, work));
+    let n = numbers_of(run(t, r, samples, weights, flow, image, work));
     *place = n.place;
     *outcome = n.outcome;
     *moved = n.moved;

@@ -47,15 +47,16 @@ pub extern "C" fn relief_write(
     quick: u32,
     allowance: u16,
     samples: &[u8],
+    weights: &[i32],
     flow: &[i32],
     output: &mut [u8],
     place: &mut u64,
     count: &mut u64,
 ) -> u32
-    ensures { λ r. ⌜ HandedTape r (now (place .exit)) (now (count .exit)) (writeAnswer (termsOf width height weight low high) (roundsOf quick allowance) (now (samples .entry)) (now (flow .entry)) (now (output .entry))) ⌝ }
-    ensures { λ _. ⌜ now (output .exit) ≡ writeOutput (termsOf width height weight low high) (roundsOf quick allowance) (now (samples .entry)) (now (flow .entry)) (now (output .entry)) ⌝ }
-    ensures { λ r. ⌜ ((r ≡ 0) ↔ WriteAllowed (termsOf width height weight low high) (roundsOf quick allowance) (now (samples .entry)) (now (flow .entry)) (now (output .entry))) ⌝ }
-    ensures { λ r. ⌜ (r ≡ 0 → ReadsBack (termsOf width height weight low high) (roundsOf quick allowance) (now (samples .entry)) (now (flow .entry)) (take (now (count .exit)) (now (output .exit)))) ⌝ }
+    ensures { λ r. ⌜ HandedTape r (now (place .exit)) (now (count .exit)) (writeAnswer (termsOf width height weight low high) (roundsOf quick allowance) (now (samples .entry)) (now (weights .entry)) (now (flow .entry)) (now (output .entry))) ⌝ }
+    ensures { λ _. ⌜ now (output .exit) ≡ writeOutput (termsOf width height weight low high) (roundsOf quick allowance) (now (samples .entry)) (now (weights .entry)) (now (flow .entry)) (now (output .entry)) ⌝ }
+    ensures { λ r. ⌜ ((r ≡ 0) ↔ WriteAllowed (termsOf width height weight low high) (roundsOf quick allowance) (now (samples .entry)) (now (weights .entry)) (now (flow .entry)) (now (output .entry))) ⌝ }
+    ensures { λ r. ⌜ (r ≡ 0 → ReadsBack (termsOf width height weight low high) (roundsOf quick allowance) (now (samples .entry)) (now (weights .entry)) (now (flow .entry)) (take (now (count .exit)) (now (output .exit)))) ⌝ }
 {
     let t = Terms {
         width,
@@ -65,7 +66,7 @@ pub extern "C" fn relief_write(
         high,
     };
     let r = Rounds { quick, allowance };
-    let w = written_of(write(t, r, samples, flow, output));
+    let w = written_of(write(t, r, samples, weights, flow, output));
     *place = w.place;
     *count = w.count;
     w.number

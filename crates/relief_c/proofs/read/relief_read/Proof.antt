@@ -17,14 +17,18 @@ same-length c = search needs
 same-length-2 : tie.Need-same-length-2
 same-length-2 c = search needs
 
+same-length-3 : tie.Need-same-length-3
+same-length-3 c = search needs
+
 returns : tie.Need-returns
 returns c =
-    let called = c .before .before .before .before .before .before .read in
+    let called = c .before .before .before .before .before .before .before .read in
     let k = called .ensures in
     let n = c .before .before .job-of .ensures in
-    (same-job n (k .0), (k .1 .0, (k .1 .1 .0, (zero-by (n .number) (k .1 .1 .1 .0), back-by n (called .last .1 .0) (called .last .1 .1 .0) (k .1 .1 .1 .1)))))
+    let left = k .1 .1 .1 in
+    (same-job n (k .0), (k .1 .0, (k .1 .1 .0, (left .0, (zero-by (n .number) (left .1 .0), back-by n (called .last .1 .0) (called .last .1 .1 .0) (called .last .1 .1 .1 .0) (left .1 .1))))))
 
 pub relief-read-spec : {M : Type 1} → statement M
 relief-read-spec =
     tie.close
-    (tie.spec read-requires job-of-requires same-length same-length-2 returns)
+    (tie.spec read-requires job-of-requires same-length same-length-2 same-length-3 returns)

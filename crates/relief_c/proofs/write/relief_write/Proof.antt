@@ -18,7 +18,7 @@ returns : tie.Need-returns
 returns c =
     let k = c .before .before .before .write .ensures in
     let n = c .written-of .ensures in
-    (same-tape n (k .0), (k .1 .0, (zero-by (n .number) (k .1 .1 .0), tape-by n _ _ _ _ (c .before .before .before .write .last .1 .1 .1 .1 .0) (k .1 .1 .1))))
+    (same-tape n (k .0), (k .1 .0, (zero-by (n .number) (k .1 .1 .0), tape-by n _ _ _ _ _ (c .before .before .before .write .last .1 .1 .1 .1 .1 .0) (k .1 .1 .1))))
 
 pub relief-write-spec : {M : Type 1} → statement M
 relief-write-spec = tie.close (tie.spec write-requires written-of-requires same-length returns)
