@@ -11,7 +11,8 @@ mod tape;
 mod two_flows;
 
 pub use case::{
-    about_the_box, flat, narrow_box, three_by_one, two_by_one, two_by_two, Case, TWO_BY_ONE_TEXT,
+    about_the_box, flat, jointed, narrow_box, three_by_one, two_by_one, two_by_two, Case,
+    JOINTED_TEXT, TWO_BY_ONE_TEXT,
 };
 pub use chessboard::{chessboard, chessboard_flow};
 pub use family::{compare_family, status, Answer, Difference, Tally};
