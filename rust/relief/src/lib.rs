@@ -7,11 +7,18 @@
 //! A sample is a code. It covers a level of 256 sub-units and is read at its centre, 256 ×
 //! sample + 128; image values are in sub-units too.
 //!
+//! A pair is two neighbouring pixels. First comes every (pixel, pixel below), row by row of the
+//! upper pixel, then every (pixel, pixel to its right), row by row of the left one. Weights and flow
+//! have one number for each pair, in this order.
+//!
+//! A weight, 0 to [`MAX_WEIGHT`] sub-units, says how strongly its pair is smoothed: with 0, as at a
+//! joint, not at all. Weights of length 0 are none, and every pair has the weight of the [`Terms`].
+//!
 //! A call is there with its feature: `judge` (price, check), `run`, `tape` (read, write).
 //!
 //! Lengths of buffers are counted in values and must be exact, unless a call says
 //! otherwise. [`Terms::pixel_count`], [`Terms::pair_count`], [`tape_bytes`],
-//! [`read_samples_len`] and [`read_flow_len`] give them.
+//! [`read_samples_len`], [`read_weights_len`] and [`read_flow_len`] give them.
 //!
 //! The calls have no global state and allocate nothing, so any number of them may run at
 //! the same time.
@@ -35,7 +42,7 @@
 //! let mut flow = vec![0; terms.pair_count()];
 //! let mut image = vec![0; terms.pixel_count()];
 //! let mut work = vec![0; 2 * terms.pair_count()];
-//! let figures = relief::run(&terms, &rounds, &samples, &mut flow, &mut image, &mut work)?;
+//! let figures = relief::run(&terms, &rounds, &samples, &[], &mut flow, &mut image, &mut work)?;
 //! assert_eq!(figures.outcome, Outcome::Settled);
 //! assert_eq!((figures.price, figures.slack), (131_080, 16));
 //! assert_eq!(image, [382, 386]);
@@ -48,8 +55,8 @@ mod ffi;
 mod refusal;
 
 pub use counts::{
-    pair_count, pixel_count, read_flow_len, read_samples_len, tape_bytes, MAX_ALLOWANCE, MAX_PAIRS,
-    MAX_PIXELS, MAX_QUICK, MAX_SIDE, MAX_TAPE_BYTES, MAX_WEIGHT,
+    pair_count, pixel_count, read_flow_len, read_samples_len, read_weights_len, tape_bytes,
+    MAX_ALLOWANCE, MAX_PAIRS, MAX_PIXELS, MAX_QUICK, MAX_SIDE, MAX_TAPE_BYTES, MAX_WEIGHT,
 };
 pub use refusal::{Reason, Refusal};
 
@@ -67,7 +74,8 @@ pub struct Terms {
     pub width: u32,
     /// Rows, 1 to [`MAX_SIDE`]; at most [`MAX_PIXELS`] pixels in all.
     pub height: u32,
-    /// The weight in sub-units of 1/256 level, at most [`MAX_WEIGHT`].
+    /// The weight of every pair in sub-units of 1/256 level, at most [`MAX_WEIGHT`]. Where weights
+    /// are lent, it must be allowed all the same, but nothing except a tape's record depends on it.
     pub weight: u32,
     /// The lowest level of the box: image values are at least 256 × `low` sub-units.
     pub low: u8,
@@ -113,13 +121,16 @@ pub struct Figures {
     pub slack: u64,
 }
 
-/// What a tape says beside its samples and flow.
+/// What a tape says beside its samples, weights and flow.
 #[derive(Clone, Copy, Debug, PartialEq, Eq)]
 pub struct Job {
     /// Size, weight and box.
     pub terms: Terms,
     /// Quick rounds and steady allowance.
     pub rounds: Rounds,
+    /// Whether the tape has weight records: whether the other calls are to be lent one weight for
+    /// each pair, or none.
+    pub has_weights: bool,
     /// Whether the tape has flow records.
     pub has_flow: bool,
 }

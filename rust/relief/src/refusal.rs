@@ -11,7 +11,8 @@ pub enum Reason {
     /// A side is not 1 to [`MAX_SIDE`](crate::MAX_SIDE), or there are over
     /// [`MAX_PIXELS`](crate::MAX_PIXELS) pixels.
     Size = 1,
-    /// The weight is over [`MAX_WEIGHT`](crate::MAX_WEIGHT).
+    /// The terms' weight is over [`MAX_WEIGHT`](crate::MAX_WEIGHT); or one of `weights` is not 0
+    /// to that. The place of the second is the first one's index, in a tape its record's offset.
     Weight = 2,
     /// The low end of the box is above the high one.
     Box = 3,
@@ -23,7 +24,7 @@ pub enum Reason {
     ImageLength = 6,
     /// The work buffer has not two values for each pair.
     WorkLength = 7,
-    /// A flow number is beyond the weight. The place is the first one's index.
+    /// A flow number is beyond its pair's weight. The place is the first one's index.
     FlowValue = 8,
     /// An image value is outside the box. The place is the first one's index.
     ImageValue = 9,
@@ -42,11 +43,13 @@ pub enum Reason {
     /// The tape ends where a record is due: it was never finished, or was cut right behind a
     /// record. The place is the tape's length.
     TapeUnfinished = 18,
+    /// There is neither one weight for each pair nor none.
+    WeightsLength = 19,
 }
 
 impl Reason {
     /// Every reason, by number.
-    pub const ALL: [Reason; 16] = [
+    pub const ALL: [Reason; 17] = [
         Reason::Size,
         Reason::Weight,
         Reason::Box,
@@ -63,6 +66,7 @@ impl Reason {
         Reason::ByteAfterEnd,
         Reason::BufferTooShort,
         Reason::TapeUnfinished,
+        Reason::WeightsLength,
     ];
 
     /// The library's number.
@@ -80,13 +84,13 @@ impl Reason {
     pub const fn text(self) -> &'static str {
         match self {
             Reason::Size => "width or height is not 1 to 4,096, or there are over 1,048,576 pixels",
-            Reason::Weight => "the weight is over 65,280",
+            Reason::Weight => "a weight is not 0 to 65,280",
             Reason::Box => "low is above high",
             Reason::SamplesLength => "the length of samples is not the number of pixels",
             Reason::FlowLength => "the length of flow is not the number of pairs",
             Reason::ImageLength => "the length of image is not the number of pixels",
             Reason::WorkLength => "the length of work is not twice the number of pairs",
-            Reason::FlowValue => "a flow number is beyond -weight to weight",
+            Reason::FlowValue => "a flow number is beyond its pair's weight",
             Reason::ImageValue => "an image value is outside the box",
             Reason::QuickRounds => "there are over 4,096 quick rounds",
             Reason::UnknownKind => "the record's kind is unknown",
@@ -97,6 +101,7 @@ impl Reason {
                 "a buffer that the tape is read into or written to is too short"
             }
             Reason::TapeUnfinished => "the tape ends where a record is due",
+            Reason::WeightsLength => "the length of weights is neither 0 nor the number of pairs",
         }
     }
 }
@@ -109,7 +114,7 @@ impl fmt::Display for Reason {
 }
 
 /// The answer of a call that turned back. It prints as
-/// `refused 8 at 0: a flow number is beyond -weight to weight`.
+/// `refused 8 at 0: a flow number is beyond its pair's weight`.
 #[derive(Clone, Copy, Debug, PartialEq, Eq, Hash)]
 pub struct Refusal {
     /// Why.

@@ -12,6 +12,8 @@ unsafe extern "C" {
         high: u8,
         samples: *const u8,
         samples_len: usize,
+        weights: *const i32,
+        weights_len: usize,
         image: *const i32,
         image_len: usize,
         place: *mut u64,
@@ -30,6 +32,8 @@ unsafe extern "C" {
         high: u8,
         samples: *const u8,
         samples_len: usize,
+        weights: *const i32,
+        weights_len: usize,
         flow: *const i32,
         flow_len: usize,
         image: *mut i32,
@@ -48,13 +52,19 @@ unsafe extern "C" {
 /// # Lengths
 ///
 /// - `samples`: [`Terms::pixel_count`].
+/// - `weights`: [`Terms::pair_count`], or 0 for none.
 /// - `image`: [`Terms::pixel_count`]. Values in sub-units of 1/256 level, each within the box.
 ///
 /// # Errors
 ///
-/// Refused for size, weight, box; then the lengths of samples and image; then an image value,
-/// in this order.
-pub fn price(terms: &Terms, samples: &[u8], image: &[i32]) -> Result<Figures, Refusal> {
+/// Refused for size, weight, box; then the lengths of samples, weights and image; then one of
+/// the weights; then an image value, in this order.
+pub fn price(
+    terms: &Terms,
+    samples: &[u8],
+    weights: &[i32],
+    image: &[i32],
+) -> Result<Figures, Refusal> {
     let mut answer = Answer::UNSET;
     // SAFETY: each buffer comes with its own length, and the numbers are locals.
     let number = unsafe {
@@ -66,6 +76,8 @@ pub fn price(terms: &Terms, samples: &[u8], image: &[i32]) -> Result<Figures, Re
             terms.high,
             samples.as_ptr(),
             samples.len(),
+            weights.as_ptr(),
+            weights.len(),
             image.as_ptr(),
             image.len(),
             &mut answer.place,
@@ -83,15 +95,15 @@ pub fn price(terms: &Terms, samples: &[u8], image: &[i32]) -> Result<Figures, Re
 
 /// Judges a given flow and fills `image` with its image.
 ///
-/// Two flows that are accepted for the same terms and samples have images whose squared distance,
-/// times 2, is at most the sum of the two slacks; where both are 0 the images are equal.
+/// Two flows that are accepted for the same terms, samples and weights have images whose squared
+/// distance, times 2, is at most the sum of the two slacks; where both are 0 the images are equal.
 ///
 /// ```
 /// # let terms = relief::Terms { width: 2, height: 1, weight: 256, low: 0, high: 255 };
 /// let samples = [0, 2];
 /// let (mut image, mut other_image) = ([0; 2], [0; 2]);
-/// let figures = relief::check(&terms, &samples, &[-254], &mut image)?;
-/// let other = relief::check(&terms, &samples, &[-256], &mut other_image)?;
+/// let figures = relief::check(&terms, &samples, &[], &[-254], &mut image)?;
+/// let other = relief::check(&terms, &samples, &[], &[-256], &mut other_image)?;
 /// assert_eq!((image, figures.slack), ([382, 386], 16));
 /// assert_eq!((other_image, other.slack), ([384, 384], 0));
 /// let squares = image.iter().zip(&other_image).map(|(a, b)| u64::from(a.abs_diff(*b)).pow(2));
@@ -102,18 +114,18 @@ pub fn price(terms: &Terms, samples: &[u8], image: &[i32]) -> Result<Figures, Re
 /// # Lengths
 ///
 /// - `samples`: [`Terms::pixel_count`].
-/// - `flow`: [`Terms::pair_count`]. Numbers from -weight to weight: first those of every pair
-///   (pixel, pixel below), row by row of the upper pixel, then those of every pair (pixel,
-///   pixel to its right), row by row of the left one.
+/// - `weights`: [`Terms::pair_count`], or 0 for none.
+/// - `flow`: [`Terms::pair_count`]. Each number is from -w to w, where w is its pair's weight.
 /// - `image`: [`Terms::pixel_count`]. What it holds before does not matter.
 ///
 /// # Errors
 ///
-/// Refused for size, weight, box; then the lengths of samples, flow and image; then a flow
-/// number, in this order.
+/// Refused for size, weight, box; then the lengths of samples, flow, weights and image; then one
+/// of the weights; then a flow number, in this order.
 pub fn check(
     terms: &Terms,
     samples: &[u8],
+    weights: &[i32],
     flow: &[i32],
     image: &mut [i32],
 ) -> Result<Figures, Refusal> {
@@ -128,6 +140,8 @@ pub fn check(
             terms.high,
             samples.as_ptr(),
             samples.len(),
+            weights.as_ptr(),
+            weights.len(),
             flow.as_ptr(),
             flow.len(),
             image.as_mut_ptr(),

@@ -14,6 +14,8 @@ unsafe extern "C" {
         allowance: u16,
         samples: *const u8,
         samples_len: usize,
+        weights: *const i32,
+        weights_len: usize,
         flow: *mut i32,
         flow_len: usize,
         image: *mut i32,
@@ -31,9 +33,24 @@ unsafe extern "C" {
 
 /// Does the rounds, starting from flow 0, and fills `flow` and `image`.
 ///
+/// Three pixels with a joint between the second and the third:
+///
+/// ```
+/// # let terms = relief::Terms { width: 3, height: 1, weight: 256, low: 0, high: 255 };
+/// # let rounds = relief::Rounds { quick: 0, allowance: 100 };
+/// let (samples, weights) = ([0, 2, 100], [256, 0]);
+/// let (mut flow, mut image, mut work) = ([0; 2], [0; 3], [0; 4]);
+/// relief::run(&terms, &rounds, &samples, &weights, &mut flow, &mut image, &mut work)?;
+/// assert_eq!(image, [382, 386, 25_728]); // 25_728 is the reading of 100
+/// relief::run(&terms, &rounds, &samples, &[], &mut flow, &mut image, &mut work)?;
+/// assert_eq!(image, [384, 640, 25_472]); // weight 256 at the joint, too
+/// # Ok::<(), relief::Refusal>(())
+/// ```
+///
 /// # Lengths
 ///
 /// - `samples`: [`Terms::pixel_count`].
+/// - `weights`: [`Terms::pair_count`], or 0 for none.
 /// - `flow`: [`Terms::pair_count`].
 /// - `image`: [`Terms::pixel_count`].
 /// - `work`: 2 × [`Terms::pair_count`]. It holds only zeros after an accepted run.
@@ -42,12 +59,13 @@ unsafe extern "C" {
 ///
 /// # Errors
 ///
-/// Refused for size, weight, box, quick rounds; then the lengths of samples, flow, image and
-/// work, in this order.
+/// Refused for size, weight, box, quick rounds; then the lengths of samples, flow, weights, image
+/// and work; then one of the weights, in this order.
 pub fn run(
     terms: &Terms,
     rounds: &Rounds,
     samples: &[u8],
+    weights: &[i32],
     flow: &mut [i32],
     image: &mut [i32],
     work: &mut [i32],
@@ -66,6 +84,8 @@ pub fn run(
             rounds.allowance,
             samples.as_ptr(),
             samples.len(),
+            weights.as_ptr(),
+            weights.len(),
             flow.as_mut_ptr(),
             flow.len(),
             image.as_mut_ptr(),

@@ -9,6 +9,8 @@ unsafe extern "C" {
         tape_len: usize,
         samples: *mut u8,
         samples_len: usize,
+        weights: *mut i32,
+        weights_len: usize,
         flow: *mut i32,
         flow_len: usize,
         place: *mut u64,
@@ -19,6 +21,7 @@ unsafe extern "C" {
         high: *mut u8,
         quick: *mut u32,
         allowance: *mut u16,
+        weighted: *mut u32,
         flowed: *mut u32,
     ) -> u32;
 
@@ -32,6 +35,8 @@ unsafe extern "C" {
         allowance: u16,
         samples: *const u8,
         samples_len: usize,
+        weights: *const i32,
+        weights_len: usize,
         flow: *const i32,
         flow_len: usize,
         output: *mut u8,
@@ -41,24 +46,33 @@ unsafe extern "C" {
     ) -> u32;
 }
 
-/// Reads a tape of one job, its samples and flow into the front of the buffers. The rest of
-/// them is left as it was, and without flow records all of `flow`.
+/// Reads a tape of one job, its samples, weights and flow into the front of the buffers. The rest
+/// of them is left as it was; without weight records all of `weights` is, and without flow
+/// records all of `flow`.
 ///
 /// # Lengths
 ///
 /// - `samples`: at least the job's [`Terms::pixel_count`]. [`read_samples_len`] is enough.
+/// - `weights`: at least the job's [`Terms::pair_count`], with or without weight records.
+///   [`read_weights_len`] is enough.
 /// - `flow`: at least the job's [`Terms::pair_count`], with or without flow records.
 ///   [`read_flow_len`] is enough.
 ///
 /// # Errors
 ///
 /// Refused at the first faulty record: where it is missing, for its kind, where it is cut, for its
-/// terms, and at the first record for the buffers' lengths; then for a byte after the end; then for
-/// a flow number.
+/// terms or its weight, and at the first record for the buffers' lengths; then for a byte after the
+/// end; then for a flow number.
 ///
 /// [`read_samples_len`]: crate::read_samples_len
+/// [`read_weights_len`]: crate::read_weights_len
 /// [`read_flow_len`]: crate::read_flow_len
-pub fn read(tape: &[u8], samples: &mut [u8], flow: &mut [i32]) -> Result<Job, Refusal> {
+pub fn read(
+    tape: &[u8],
+    samples: &mut [u8],
+    weights: &mut [i32],
+    flow: &mut [i32],
+) -> Result<Job, Refusal> {
     let mut terms = Terms {
         width: u32::MAX,
         height: u32::MAX,
@@ -70,7 +84,7 @@ pub fn read(tape: &[u8], samples: &mut [u8], flow: &mut [i32]) -> Result<Job, Re
         quick: u32::MAX,
         allowance: u16::MAX,
     };
-    let (mut place, mut flowed) = (u64::MAX, u32::MAX);
+    let (mut place, mut weighted, mut flowed) = (u64::MAX, u32::MAX, u32::MAX);
     // SAFETY: each buffer comes with its own length, those that are filled overlap nothing,
     // since they are borrowed mutably, and the numbers are locals.
     let number = unsafe {
@@ -79,6 +93,8 @@ pub fn read(tape: &[u8], samples: &mut [u8], flow: &mut [i32]) -> Result<Job, Re
             tape.len(),
             samples.as_mut_ptr(),
             samples.len(),
+            weights.as_mut_ptr(),
+            weights.len(),
             flow.as_mut_ptr(),
             flow.len(),
             &mut place,
@@ -89,20 +105,27 @@ pub fn read(tape: &[u8], samples: &mut [u8], flow: &mut [i32]) -> Result<Job, Re
             &mut terms.high,
             &mut rounds.quick,
             &mut rounds.allowance,
+            &mut weighted,
             &mut flowed,
         )
     };
-    let zeros = (terms, rounds, flowed) == (Terms::default(), Rounds::default(), 0);
+    let zeros = (terms, rounds) == Default::default() && (weighted, flowed) == (0, 0);
     verdict(number, place, zeros)?;
     Ok(Job {
         terms,
         rounds,
-        has_flow: match flowed {
-            0 => false,
-            1 => true,
-            _ => panic!("a tape was read with {flowed} for whether a flow was there"),
-        },
+        has_weights: yes("weights", weighted),
+        has_flow: yes("a flow", flowed),
     })
+}
+
+/// What a tape was read with for whether something was there.
+fn yes(what: &str, number: u32) -> bool {
+    match number {
+        0 => false,
+        1 => true,
+        _ => panic!("a tape was read with {number} for whether it has {what}"),
+    }
 }
 
 /// Writes a job's tape into the front of `output` and gives its byte count. The rest of
@@ -111,19 +134,21 @@ pub fn read(tape: &[u8], samples: &mut [u8], flow: &mut [i32]) -> Result<Job, Re
 /// # Lengths
 ///
 /// - `samples`: [`Terms::pixel_count`].
+/// - `weights`: [`Terms::pair_count`], or 0 for no weight records.
 /// - `flow`: [`Terms::pair_count`], or 0 for no flow records.
-/// - `output`: at least [`tape_bytes`] of the lengths of samples and flow.
+/// - `output`: at least [`tape_bytes`] of the lengths of samples, weights and flow.
 ///
 /// # Errors
 ///
-/// Refused for size, weight, box, quick rounds; then the lengths of samples, flow and output;
-/// then a flow number, in this order.
+/// Refused for size, weight, box, quick rounds; then the lengths of samples, flow, weights and
+/// output; then one of the weights; then a flow number, in this order.
 ///
 /// [`tape_bytes`]: crate::tape_bytes
 pub fn write(
     terms: &Terms,
     rounds: &Rounds,
     samples: &[u8],
+    weights: &[i32],
     flow: &[i32],
     output: &mut [u8],
 ) -> Result<usize, Refusal> {
@@ -140,6 +165,8 @@ pub fn write(
             rounds.allowance,
             samples.as_ptr(),
             samples.len(),
+            weights.as_ptr(),
+            weights.len(),
             flow.as_ptr(),
             flow.len(),
             output.as_mut_ptr(),

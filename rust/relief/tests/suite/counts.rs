@@ -1,8 +1,8 @@
 //! The counts, at the ends of what is allowed and beyond.
 
 use relief::{
-    pair_count, pixel_count, read_flow_len, read_samples_len, tape_bytes, MAX_PAIRS, MAX_PIXELS,
-    MAX_SIDE, MAX_TAPE_BYTES,
+    pair_count, pixel_count, read_flow_len, read_samples_len, read_weights_len, tape_bytes,
+    MAX_PAIRS, MAX_PIXELS, MAX_SIDE, MAX_TAPE_BYTES,
 };
 
 #[test]
@@ -42,31 +42,37 @@ fn of_other_sizes() {
 
 #[test]
 fn of_tapes() {
-    assert_eq!((tape_bytes(1, 0), tape_bytes(2, 1)), (18, 25));
-    assert_eq!(MAX_TAPE_BYTES, 12_572_688);
+    assert_eq!((tape_bytes(1, 0, 0), tape_bytes(2, 0, 1)), (18, 25));
+    assert_eq!((tape_bytes(2, 1, 0), tape_bytes(2, 1, 1)), (23, 28));
+    assert_eq!(MAX_TAPE_BYTES, 18_858_000);
     let other = [
-        (0, 0),
-        (MAX_PIXELS + 1, 0),
-        (1, MAX_PAIRS + 1),
-        (usize::MAX, usize::MAX),
+        (0, 0, 0),
+        (MAX_PIXELS + 1, 0, 0),
+        (1, MAX_PAIRS + 1, 0),
+        (1, 0, MAX_PAIRS + 1),
+        (usize::MAX, usize::MAX, usize::MAX),
     ];
-    for (samples_len, flow_len) in other {
-        assert_eq!(tape_bytes(samples_len, flow_len), 0);
+    for (samples_len, weights_len, flow_len) in other {
+        assert_eq!(tape_bytes(samples_len, weights_len, flow_len), 0);
     }
 }
 
 #[test]
 fn for_reading() {
+    let lengths = |tape_len| {
+        let samples_len = read_samples_len(tape_len);
+        (
+            samples_len,
+            read_weights_len(tape_len),
+            read_flow_len(tape_len),
+        )
+    };
     for tape_len in 0..18 {
-        assert_eq!(
-            (read_samples_len(tape_len), read_flow_len(tape_len)),
-            (0, 0)
-        );
+        assert_eq!(lengths(tape_len), (0, 0, 0));
     }
-    assert_eq!((read_samples_len(18), read_flow_len(18)), (1, 0));
-    assert_eq!((read_samples_len(21), read_flow_len(21)), (2, 2));
+    assert_eq!(lengths(18), (1, 0, 0));
+    assert_eq!(lengths(21), (2, 2, 2));
     for tape_len in [MAX_TAPE_BYTES, usize::MAX] {
-        let lengths = (read_samples_len(tape_len), read_flow_len(tape_len));
-        assert_eq!(lengths, (MAX_PIXELS, MAX_PAIRS));
+        assert_eq!(lengths(tape_len), (MAX_PIXELS, MAX_PAIRS, MAX_PAIRS));
     }
 }

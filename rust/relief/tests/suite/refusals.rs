@@ -14,7 +14,7 @@ fn a_refusal_says_what_it_is() {
     let error: Box<dyn Error> = refusal.into();
     assert_eq!(
         error.to_string(),
-        "refused 8 at 3: a flow number is beyond -weight to weight"
+        "refused 8 at 3: a flow number is beyond its pair's weight"
     );
 }
 
@@ -22,8 +22,10 @@ fn a_refusal_says_what_it_is() {
 fn every_number_has_its_reason() {
     let reasons: Vec<Reason> = (0..=20).filter_map(Reason::from_number).collect();
     assert_eq!(reasons, Reason::ALL);
+    for none in [0, 11, 17, 20, u32::MAX] {
+        assert_eq!(Reason::from_number(none), None);
+    }
     for reason in Reason::ALL {
         assert_eq!(Reason::from_number(reason.number()), Some(reason));
     }
-    assert_eq!(Reason::from_number(u32::MAX), None);
 }

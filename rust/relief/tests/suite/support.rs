@@ -12,6 +12,14 @@ pub const TERMS: Terms = Terms {
 
 pub const SAMPLES: [u8; 2] = [0, 2];
 
+/// No weights: each pair has the weight of the terms.
+pub const NONE: [i32; 0] = [];
+
+/// What makes a call turn back: samples, weights, flow or image, one number more that the call is
+/// made or judged by, and the reason.
+#[cfg(any(feature = "judge", feature = "tape"))]
+pub type Fault = (&'static [u8], &'static [i32], &'static [i32], usize, Reason);
+
 /// The answer of a call that is refused.
 pub fn refused<T>(reason: Reason, place: u64) -> Result<T, Refusal> {
     Err(Refusal { reason, place })
