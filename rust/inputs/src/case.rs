@@ -108,7 +108,7 @@ impl Case {
     /// A random job of the given size, in half of the cases with weights for its pairs.
     pub fn sized(random: &mut Random, width: u32, height: u32) -> Case {
         let (low, high) = random.levels();
-        let mut case = Case {
+        let case = Case {
             terms: Terms {
                 width,
                 height,
@@ -123,10 +123,17 @@ impl Case {
             samples: random.samples((width * height) as usize),
             weights: Vec::new(),
         };
-        if random.below(2) == 0 {
-            case.weights = random.weights(case.grid().pair_count(), WEIGHT_LIMIT);
-        }
-        case
+        let weighted = random.below(2) == 0;
+        case.with_weights(random, weighted)
+    }
+
+    /// The job with weights for its pairs, or without.
+    pub fn with_weights(mut self, random: &mut Random, weighted: bool) -> Case {
+        self.weights = match weighted {
+            true => random.weights(self.grid().pair_count(), WEIGHT_LIMIT),
+            false => Vec::new(),
+        };
+        self
     }
 
     /// A random job of at most 5 by 5 pixels.
