@@ -173,11 +173,13 @@ fn large(step: usize) -> impl Iterator<Item = JobInput> {
     (0..24).step_by(step).map(move |turn| {
         let size = LARGEST[turn % LARGEST.len()];
         let input = JobInput::weighted(&mut random, size, turn % 2 == 1);
-        match turn / LARGEST.len() % 4 {
-            0 => extreme(input, 1),
-            1 => extreme(input, -1),
-            2 => farthest(input, [255, 0][turn % 2]),
-            _ => input.spoiled(&mut random),
+        match turn / LARGEST.len() {
+            0 | 4 => extreme(input, 1),
+            1 | 5 => extreme(input, -1),
+            2 | 7 => farthest(input, [255, 0][turn % 2]),
+            3 => input.spoiled(&mut random),
+            // As drawn.
+            _ => input,
         }
     })
 }

@@ -1,6 +1,8 @@
 //! Read and write.
 
-use relief_inputs::{jointed, small_tapes, tape_length, Answer, Difference, Random, Tape};
+use relief_inputs::{
+    jointed, record_orders, small_tapes, tape_length, Answer, Difference, Random, Tape,
+};
 use relief_reference::{Job, Refusal, Terms};
 
 use crate::convert::{job, refusal, rounds, terms};
@@ -135,6 +137,7 @@ pub fn compare(step: usize) -> Result<(), Difference> {
     WRITE_AND_READ.compare_values("the documents' limits", &[1, 2, 19], limits())?;
     READ.compare_values("no bytes", &[18], [no_bytes()].into_iter())?;
     READ.compare_values("every prefix", &[13, 18], prefixes())?;
+    READ.compare_values("every order of records", &[14, 15, 18], orders())?;
     READ.compare_family("every changed byte", &[], changes(step))?;
     let numbers = [1, 2, 3, 8, 10, 12, 13, 14, 15, 16, 18];
     READ.compare_family("damaged and random tapes", &numbers, damages(step))?;
@@ -169,7 +172,7 @@ fn tapes(count: u64) -> impl Iterator<Item = (Random, Tape)> {
     weighted.into_iter().chain(small_tapes(count))
 }
 
-/// Every prefix of these tapes, the whole ones among them, with the answer that is due.
+/// Every prefix of tapes, the whole ones among them, with the answer that is due.
 fn prefixes() -> impl Iterator<Item = (TapeInput, Answer<()>)> {
     tapes(40).flat_map(|(mut random, tape)| {
         let prefixes = tape.clone().prefixes();
@@ -177,7 +180,21 @@ fn prefixes() -> impl Iterator<Item = (TapeInput, Answer<()>)> {
     })
 }
 
-/// These tapes with each byte changed to each other.
+/// Tapes with records behind the samples in every order, with the answer that is due.
+fn orders() -> impl Iterator<Item = (TapeInput, Answer<()>)> {
+    let mut random = Random::new(0x02DE2);
+    record_orders(5).map(move |(tape, answer)| {
+        let input = TapeInput {
+            tape,
+            samples: random.bytes(3),
+            weights: random.numbers(2),
+            flow: random.numbers(2),
+        };
+        (input, answer)
+    })
+}
+
+/// Tapes with each byte changed to each other.
 fn changes(step: usize) -> impl Iterator<Item = TapeInput> {
     let all = tapes(16).flat_map(|(mut random, tape)| {
         let changes = tape.clone().changes();

@@ -5,6 +5,7 @@
 mod case;
 mod chessboard;
 mod family;
+mod orders;
 mod random;
 mod season;
 mod tape;
@@ -16,6 +17,7 @@ pub use case::{
 };
 pub use chessboard::{chessboard, chessboard_flow};
 pub use family::{compare_family, status, Answer, Difference, Tally};
+pub use orders::record_orders;
 pub use random::Random;
 pub use season::{concatenated, filler, season_job, season_prefixes, TWO_BY_ONE_SEASON};
 pub use tape::{changes_of, small_tapes, tape_length, Tape};

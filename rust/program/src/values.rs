@@ -39,6 +39,7 @@ fn values() -> Vec<(Vec<u8>, String)> {
     };
     // The first bytes of the job's tape without a flow, and others behind them.
     let first = |length, behind: &[u8]| [&run(0, 100)[..length], behind].concat();
+    let alone = |record: &[u8]| [&flat(1, 1).tape(&[])[..17], record].concat();
     let values = vec![
         (job.tape(&[]), TWO_BY_ONE_TEXT.to_string()),
         check(&job, 0, "checked 0 262144 0 262144", "128 640"),
@@ -102,6 +103,9 @@ fn values() -> Vec<(Vec<u8>, String)> {
         (first(5, &[7]), refused(12, 5)),
         (first(5, &[6]), refused(14, 5)),
         (first(5, &[1]), refused(14, 5)),
+        // A job without pairs has neither weights nor a flow.
+        (alone(&[6, 0, 0]), refused(14, 17)),
+        (alone(&[5, 0, 0, 0, 0]), refused(14, 17)),
     ];
     values.into_iter().chain(weighted_values()).collect()
 }

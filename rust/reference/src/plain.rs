@@ -76,8 +76,8 @@ pub fn run_plain(
     work: &mut [i32],
 ) -> Result<Figures, Refusal> {
     judge_run(terms, rounds, samples, weights, flow, image, work)?;
-    let call = nested!(terms, samples, weights, run(rounds, flow, image, work));
-    Ok(call)
+    let figures = nested!(terms, samples, weights, run(rounds, flow, image, work));
+    Ok(figures)
 }
 
 /// Replaces `flow` by its step, leaves in `image` the image of the flow before the

@@ -106,6 +106,15 @@ fn values() -> Vec<(Vec<u8>, String)> {
         ),
         // A slack of 0 is the largest where all are 0.
         (best.repeat(2), text([2, 4, 0, 0, 2, 0], [0, 1], [0, 0])),
+        // A job without pairs has neither weights nor a flow.
+        (
+            [&one[..17], &[6, 0, 0]].concat(),
+            refused(&none, "job 1 refused 14 at 17"),
+        ),
+        (
+            [&one[..17], &[5, 0, 0, 0, 0]].concat(),
+            refused(&none, "job 1 refused 14 at 17"),
+        ),
         (one, text([1, 1, 1, 0, 0, 0], [0, 1], [0, 0])),
         (
             [&mixed[..], &[9]].concat(),

@@ -1,6 +1,6 @@
 //! Tapes written and read back, cut short and changed.
 
-use relief_inputs::{flat, jointed, two_by_one, Case, Random, Tape};
+use relief_inputs::{flat, jointed, record_orders, two_by_one, Case, Random, Tape};
 use relief_reference::program::{clean, FLOW_TABLE, SAMPLE_TABLE};
 use relief_reference::{Job, Refusal};
 
@@ -135,54 +135,14 @@ fn where_the_tape_with_a_joint_ends() {
     }
 }
 
-/// The answer that is due where records of these kinds stand behind the samples of a job with two
-/// pairs, at `offset`: the orders of a whole tape are written out.
-fn due(kinds: &[u8], mut offset: u64) -> Result<(), Refusal> {
-    let whole: [&[u8]; 4] = [&[0], &[6, 6, 0], &[5, 5, 0], &[6, 6, 5, 5, 0]];
-    for (index, &kind) in kinds.iter().enumerate() {
-        if whole.contains(&&kinds[..index]) {
-            return Err(refusal(15, offset));
-        }
-        let read = &kinds[..=index];
-        if !whole.iter().any(|whole| whole.starts_with(read)) {
-            return Err(refusal(14, offset));
-        }
-        offset += record(kind).len() as u64;
-    }
-    match whole.contains(&kinds) {
-        true => Ok(()),
-        false => Err(refusal(18, offset)),
-    }
-}
-
-/// A record of this kind, with zeros.
-fn record(kind: u8) -> Vec<u8> {
-    let body = match kind {
-        0 => 0,
-        4 => 1,
-        6 => 2,
-        _ => 4,
-    };
-    [vec![kind], vec![0; body]].concat()
-}
-
-/// Every order of up to six records behind the samples.
 #[test]
 fn weights_stand_between_the_samples_and_the_flow() {
-    let start = &jointed().tape(&[])[..21];
-    let mut orders: Vec<Vec<u8>> = vec![Vec::new()];
-    for shorter in 0.. {
-        let Some(kinds) = orders.get(shorter).cloned() else {
-            break;
-        };
-        let records: Vec<u8> = kinds.iter().flat_map(|&kind| record(kind)).collect();
-        let answer = read_and_write_again(&[start, &records].concat());
-        assert_eq!(answer.map(drop), due(&kinds, 21), "{kinds:?}");
-        if kinds.len() < 6 {
-            orders.extend([0, 3, 4, 5, 6].map(|kind| [&kinds[..], &[kind]].concat()));
-        }
+    let mut taken = 0;
+    for (tape, due) in record_orders(6) {
+        assert_eq!(read_and_write_again(&tape).map(drop), due, "{tape:?}");
+        taken += usize::from(due.is_ok());
     }
-    assert_eq!(orders.len(), (5usize.pow(7) - 1) / 4);
+    assert_eq!(taken, 4 + 1);
 }
 
 #[test]
