@@ -14,24 +14,17 @@ use crate::job::{limits, two_faults, JobInput, LARGEST};
 const PRICE: Call<JobInput, Figures> = Call {
     name: "price",
     library: |input| {
-        let JobInput {
-            samples,
-            weights,
-            image,
-            ..
-        } = input;
-        relief::price(&terms(&input.terms), samples, weights, image)
-            .map(figures)
-            .map_err(refusal)
+        relief::price(
+            &terms(&input.terms),
+            &input.samples,
+            &input.weights,
+            &input.image,
+        )
+        .map(figures)
+        .map_err(refusal)
     },
     reference: |input| {
-        let JobInput {
-            samples,
-            weights,
-            image,
-            ..
-        } = input;
-        relief_reference::price(&input.terms, samples, weights, image)
+        relief_reference::price(&input.terms, &input.samples, &input.weights, &input.image)
     },
     word: |figures| figures.outcome.to_string(),
 };
@@ -39,26 +32,24 @@ const PRICE: Call<JobInput, Figures> = Call {
 const CHECK: Call<JobInput, Figures> = Call {
     name: "check",
     library: |input| {
-        let JobInput {
-            samples,
-            weights,
-            flow,
-            image,
-            ..
-        } = input;
-        relief::check(&terms(&input.terms), samples, weights, flow, image)
-            .map(figures)
-            .map_err(refusal)
+        relief::check(
+            &terms(&input.terms),
+            &input.samples,
+            &input.weights,
+            &input.flow,
+            &mut input.image,
+        )
+        .map(figures)
+        .map_err(refusal)
     },
     reference: |input| {
-        let JobInput {
-            samples,
-            weights,
-            flow,
-            image,
-            ..
-        } = input;
-        relief_reference::check(&input.terms, samples, weights, flow, image)
+        relief_reference::check(
+            &input.terms,
+            &input.samples,
+            &input.weights,
+            &input.flow,
+            &mut input.image,
+        )
     },
     word: |figures| figures.outcome.to_string(),
 };

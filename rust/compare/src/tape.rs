@@ -30,22 +30,20 @@ impl Input for TapeInput {
 const READ: Call<TapeInput, Job> = Call {
     name: "read",
     library: |input| {
-        let TapeInput {
-            tape,
-            samples,
-            weights,
-            flow,
-        } = input;
-        read(tape, samples, weights, flow)
+        read(
+            &input.tape,
+            &mut input.samples,
+            &mut input.weights,
+            &mut input.flow,
+        )
     },
     reference: |input| {
-        let TapeInput {
-            tape,
-            samples,
-            weights,
-            flow,
-        } = input;
-        relief_reference::read(tape, samples, weights, flow)
+        relief_reference::read(
+            &input.tape,
+            &mut input.samples,
+            &mut input.weights,
+            &mut input.flow,
+        )
     },
     word: what_it_has,
 };

@@ -76,6 +76,12 @@ impl Tape {
         Tape::new(&case, &flow)
     }
 
+    /// The bytes of the tape with a change.
+    pub fn changed(mut self, change: impl FnOnce(&mut Tape)) -> Vec<u8> {
+        change(&mut self);
+        self.bytes
+    }
+
     /// Every prefix, the whole tape among them, with the answer that is due.
     pub fn prefixes(self) -> impl Iterator<Item = (Vec<u8>, Answer<()>)> {
         prefixes_of(self.bytes.clone()).map(move |bytes| {

@@ -32,11 +32,7 @@ fn values() -> Vec<(Vec<u8>, String)> {
         job
     };
     let run = |quick, allowance| run_of(&job, quick, allowance);
-    let changed = |change: fn(&mut Tape)| {
-        let mut tape = Tape::new(&job, &[0]);
-        change(&mut tape);
-        tape.bytes
-    };
+    let changed = |change: fn(&mut Tape)| Tape::new(&job, &[0]).changed(change);
     // The first bytes of the job's tape without a flow, and others behind them.
     let first = |length, behind: &[u8]| [&run(0, 100)[..length], behind].concat();
     let alone = |record: &[u8]| [&flat(1, 1).tape(&[])[..17], record].concat();
@@ -113,11 +109,7 @@ fn values() -> Vec<(Vec<u8>, String)> {
 /// Those of the job with a joint, whose pairs have the weights 0 and 512.
 fn weighted_values() -> Vec<(Vec<u8>, String)> {
     let job = jointed();
-    let changed = |change: fn(&mut Tape)| {
-        let mut tape = Tape::new(&job, &[0, 0]);
-        change(&mut tape);
-        tape.bytes
-    };
+    let changed = |change: fn(&mut Tape)| Tape::new(&job, &[0, 0]).changed(change);
     // Records behind the samples, with zeros.
     let start = &job.tape(&[])[..21];
     let (weight, flow) = ([6, 0, 0], [5, 0, 0, 0, 0]);

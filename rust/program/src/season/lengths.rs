@@ -55,10 +55,9 @@ fn boundaries(step: usize) -> impl Iterator<Item = Vec<u8>> {
 /// the weight, and cut at the boundary.
 fn about(boundary: usize, before: usize) -> [Vec<u8>; 3] {
     let [whole, beyond] = [256, 257].map(|value| {
-        let mut tape = Tape::new(&two_by_one(), &[0]);
-        tape.set_flow(0, value);
+        let tape = Tape::new(&two_by_one(), &[0]);
         let mut season = filler(boundary - before);
-        season.extend(tape.bytes);
+        season.extend(tape.changed(|tape| tape.set_flow(0, value)));
         season.extend(two_by_one().tape(&[]));
         season
     });
@@ -172,18 +171,13 @@ fn faulty_overfull_jobs() -> Vec<Vec<u8>> {
         (last + 5, 7),
         (end, 7),
     ];
-    let mut jobs: Vec<Vec<u8>> = changes
-        .map(|(place, byte)| {
-            let mut job = tape.bytes.clone();
-            job[place] = byte;
-            job
-        })
-        .into();
-    for index in [0, 100, WEIGHT_TABLE - 1] {
-        let mut tape = tape.clone();
-        tape.set_pair_weight(index, 65_281);
-        jobs.push(tape.bytes);
-    }
+    let mut jobs = changes
+        .map(|(place, byte)| tape.clone().changed(|tape| tape.bytes[place] = byte))
+        .to_vec();
+    jobs.extend([0, 100, WEIGHT_TABLE - 1].map(|index| {
+        let beyond = |tape: &mut Tape| tape.set_pair_weight(index, 65_281);
+        tape.clone().changed(beyond)
+    }));
     jobs
 }
 

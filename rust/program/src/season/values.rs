@@ -35,11 +35,7 @@ fn values() -> Vec<(Vec<u8>, String)> {
     };
     let [best, worst] = [-256, 256].map(|flow| job.tape(&[flow]));
     let one = flat(1, 1).tape(&[]);
-    let changed = |change: fn(&mut Tape)| {
-        let mut tape = Tape::new(&job, &[0]);
-        change(&mut tape);
-        tape.bytes
-    };
+    let changed = |change: fn(&mut Tape)| Tape::new(&job, &[0]).changed(change);
     let beyond = changed(|tape| tape.set_flow(0, 257));
     let (single, none) = (TWO_BY_ONE_SEASON, text([0; 6], [0, 0], [0, 0]));
     let refused = |season: &str, line: &str| format!("{season}{line}\n");
@@ -58,9 +54,8 @@ fn values() -> Vec<(Vec<u8>, String)> {
     };
     let weighted_text = text([4, 12, 2, 0, 2, 2_097_152], [2_097_152, 3], [174_762, 8]);
     let changed_joint = |change: fn(&mut Tape)| {
-        let mut tape = Tape::new(&joint, &[0, 0]);
-        change(&mut tape);
-        [&weighted[..], &tape.bytes].concat()
+        let tape = Tape::new(&joint, &[0, 0]);
+        [&weighted[..], &tape.changed(change)].concat()
     };
     vec![
         (run.clone(), single.to_string()),
