@@ -4,8 +4,9 @@
     python3 tools/before_after.py BEFORE [RUNS]
 
 BEFORE is another checkout of this repository; RUNS is 5 where it is left out. In both, `bash tools/library.sh` must have
-built the library. For each call and size it prints the library's time for a pixel, before and after, as the median and the
-least of the runs, and the ratio of the medians; then the same of the second implementation's loops in the two benchmarks.
+built the library. For each call and size that both time it prints the library's time for a pixel, before and after, as the
+median and the least of the runs, and the ratio of the medians; then the same of the second implementation's loops in the
+two benchmarks.
 """
 
 import os
@@ -40,7 +41,7 @@ def run(program):
     found = [match for match in map(LINE.fullmatch, printed.splitlines()) if match]
     if not found:
         sys.exit(f"{program} printed no times")
-    return {f"{match['call']:14}{match['size']:>12}": match for match in found}
+    return {f"{match['call']:23}{match['size']:>12}": match for match in found}
 
 
 def main():
@@ -54,11 +55,11 @@ def main():
         # the other one first, each second time
         for side in (0, 1) if turn % 2 == 0 else (1, 0):
             taken[side].append(run(programs[side]))
-    rows = list(taken[0][0])
-    if rows != list(taken[1][0]):
+    rows = [row for row in taken[0][0] if row in taken[1][0]]
+    if not rows:
         sys.exit("the two benchmarks time different calls")
     print(f"ns per pixel, median and least of {runs} runs of each by turns")
-    print(f"{'':38}{'before':>16}{'after':>16}{'ratio':>8}")
+    print(f"{'':47}{'before':>16}{'after':>16}{'ratio':>8}")
     for timed in ("library", "reference"):
         for row in rows:
             times = [[float(lines[row][timed]) for lines in side] for side in taken]

@@ -1,5 +1,6 @@
 //! Times the proved library beside the second implementation's loop nests: the same input in
-//! the same buffers, by turns in one process, both compiled for release.
+//! the same buffers, by turns in one process, both compiled for release. Each call is lent no
+//! weights first, then one for each pair.
 
 mod clock;
 #[cfg(feature = "judge")]
@@ -12,9 +13,11 @@ use measure::{Lent, REPETITIONS};
 
 fn main() {
     println!("ns per pixel, for one call or one round: median of {REPETITIONS}, warm buffers");
-    println!("{:26}{:>9}{:>11}{:>8}", "", "library", "reference", "ratio");
-    for side in [64, 1_024] {
-        let mut lent = Lent::new(side);
+    println!("{:35}{:>9}{:>11}{:>8}", "", "library", "reference", "ratio");
+    for (side, weighted) in [(64, false), (64, true), (1_024, false), (1_024, true)] {
+        let mut lent = Lent::new(side, weighted);
+        #[cfg(feature = "judge")]
+        judge::price(&mut lent);
         #[cfg(feature = "judge")]
         judge::check(&mut lent);
         #[cfg(feature = "run")]

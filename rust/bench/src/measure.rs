@@ -18,6 +18,8 @@ pub struct Lent {
     /// The same in the library's type.
     pub library_terms: relief::Terms,
     pub samples: Vec<u8>,
+    /// One for each pair, or none.
+    pub weights: Vec<i32>,
     pub flow: Vec<i32>,
     pub image: Vec<i32>,
     #[cfg(feature = "run")]
@@ -25,22 +27,30 @@ pub struct Lent {
 }
 
 impl Lent {
-    /// A noisy job whose steady rounds go on for long, with a flow that a check accepts.
-    pub fn new(side: u32) -> Lent {
+    /// A noisy job whose steady rounds go on for long, with a flow that a check accepts and an
+    /// image that a price accepts. With weights, these are that of the terms on an average.
+    pub fn new(side: u32, weighted: bool) -> Lent {
         let mut random = Random::new(0xBE2C4);
         let (width, height) = (side, side);
         let (weight, low, high) = (16_384, 16, 240);
         let grid = Grid::new(side, side).expect("a size within the limits");
         let (pixels, pairs) = (grid.pixel_count(), grid.pair_count());
+        let terms = Terms {
+            width,
+            height,
+            weight,
+            low,
+            high,
+        };
+        let mut weights = Vec::new();
+        if weighted {
+            let most = 2 * i64::from(weight);
+            weights.extend((0..pairs).map(|_| random.between(0, most) as i32));
+        }
+        let (lower, upper) = terms.bounds().into_inner();
         Lent {
             side,
-            terms: Terms {
-                width,
-                height,
-                weight,
-                low,
-                high,
-            },
+            terms,
             library_terms: relief::Terms {
                 width,
                 height,
@@ -49,8 +59,9 @@ impl Lent {
                 high,
             },
             samples: random.bytes(pixels),
-            flow: random.flow(pairs, weight),
-            image: vec![0; pixels],
+            flow: random.flow(&terms.pair_weights(pairs, &weights)),
+            image: random.image(pixels, lower, upper),
+            weights,
             #[cfg(feature = "run")]
             work: vec![0; 2 * pairs],
         }
@@ -76,5 +87,9 @@ pub fn report(
     .map(|times| times.median() * 1e9 / visits);
     let ratio = ours / theirs;
     let side = lent.side;
-    println!("{name:13}{side:5} x {side:<5}{ours:9.2}{theirs:11.2}{ratio:8.2}");
+    let name = match lent.weights[..] {
+        [] => name.to_string(),
+        _ => format!("weighted {name}"),
+    };
+    println!("{name:22}{side:5} x {side:<5}{ours:9.2}{theirs:11.2}{ratio:8.2}");
 }

@@ -26,13 +26,14 @@ pub fn steady(lent: &mut Lent) {
             let Lent {
                 terms,
                 samples,
+                weights,
                 flow,
                 image,
                 ..
             } = lent;
             flow.fill(0);
             for _ in 0..ROUNDS {
-                black_box(steady_round_plain(terms, samples, flow, image));
+                black_box(steady_round_plain(terms, samples, weights, flow, image));
             }
         },
     );
@@ -52,6 +53,7 @@ pub fn quick(lent: &mut Lent) {
             let Lent {
                 terms,
                 samples,
+                weights,
                 flow,
                 image,
                 work,
@@ -62,7 +64,7 @@ pub fn quick(lent: &mut Lent) {
             ahead.fill(0);
             let mut t = T_UNIT;
             for _ in 0..ROUNDS {
-                t = quick_round_plain(terms, samples, t, flow, ahead, image);
+                t = quick_round_plain(terms, samples, weights, t, flow, ahead, image);
             }
             black_box(t);
         },
@@ -73,11 +75,12 @@ fn run(lent: &mut Lent, rounds: &relief::Rounds) {
     let Lent {
         library_terms,
         samples,
+        weights,
         flow,
         image,
         work,
         ..
     } = lent;
-    let figures = relief::run(library_terms, rounds, samples, flow, image, work);
+    let figures = relief::run(library_terms, rounds, samples, weights, flow, image, work);
     assert!(black_box(figures).is_ok(), "the run is refused");
 }

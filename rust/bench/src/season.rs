@@ -78,10 +78,10 @@ fn least(times: &Times) -> f64 {
     times.0[0].as_secs_f64()
 }
 
-/// Seasons of the most jobs and of the most pixels, run and checked.
-fn seasons() -> [(&'static str, Vec<u8>); 3] {
+/// Seasons of the most jobs and of the most pixels, run and checked, without weights and with them.
+fn seasons() -> [(&'static str, Vec<u8>); 4] {
     let mut random = Random::new(0xBE2C4);
-    let (mut runs, mut checks) = (Vec::new(), Vec::new());
+    let (mut runs, mut checks, mut weighted_runs) = (Vec::new(), Vec::new(), Vec::new());
     for _ in 0..200 {
         let case = Case {
             terms: Terms {
@@ -96,15 +96,22 @@ fn seasons() -> [(&'static str, Vec<u8>); 3] {
                 allowance: 50,
             },
             samples: random.bytes(64 * 64),
+            weights: Vec::new(),
         };
         runs.extend(case.tape(&[]));
         checks.extend(case.tape(&case.flow(&mut random)));
+        let weighted = Case {
+            weights: random.weights(case.grid().pair_count(), 32_768),
+            ..case
+        };
+        weighted_runs.extend(weighted.tape(&[]));
     }
     let smallest = two_by_one().tape(&[]).repeat(LIMITS.jobs as usize);
     [
         ("65,535 runs of 2 by 1", smallest),
         ("200 runs of 64 by 64", runs),
         ("200 checks of 64 by 64", checks),
+        ("200 weighted runs", weighted_runs),
     ]
 }
 

@@ -53,6 +53,7 @@ pub fn job(job: relief::Job) -> Job {
     let relief::Job {
         terms,
         rounds,
+        has_weights,
         has_flow,
     } = job;
     Job {
@@ -67,6 +68,7 @@ pub fn job(job: relief::Job) -> Job {
             quick: rounds.quick,
             allowance: rounds.allowance,
         },
+        has_weights,
         has_flow,
     }
 }

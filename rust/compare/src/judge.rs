@@ -9,40 +9,47 @@ use relief_reference::{Figures, Refusal, Terms};
 
 use crate::convert::{figures, refusal, terms};
 use crate::family::Call;
-use crate::job::{limits, JobInput, LARGEST};
+use crate::job::{limits, two_faults, JobInput, LARGEST};
 
 const PRICE: Call<JobInput, Figures> = Call {
     name: "price",
     library: |input| {
-        relief::price(&terms(&input.terms), &input.samples, &input.image)
-            .map(figures)
-            .map_err(refusal)
+        relief::price(
+            &terms(&input.terms),
+            &input.samples,
+            &input.weights,
+            &input.image,
+        )
+        .map(figures)
+        .map_err(refusal)
     },
-    reference: |input| relief_reference::price(&input.terms, &input.samples, &input.image),
+    reference: |input| {
+        relief_reference::price(&input.terms, &input.samples, &input.weights, &input.image)
+    },
     word: |figures| figures.outcome.to_string(),
 };
 
 const CHECK: Call<JobInput, Figures> = Call {
     name: "check",
     library: |input| {
-        let JobInput {
-            samples,
-            flow,
-            image,
-            ..
-        } = input;
-        relief::check(&terms(&input.terms), samples, flow, image)
-            .map(figures)
-            .map_err(refusal)
+        relief::check(
+            &terms(&input.terms),
+            &input.samples,
+            &input.weights,
+            &input.flow,
+            &mut input.image,
+        )
+        .map(figures)
+        .map_err(refusal)
     },
     reference: |input| {
-        let JobInput {
-            samples,
-            flow,
-            image,
-            ..
-        } = input;
-        relief_reference::check(&input.terms, samples, flow, image)
+        relief_reference::check(
+            &input.terms,
+            &input.samples,
+            &input.weights,
+            &input.flow,
+            &mut input.image,
+        )
     },
     word: |figures| figures.outcome.to_string(),
 };
@@ -50,14 +57,19 @@ const CHECK: Call<JobInput, Figures> = Call {
 /// Compares both calls on the same inputs.
 pub fn compare(step: usize) -> Result<(), Difference> {
     PRICE.compare_values(
-        "document 01's limits",
-        &[1, 2],
+        "the documents' limits",
+        &[1, 2, 19],
         limits().chain(ends_of_boxes()),
     )?;
-    CHECK.compare_values("document 01's limits", &[1, 2], limits())?;
+    CHECK.compare_values("the documents' limits", &[1, 2, 19], limits())?;
+    let price_numbers = [1, 2, 3, 4, 6, 9, 19];
+    let check_numbers = [1, 2, 3, 4, 5, 6, 8, 19];
+    let title = "two faults";
+    PRICE.compare_family(title, &price_numbers, two_faults(JobInput::accepted))?;
+    CHECK.compare_family(title, &check_numbers, two_faults(JobInput::accepted))?;
     let title = "1 to 300 pixels";
-    PRICE.compare_family(title, &[1, 2, 3, 4, 6, 9], small(step))?;
-    CHECK.compare_family(title, &[1, 2, 3, 4, 5, 6, 8], small(step))?;
+    PRICE.compare_family(title, &price_numbers, small(step))?;
+    CHECK.compare_family(title, &check_numbers, small(step))?;
     let title = "1,048,576 pixels";
     PRICE.compare_family(title, &[], large(step))?;
     CHECK.compare_family(title, &[], large(step))?;
@@ -98,7 +110,7 @@ fn two_flows(step: usize) -> impl Iterator<Item = [JobInput; 2]> {
         };
         let input = JobInput::accepted(&mut random, size);
         let mut other = input.clone();
-        other.flow = random.other_flow(&input.flow, input.terms.weight);
+        other.flow = random.other_flow(&input.flow, &input.pair_weights());
         [input, other]
     })
 }
@@ -151,12 +163,14 @@ fn large(step: usize) -> impl Iterator<Item = JobInput> {
     let mut random = Random::new(0x1A26E);
     (0..24).step_by(step).map(move |turn| {
         let size = LARGEST[turn % LARGEST.len()];
-        let input = JobInput::accepted(&mut random, size);
-        match turn / LARGEST.len() % 4 {
-            0 => extreme(input, 1),
-            1 => extreme(input, -1),
-            2 => farthest(input, [255, 0][turn % 2]),
-            _ => input.spoiled(&mut random),
+        let input = JobInput::weighted(&mut random, size, turn % 2 == 1);
+        match turn / LARGEST.len() {
+            0 | 4 => extreme(input, 1),
+            1 | 5 => extreme(input, -1),
+            2 | 7 => farthest(input, [255, 0][turn % 2]),
+            3 => input.spoiled(&mut random),
+            // As drawn.
+            _ => input,
         }
     })
 }
@@ -167,6 +181,7 @@ fn large(step: usize) -> impl Iterator<Item = JobInput> {
 fn extreme(mut input: JobInput, sign: i32) -> JobInput {
     let (width, height) = (input.terms.width as usize, input.terms.height as usize);
     input.terms.weight = WEIGHT_LIMIT;
+    input.weights.fill(WEIGHT_LIMIT as i32);
     (input.terms.low, input.terms.high) = (0, 255);
     input.samples = chessboard(width, height);
     input.flow = chessboard_flow(width, height, sign * WEIGHT_LIMIT as i32);

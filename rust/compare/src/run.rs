@@ -5,7 +5,7 @@ use relief_reference::{Figures, Rounds};
 
 use crate::convert::{figures, refusal, rounds, terms};
 use crate::family::Call;
-use crate::job::{limits, JobInput, LARGEST};
+use crate::job::{limits, two_faults, JobInput, LARGEST};
 
 const RUN: Call<JobInput, Figures> = Call {
     name: "run",
@@ -14,6 +14,7 @@ const RUN: Call<JobInput, Figures> = Call {
             &terms(&input.terms),
             &rounds(&input.rounds),
             &input.samples,
+            &input.weights,
             &mut input.flow,
             &mut input.image,
             &mut input.work,
@@ -26,6 +27,7 @@ const RUN: Call<JobInput, Figures> = Call {
             &input.terms,
             &input.rounds,
             &input.samples,
+            &input.weights,
             &mut input.flow,
             &mut input.image,
             &mut input.work,
@@ -36,8 +38,10 @@ const RUN: Call<JobInput, Figures> = Call {
 
 /// Compares runs of few rounds, of the most rounds, and of the most pixels.
 pub fn compare(step: usize) -> Result<(), Difference> {
-    RUN.compare_values("document 01's limits", &[1, 2], limits())?;
-    let numbers = [1, 2, 3, 4, 5, 6, 7, 10];
+    RUN.compare_values("the documents' limits", &[1, 2, 19], limits())?;
+    let numbers = [1, 2, 3, 4, 5, 6, 7, 10, 19];
+    let few = |random: &mut Random, size| input(random, size, Rounds::default());
+    RUN.compare_family("two faults", &numbers, two_faults(few))?;
     RUN.compare_family("1 to 120 pixels", &numbers, small(step))?;
     RUN.compare_family("the most rounds", &[], long(step))?;
     RUN.compare_family("1,048,576 pixels", &[], large(step))
@@ -74,12 +78,15 @@ fn long(step: usize) -> impl Iterator<Item = JobInput> {
 
 fn large(step: usize) -> impl Iterator<Item = JobInput> {
     let mut random = Random::new(0x1A26E2);
-    (0..9).step_by(step).map(move |turn| {
+    // With any step a job with weights and one without.
+    (0..10).step_by(step.min(9)).map(move |turn| {
         let rounds = Rounds {
             quick: 3,
             allowance: 2,
         };
-        let mut job = input(&mut random, LARGEST[turn % LARGEST.len()], rounds);
+        let size = LARGEST[turn % LARGEST.len()];
+        let job = JobInput::weighted(&mut random, size, turn % 2 == 0);
+        let mut job = to_run(&mut random, job, rounds);
         job.terms.weight = [65_280, 200][turn % 2];
         (job.terms.low, job.terms.high) = random.pick(&[(0, 255), (20, 230)]);
         match turn / LARGEST.len() {
@@ -97,6 +104,10 @@ fn large(step: usize) -> impl Iterator<Item = JobInput> {
 /// A job that a run accepts, with any contents in the buffers that it fills.
 fn input(random: &mut Random, size: (u32, u32), rounds: Rounds) -> JobInput {
     let job = JobInput::accepted(random, size);
+    to_run(random, job, rounds)
+}
+
+fn to_run(random: &mut Random, job: JobInput, rounds: Rounds) -> JobInput {
     let pairs = job.flow.len();
     JobInput {
         rounds,

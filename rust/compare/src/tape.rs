@@ -1,17 +1,20 @@
 //! Read and write.
 
-use relief_inputs::{small_tapes, tape_length, Answer, Difference, Random, Tape};
+use relief_inputs::{
+    jointed, record_orders, small_tapes, tape_length, Answer, Difference, Random, Tape,
+};
 use relief_reference::{Job, Refusal, Terms};
 
 use crate::convert::{job, refusal, rounds, terms};
 use crate::family::{first_difference, Call, Input};
-use crate::job::{limits, JobInput, LARGEST};
+use crate::job::{limits, two_faults, JobInput, LARGEST};
 
 /// Everything that read is lent.
 #[derive(Clone, Debug)]
 struct TapeInput {
     tape: Vec<u8>,
     samples: Vec<u8>,
+    weights: Vec<i32>,
     flow: Vec<i32>,
 }
 
@@ -19,15 +22,30 @@ impl Input for TapeInput {
     fn difference(&self, other: &TapeInput) -> Option<String> {
         first_difference("tape", &self.tape, &other.tape)
             .or_else(|| first_difference("samples", &self.samples, &other.samples))
+            .or_else(|| first_difference("weights", &self.weights, &other.weights))
             .or_else(|| first_difference("flow", &self.flow, &other.flow))
     }
 }
 
 const READ: Call<TapeInput, Job> = Call {
     name: "read",
-    library: |input| read(&input.tape, &mut input.samples, &mut input.flow),
-    reference: |input| relief_reference::read(&input.tape, &mut input.samples, &mut input.flow),
-    word: with_or_without_flow,
+    library: |input| {
+        read(
+            &input.tape,
+            &mut input.samples,
+            &mut input.weights,
+            &mut input.flow,
+        )
+    },
+    reference: |input| {
+        relief_reference::read(
+            &input.tape,
+            &mut input.samples,
+            &mut input.weights,
+            &mut input.flow,
+        )
+    },
+    word: what_it_has,
 };
 
 const WRITE: Call<JobInput, usize> = Call {
@@ -43,9 +61,14 @@ const WRITE_AND_READ: Call<JobInput, Job> = Call {
     library: |input| {
         let length = write(input)?;
         let mut samples = vec![0; input.samples.len()];
-        let mut flow = vec![0; pair_count(&input.terms)];
-        let job = read(&input.output[..length], &mut samples, &mut flow)?;
+        let mut weights = vec![0; pair_count(&input.terms)];
+        let mut flow = weights.clone();
+        let tape = &input.output[..length];
+        let job = read(tape, &mut samples, &mut weights, &mut flow)?;
         input.samples = samples;
+        if job.has_weights {
+            input.weights = weights;
+        }
         if job.has_flow {
             input.flow = flow;
         }
@@ -56,14 +79,17 @@ const WRITE_AND_READ: Call<JobInput, Job> = Call {
         Ok(Job {
             terms: input.terms,
             rounds: input.rounds,
+            has_weights: !input.weights.is_empty(),
             has_flow: !input.flow.is_empty(),
         })
     },
-    word: with_or_without_flow,
+    word: what_it_has,
 };
 
-fn read(tape: &[u8], samples: &mut [u8], flow: &mut [i32]) -> Answer<Job> {
-    relief::read(tape, samples, flow).map(job).map_err(refusal)
+fn read(tape: &[u8], samples: &mut [u8], weights: &mut [i32], flow: &mut [i32]) -> Answer<Job> {
+    relief::read(tape, samples, weights, flow)
+        .map(job)
+        .map_err(refusal)
 }
 
 fn write(input: &mut JobInput) -> Answer<usize> {
@@ -71,6 +97,7 @@ fn write(input: &mut JobInput) -> Answer<usize> {
         &terms(&input.terms),
         &rounds(&input.rounds),
         &input.samples,
+        &input.weights,
         &input.flow,
         &mut input.output,
     )
@@ -82,14 +109,20 @@ fn write_by_reference(input: &mut JobInput) -> Answer<usize> {
         &input.terms,
         &input.rounds,
         &input.samples,
+        &input.weights,
         &input.flow,
         &mut input.output,
     )
 }
 
-fn with_or_without_flow(job: &Job) -> String {
-    let word = if job.has_flow { "with" } else { "without" };
-    format!("{word} flow")
+fn what_it_has(job: &Job) -> String {
+    match (job.has_weights, job.has_flow) {
+        (false, false) => "samples alone",
+        (false, true) => "with flow",
+        (true, false) => "with weights",
+        (true, true) => "with weights and flow",
+    }
+    .to_string()
 }
 
 fn pair_count(terms: &Terms) -> usize {
@@ -98,14 +131,16 @@ fn pair_count(terms: &Terms) -> usize {
 
 /// Compares reads of cut, changed, damaged and random tapes, then writes.
 pub fn compare(step: usize) -> Result<(), Difference> {
-    WRITE.compare_values("document 01's limits", &[1, 2], limits())?;
-    WRITE_AND_READ.compare_values("document 01's limits", &[1, 2], limits())?;
+    WRITE.compare_values("the documents' limits", &[1, 2, 19], limits())?;
+    WRITE_AND_READ.compare_values("the documents' limits", &[1, 2, 19], limits())?;
     READ.compare_values("no bytes", &[18], [no_bytes()].into_iter())?;
     READ.compare_values("every prefix", &[13, 18], prefixes())?;
+    READ.compare_values("every order of records", &[14, 15, 18], orders())?;
     READ.compare_family("every changed byte", &[], changes(step))?;
     let numbers = [1, 2, 3, 8, 10, 12, 13, 14, 15, 16, 18];
     READ.compare_family("damaged and random tapes", &numbers, damages(step))?;
-    let numbers = [1, 2, 3, 4, 5, 8, 10, 16];
+    let numbers = [1, 2, 3, 4, 5, 8, 10, 16, 19];
+    WRITE.compare_family("two faults", &numbers, two_faults(writable))?;
     WRITE.compare_family("1 to 40 pixels", &numbers, jobs(step))?;
     WRITE_AND_READ.compare_family("1 to 40 pixels", &numbers, jobs(step))?;
     WRITE_AND_READ.compare_family("1,048,576 pixels", &[], large_jobs(step))
@@ -116,6 +151,7 @@ fn no_bytes() -> (TapeInput, Answer<()>) {
     let input = TapeInput {
         tape: Vec::new(),
         samples: vec![255; 2],
+        weights: vec![-1],
         flow: vec![-1],
     };
     let refusal = Refusal {
@@ -125,17 +161,40 @@ fn no_bytes() -> (TapeInput, Answer<()>) {
     (input, Err(refusal))
 }
 
-/// Every prefix of small tapes, the whole ones among them, with the answer that is due.
+/// The tapes of the job with a joint, without a flow and with one, then so many small tapes.
+fn tapes(count: u64) -> impl Iterator<Item = (Random, Tape)> {
+    let weighted = [&[][..], &[0, -512]].map(|flow| {
+        let random = Random::new(0x701A7);
+        (random, Tape::new(&jointed(), flow))
+    });
+    weighted.into_iter().chain(small_tapes(count))
+}
+
+/// Every prefix of tapes, the whole ones among them, with the answer that is due.
 fn prefixes() -> impl Iterator<Item = (TapeInput, Answer<()>)> {
-    small_tapes(40).flat_map(|(mut random, tape)| {
+    tapes(40).flat_map(|(mut random, tape)| {
         let prefixes = tape.clone().prefixes();
         prefixes.map(move |(bytes, answer)| (lent(&mut random, &tape, bytes), answer))
     })
 }
 
-/// Small tapes with each byte changed to each other.
+/// Tapes with records behind the samples in every order, with the answer that is due.
+fn orders() -> impl Iterator<Item = (TapeInput, Answer<()>)> {
+    let mut random = Random::new(0x02DE2);
+    record_orders(5).map(move |(tape, answer)| {
+        let input = TapeInput {
+            tape,
+            samples: random.bytes(3),
+            weights: random.numbers(2),
+            flow: random.numbers(2),
+        };
+        (input, answer)
+    })
+}
+
+/// Tapes with each byte changed to each other.
 fn changes(step: usize) -> impl Iterator<Item = TapeInput> {
-    let all = small_tapes(16).flat_map(|(mut random, tape)| {
+    let all = tapes(16).flat_map(|(mut random, tape)| {
         let changes = tape.clone().changes();
         changes.map(move |bytes| lent(&mut random, &tape, bytes))
     });
@@ -144,10 +203,11 @@ fn changes(step: usize) -> impl Iterator<Item = TapeInput> {
 
 /// `bytes` with buffers of any contents that hold the job of `tape`, or somewhat more.
 fn lent(random: &mut Random, tape: &Tape, bytes: Vec<u8>) -> TapeInput {
-    let (more_samples, more_flow) = (random.below(3), random.below(3));
+    let [more_samples, more_weights, more_flow] = [(); 3].map(|()| random.below(3));
     TapeInput {
         tape: bytes,
         samples: random.bytes(tape.pixels + more_samples),
+        weights: random.numbers(tape.pairs + more_weights),
         flow: random.numbers(tape.pairs + more_flow),
     }
 }
@@ -157,10 +217,11 @@ fn damages(step: usize) -> impl Iterator<Item = TapeInput> {
     (0..200_000).step_by(step).map(move |_| {
         let tape = Tape::random(&mut random, 40);
         let samples_length = about(&mut random, tape.pixels);
-        let flow_length = about(&mut random, tape.pairs);
+        let [weights_length, flow_length] = [(); 2].map(|()| about(&mut random, tape.pairs));
         TapeInput {
             tape: tape.damaged(&mut random),
             samples: random.bytes(samples_length),
+            weights: random.numbers(weights_length),
             flow: random.numbers(flow_length),
         }
     })
@@ -176,19 +237,25 @@ fn jobs(step: usize) -> impl Iterator<Item = JobInput> {
 
 fn large_jobs(step: usize) -> impl Iterator<Item = JobInput> {
     let mut random = Random::new(0x1A26E3);
-    (0..LARGEST.len())
-        .step_by(step)
-        .map(move |turn| writable(&mut random, LARGEST[turn]))
+    (0..LARGEST.len()).step_by(step).map(move |turn| {
+        let input = JobInput::weighted(&mut random, LARGEST[turn], turn % 2 == 0);
+        to_write(&mut random, input)
+    })
 }
 
-/// A job that write accepts, with or without a flow, and any bytes in its output.
+/// A job that write accepts, with or without weights and a flow, and any bytes in its output.
 fn writable(random: &mut Random, size: (u32, u32)) -> JobInput {
-    let mut input = JobInput::accepted(random, size);
+    let input = JobInput::accepted(random, size);
+    to_write(random, input)
+}
+
+fn to_write(random: &mut Random, mut input: JobInput) -> JobInput {
     input.rounds = random.rounds();
     if random.below(3) == 0 {
         input.flow.clear();
     }
-    let length = tape_length(input.samples.len(), input.flow.len());
+    let (samples, weights) = (input.samples.len(), input.weights.len());
+    let length = tape_length(samples, weights, input.flow.len());
     let rest = random.pick(&[0, 0, 1, 9]);
     input.output = random.bytes(length + rest);
     input
@@ -198,5 +265,5 @@ fn writable(random: &mut Random, size: (u32, u32)) -> JobInput {
 fn about(random: &mut Random, due: usize) -> usize {
     let more = due + random.below(9);
     let less = random.below(due + 1);
-    random.pick(&[due, due, due, due, more, more, less])
+    random.pick(&[due, due, due, due, due, due, due, more, more, less])
 }

@@ -14,6 +14,8 @@ pub struct Case {
     pub rounds: Rounds,
     /// One for each pixel.
     pub samples: Vec<u8>,
+    /// One for each pair, or none: then every pair has the weight of the terms.
+    pub weights: Vec<i32>,
 }
 
 /// Document 01's 2 by 1 job.
@@ -31,6 +33,7 @@ pub fn two_by_one() -> Case {
             allowance: 100,
         },
         samples: vec![0, 2],
+        weights: Vec::new(),
     }
 }
 
@@ -68,6 +71,23 @@ pub fn three_by_one() -> Case {
     case
 }
 
+/// The terms of the 2 by 1 job on 3 by 1 pixels with a joint: the first pair has weight 0, the
+/// second 512.
+pub fn jointed() -> Case {
+    let mut case = two_by_one();
+    case.terms.width = 3;
+    case.samples = vec![0, 2, 10];
+    case.weights = vec![0, 512];
+    case
+}
+
+/// What the program prints for the job with a joint.
+pub const JOINTED_TEXT: &str = "\
+outcome moved price floor slack
+settled 3 1572864 1572864 0
+128 1152 2176
+";
+
 /// The terms of the 2 by 1 job on 2 by 2 pixels.
 pub fn two_by_two() -> Case {
     let mut case = two_by_one();
@@ -85,10 +105,10 @@ pub fn flat(width: u32, height: u32) -> Case {
 }
 
 impl Case {
-    /// A random job of the given size.
+    /// A random job of the given size, in half of the cases with weights for its pairs.
     pub fn sized(random: &mut Random, width: u32, height: u32) -> Case {
         let (low, high) = random.levels();
-        Case {
+        let case = Case {
             terms: Terms {
                 width,
                 height,
@@ -101,7 +121,19 @@ impl Case {
                 allowance: random.pick(&[0, 1, 5, 40, 65_535]),
             },
             samples: random.samples((width * height) as usize),
-        }
+            weights: Vec::new(),
+        };
+        let weighted = random.below(2) == 0;
+        case.with_weights(random, weighted)
+    }
+
+    /// The job with weights for its pairs, or without.
+    pub fn with_weights(mut self, random: &mut Random, weighted: bool) -> Case {
+        self.weights = match weighted {
+            true => random.weights(self.grid().pair_count(), WEIGHT_LIMIT),
+            false => Vec::new(),
+        };
+        self
     }
 
     /// A random job of at most 5 by 5 pixels.
@@ -113,7 +145,13 @@ impl Case {
 
     /// A random flow that a check accepts for the job.
     pub fn flow(&self, random: &mut Random) -> Vec<i32> {
-        random.flow(self.grid().pair_count(), self.terms.weight)
+        random.flow(&self.pair_weights())
+    }
+
+    /// The weight of each pair, its own or the terms'.
+    pub fn pair_weights(&self) -> Vec<i32> {
+        self.terms
+            .pair_weights(self.grid().pair_count(), &self.weights)
     }
 
     /// The grid of the job's size.
@@ -123,8 +161,14 @@ impl Case {
 
     /// The job's tape with `flow`, where an empty one is none.
     pub fn tape(&self, flow: &[i32]) -> Vec<u8> {
-        let mut output = vec![0; tape_length(self.samples.len(), flow.len())];
-        let length = write(&self.terms, &self.rounds, &self.samples, flow, &mut output);
+        let Case {
+            terms,
+            rounds,
+            samples,
+            weights,
+        } = self;
+        let mut output = vec![0; tape_length(samples.len(), weights.len(), flow.len())];
+        let length = write(terms, rounds, samples, weights, flow, &mut output);
         assert_eq!(length, Ok(output.len()));
         output
     }

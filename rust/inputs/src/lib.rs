@@ -5,16 +5,19 @@
 mod case;
 mod chessboard;
 mod family;
+mod orders;
 mod random;
 mod season;
 mod tape;
 mod two_flows;
 
 pub use case::{
-    about_the_box, flat, narrow_box, three_by_one, two_by_one, two_by_two, Case, TWO_BY_ONE_TEXT,
+    about_the_box, flat, jointed, narrow_box, three_by_one, two_by_one, two_by_two, Case,
+    JOINTED_TEXT, TWO_BY_ONE_TEXT,
 };
 pub use chessboard::{chessboard, chessboard_flow};
 pub use family::{compare_family, status, Answer, Difference, Tally};
+pub use orders::record_orders;
 pub use random::Random;
 pub use season::{concatenated, filler, season_job, season_prefixes, TWO_BY_ONE_SEASON};
 pub use tape::{changes_of, small_tapes, tape_length, Tape};

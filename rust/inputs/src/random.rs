@@ -87,6 +87,17 @@ impl Random {
         self.pick(&[0, limit, small, middle, middle, any]) as u32
     }
 
+    /// Weights for so many pairs, in sub-units up to `limit`: everywhere, 0 and the limit only, or
+    /// each as [`Random::weight`] has them.
+    pub fn weights(&mut self, count: usize, limit: u32) -> Vec<i32> {
+        if self.below(3) == 0 {
+            return (0..count).map(|_| self.weight(limit) as i32).collect();
+        }
+        self.spread(count, 0, limit.into())
+            .map(|weight| weight as i32)
+            .collect()
+    }
+
     /// Any rounds within the limits.
     pub fn rounds(&mut self) -> Rounds {
         Rounds {
@@ -110,25 +121,32 @@ impl Random {
             .collect()
     }
 
-    /// A flow within the weight: everywhere, near 0, or at its ends.
-    pub fn flow(&mut self, count: usize, weight: u32) -> Vec<i32> {
-        let weight = i64::from(weight);
-        let largest = self.pick(&[weight, weight / 8]);
-        self.spread(count, -largest, largest)
-            .map(|value| value as i32)
+    /// A flow within the weights of its pairs: everywhere, near 0, or at its ends.
+    pub fn flow(&mut self, weights: &[i32]) -> Vec<i32> {
+        let part = self.pick(&[1, 8]);
+        let ends_only = self.ends_only();
+        weights
+            .iter()
+            .map(|weight| {
+                let largest = i64::from(weight / part);
+                self.one_of(-largest, largest, ends_only) as i32
+            })
             .collect()
     }
 
-    /// Another flow within the weight: any, one near this, or the opposite of this.
-    pub fn other_flow(&mut self, flow: &[i32], weight: u32) -> Vec<i32> {
-        let largest = weight as i32;
+    /// Another flow within the weights: any, one near this, or the opposite of this.
+    pub fn other_flow(&mut self, flow: &[i32], weights: &[i32]) -> Vec<i32> {
         match self.below(4) {
             0 => flow
                 .iter()
-                .map(|value| (value + self.between(-2, 2) as i32).clamp(-largest, largest))
+                .zip(weights)
+                .map(|(value, &weight)| {
+                    let near = value + self.between(-2, 2) as i32;
+                    near.clamp(-weight, weight)
+                })
                 .collect(),
             1 => flow.iter().map(|value| -value).collect(),
-            _ => self.flow(flow.len(), weight),
+            _ => self.flow(weights),
         }
     }
 
@@ -150,13 +168,21 @@ impl Random {
 
     /// Numbers from `low` to `high`: all of them, or in one call of four the two only.
     fn spread(&mut self, count: usize, low: i64, high: i64) -> impl Iterator<Item = i64> + '_ {
-        let ends_only = self.below(4) == 0;
-        (0..count).map(move |_| {
-            if ends_only {
-                self.pick(&[low, high])
-            } else {
-                self.between(low, high)
-            }
-        })
+        let ends_only = self.ends_only();
+        (0..count).map(move |_| self.one_of(low, high, ends_only))
+    }
+
+    /// In one call of four.
+    fn ends_only(&mut self) -> bool {
+        self.below(4) == 0
+    }
+
+    /// A number from `low` to `high`, or one of the two only.
+    fn one_of(&mut self, low: i64, high: i64, ends_only: bool) -> i64 {
+        if ends_only {
+            self.pick(&[low, high])
+        } else {
+            self.between(low, high)
+        }
     }
 }

@@ -21,7 +21,7 @@ mean 8 0
 const FILLER_PIXELS: usize = 4_096;
 
 /// The tape of a random job of at most so many pixels, often of one, with few rounds, with or
-/// without a flow.
+/// without weights and a flow.
 pub fn season_job(random: &mut Random, pixels: u32) -> Tape {
     let any = random.size(pixels);
     let (width, height) = random.pick(&[(1, 1), any, any, any]);

@@ -11,12 +11,12 @@ const WEIGHT_AND_BOX: usize = 5;
 const ROUNDS: usize = 10;
 const SAMPLES: usize = 15;
 
-/// The bytes of a tape with so many samples and flow numbers.
-pub fn tape_length(samples: usize, flow: usize) -> usize {
-    16 + 2 * samples + 5 * flow
+/// The bytes of a tape with so many samples, weights and flow numbers.
+pub fn tape_length(samples: usize, weights: usize, flow: usize) -> usize {
+    16 + 2 * samples + 3 * weights + 5 * flow
 }
 
-/// The tape of an accepted job, and the number of its pixels and pairs.
+/// The tape of an accepted job, and the number of its pixels, pairs and weights.
 #[derive(Clone, Debug)]
 pub struct Tape {
     /// The tape.
@@ -25,6 +25,8 @@ pub struct Tape {
     pub pixels: usize,
     /// One flow record for each, or none at all.
     pub pairs: usize,
+    /// Weight records: one for each pair, or none at all.
+    pub weights: usize,
 }
 
 /// Tapes of at most 6 pixels, each with the generator that made it, to go on with.
@@ -57,11 +59,12 @@ impl Tape {
             bytes: case.tape(flow),
             pixels: case.samples.len(),
             pairs: case.grid().pair_count(),
+            weights: case.weights.len(),
         }
     }
 
-    /// The tape of a random job of at most so many pixels, with any rounds, with or without a
-    /// flow.
+    /// The tape of a random job of at most so many pixels, with any rounds, with or without
+    /// weights and a flow.
     pub fn random(random: &mut Random, pixels: u32) -> Tape {
         let (width, height) = random.size(pixels);
         let mut case = Case::sized(random, width, height);
@@ -71,6 +74,12 @@ impl Tape {
             _ => case.flow(random),
         };
         Tape::new(&case, &flow)
+    }
+
+    /// The bytes of the tape with a change.
+    pub fn changed(mut self, change: impl FnOnce(&mut Tape)) -> Vec<u8> {
+        change(&mut self);
+        self.bytes
     }
 
     /// Every prefix, the whole tape among them, with the answer that is due.
@@ -102,22 +111,25 @@ impl Tape {
         changes_of(self.bytes)
     }
 
-    /// The tape with records out of order, terms or flow numbers beyond their limits, bytes
-    /// behind its end, or some bytes changed; or as it is, or bytes that are no tape at all.
+    /// The tape with records out of order, terms, weights or flow numbers beyond their limits,
+    /// bytes behind its end, cut, or some bytes changed; or as it is, or bytes that are no tape at
+    /// all.
     pub fn damaged(mut self, random: &mut Random) -> Vec<u8> {
-        match random.below(12) {
+        match random.below(14) {
             0 => (),
             1 | 2 => self.change_records(random),
             3..=5 => self.change_terms(random),
             6 => self.change_flow(random),
-            7 => {
+            7 => self.change_weights(random),
+            8 => {
                 let rest = random.below(9) + 1;
                 self.bytes.extend(random.bytes(rest));
             }
-            8 => {
+            9 => {
                 let length = random.below(60);
                 self.bytes = (0..length).map(|_| kind_or_byte(random)).collect();
             }
+            10 => self.cut(random),
             _ => {
                 for _ in 0..random.pick(&[1, 1, 2, 3]) {
                     self.change_bytes(random);
@@ -129,24 +141,39 @@ impl Tape {
 
     /// Where each record starts.
     fn records(&self) -> Vec<usize> {
-        let samples = (SAMPLES..self.flow_start()).step_by(2);
+        let samples = (SAMPLES..self.weights_start()).step_by(2);
+        let weights = (self.weights_start()..self.flow_start()).step_by(3);
         let flow = (self.flow_start()..self.end()).step_by(5);
         [SIZE, WEIGHT_AND_BOX, ROUNDS]
             .into_iter()
             .chain(samples)
+            .chain(weights)
             .chain(flow)
             .chain([self.end()])
             .collect()
     }
 
+    /// Where the first weight record starts, or what follows if there is none.
+    fn weights_start(&self) -> usize {
+        SAMPLES + 2 * self.pixels
+    }
+
     /// Where the first flow record starts, or the end record if there is none.
     fn flow_start(&self) -> usize {
-        SAMPLES + 2 * self.pixels
+        self.weights_start() + 3 * self.weights
     }
 
     /// Where the end record starts.
     fn end(&self) -> usize {
         self.bytes.len() - 1
+    }
+
+    /// Cuts the tape anywhere or, in half of the cases, where a record starts.
+    fn cut(&mut self, random: &mut Random) {
+        let anywhere = random.below(self.bytes.len());
+        let before_a_record = random.pick(&self.records());
+        self.bytes
+            .truncate(random.pick(&[anywhere, before_a_record]));
     }
 
     /// Leaves a record out, doubles it, or moves it to the end.
@@ -185,20 +212,32 @@ impl Tape {
         }
     }
 
-    /// Sets a flow number just beyond the weight or far beyond it, if there is one.
+    /// Sets the weight of a pair just beyond the limit or far beyond it, if there is one.
+    fn change_weights(&mut self, random: &mut Random) {
+        if self.weights > 0 {
+            let index = random.below(self.weights);
+            self.set_pair_weight(index, random.above(WEIGHT_LIMIT, 65_535) as u16);
+        }
+    }
+
+    /// Sets a flow number just beyond its weight or far beyond it, if there is one.
     fn change_flow(&mut self, random: &mut Random) {
         let count = (self.end() - self.flow_start()) / 5;
         if count > 0 {
             let index = random.below(count);
-            let beyond = i32::from(self.weight()) + 1;
+            let beyond = i32::from(self.weight_of(index)) + 1;
             let value = random.pick(&[beyond, -beyond, i32::MIN, i32::MAX]);
             self.set_flow(index, value);
         }
     }
 
-    fn weight(&self) -> u16 {
-        let place = WEIGHT_AND_BOX + 1;
-        u16::from_le_bytes([self.bytes[place], self.bytes[place + 1]])
+    /// The weight of the pair of this index, its own or the terms'.
+    fn weight_of(&self, index: usize) -> u16 {
+        let record = match self.weights {
+            0 => WEIGHT_AND_BOX,
+            _ => self.weights_start() + 3 * index,
+        };
+        u16::from_le_bytes([self.bytes[record + 1], self.bytes[record + 2]])
     }
 
     /// Sets the width and the height.
@@ -210,6 +249,11 @@ impl Tape {
     /// Sets the weight.
     pub fn set_weight(&mut self, weight: u16) {
         self.set(WEIGHT_AND_BOX + 1, &weight.to_le_bytes());
+    }
+
+    /// Sets the weight of the pair of this index.
+    pub fn set_pair_weight(&mut self, index: usize, weight: u16) {
+        self.set(self.weights_start() + 3 * index + 1, &weight.to_le_bytes());
     }
 
     /// Sets the flow number of this index.
@@ -241,7 +285,7 @@ impl Tape {
 
 /// A byte that is often a kind, or nearly one.
 fn kind_or_byte(random: &mut Random) -> u8 {
-    let kind = random.below(7) as u8;
+    let kind = random.below(8) as u8;
     let byte = random.byte();
     random.pick(&[kind, byte])
 }

@@ -5,14 +5,14 @@ use relief_reference::program::INPUT_LIMIT;
 
 use crate::child::{Input, Program};
 use crate::compare::compare as compare_tape;
-use crate::tapes::full_tape;
+use crate::tapes::{full_tape, overfull_tape, weighted_tape};
 
 /// Compares inputs of these lengths.
 pub fn compare(program: &Program) -> Result<(), Difference> {
     compare_family("lengths and pieces", inputs(), |input| {
         compare_tape(program, input)
     })?
-    .met(&["settled", "checked"], &[14, 15, 17])
+    .met(&["settled", "checked"], &[13, 14, 15, 17])
 }
 
 fn inputs() -> Vec<Input> {
@@ -24,6 +24,19 @@ fn inputs() -> Vec<Input> {
             inputs.push(Input::in_pieces(padded(tape, length), 997, 0));
         }
     }
+    // All weights and all flow numbers, the first of them of as many bytes as can be, whole and up
+    // to the limit.
+    let longest = weighted_tape(100, 37).bytes;
+    let overfull = overfull_tape().bytes;
+    for tape in [&longest, &weighted_tape(14, 269).bytes, &overfull] {
+        inputs.push(tape.clone().into());
+    }
+    inputs.extend([
+        Input::in_pieces(longest, 4_099, 0),
+        Input::in_pieces(overfull.clone(), 4_099, 0),
+        overfull[..INPUT_LIMIT].to_vec().into(),
+        overfull[..INPUT_LIMIT + 1].to_vec().into(),
+    ]);
     let (longest, too_long) = (INPUT_LIMIT, INPUT_LIMIT + 1);
     inputs.extend([
         Input::in_pieces(small.clone(), 1, 1),

@@ -1,10 +1,10 @@
 //! Tapes of accepted jobs, and damaged ones.
 
 use relief_inputs::{
-    beside_the_bound, chessboard, chessboard_flow, compare_family, flat, small_tapes, tape_length,
-    two_by_one, Answer, Case, Difference, Random, Tally, Tape,
+    beside_the_bound, chessboard, chessboard_flow, compare_family, flat, jointed, small_tapes,
+    tape_length, two_by_one, Answer, Case, Difference, Random, Tally, Tape,
 };
-use relief_reference::program::{clean, FLOW_TABLE, SAMPLE_TABLE};
+use relief_reference::program::{clean, FLOW_TABLE, SAMPLE_TABLE, WEIGHT_TABLE};
 use relief_reference::terms::WEIGHT_LIMIT;
 use relief_reference::Rounds;
 
@@ -69,10 +69,11 @@ fn printed(text: &str) -> (u64, Vec<i32>) {
 fn two_flows(step: usize) -> impl Iterator<Item = [Vec<u8>; 2]> {
     let mut random = Random::new(0x2F5);
     (0..500).step_by(step).map(move |_| {
-        let (width, height) = random.size(4_096);
+        // With more pixels, weights and a flow may be too many bytes.
+        let (width, height) = random.size(3_640);
         let case = Case::sized(&mut random, width, height);
         let flow = case.flow(&mut random);
-        let other = random.other_flow(&flow, case.terms.weight);
+        let other = random.other_flow(&flow, &case.pair_weights());
         [case.tape(&flow), case.tape(&other)]
     })
 }
@@ -87,6 +88,7 @@ pub fn largest() -> impl Iterator<Item = Vec<u8>> {
             [end, -end].map(|value| chessboard_flow(width as usize, height as usize, value));
 
         let mut any = Case::sized(&mut random, width, height);
+        any.weights.clear();
         let flow = any.flow(&mut random);
         any.rounds = few_rounds(&mut random, any.samples.len());
         // All samples as far outside the box as can be, below it and above it.
@@ -99,6 +101,9 @@ pub fn largest() -> impl Iterator<Item = Vec<u8>> {
         let mut long = any.clone();
         long.terms.weight = 20;
         long.rounds.allowance = 200;
+        // With weights and a flow it would be too many bytes.
+        let mut weighted = any.clone();
+        weighted.weights = random.weights(flow.len(), WEIGHT_LIMIT);
         [
             extreme.tape(&apart),
             extreme.tape(&together),
@@ -108,6 +113,7 @@ pub fn largest() -> impl Iterator<Item = Vec<u8>> {
             below.tape(&[]),
             above.tape(&flow),
             long.tape(&[]),
+            weighted.tape(&[]),
         ]
     })
 }
@@ -115,6 +121,7 @@ pub fn largest() -> impl Iterator<Item = Vec<u8>> {
 /// The job with the samples, weight and box of the largest totals.
 fn extreme(mut case: Case) -> Case {
     case.terms.weight = WEIGHT_LIMIT;
+    case.weights.clear();
     (case.terms.low, case.terms.high) = (0, 255);
     case.samples = chessboard(case.terms.width as usize, case.terms.height as usize);
     case
@@ -126,15 +133,38 @@ pub fn slackest_tape() -> Vec<u8> {
     extreme(flat(64, 64)).tape(&chessboard_flow(64, 64, WEIGHT_LIMIT as i32))
 }
 
-/// The longest tape that the program takes: all samples and all flow numbers.
+/// The longest tape without weights that the program takes: all samples and all flow numbers.
 pub fn full_tape() -> Vec<u8> {
     let mut random = Random::new(0xF011);
-    let mut case = Case::sized(&mut random, 64, 64);
+    let case = full_case(&mut random, 64, 64);
+    let tape = case.tape(&case.flow(&mut random));
+    assert_eq!(tape.len(), tape_length(SAMPLE_TABLE, 0, FLOW_TABLE));
+    tape
+}
+
+/// The same of another size with weights, whose tape the program takes if it has at most 65,536
+/// bytes.
+pub fn weighted_tape(width: u32, height: u32) -> Tape {
+    let mut random = Random::new(0xF7011);
+    let mut case = full_case(&mut random, width, height);
+    case.weights = random.weights(case.grid().pair_count(), WEIGHT_LIMIT);
+    Tape::new(&case, &case.flow(&mut random))
+}
+
+/// The longest tape that the tables hold, which is too long for the program.
+pub fn overfull_tape() -> Tape {
+    let tape = weighted_tape(64, 64);
+    let longest = tape_length(SAMPLE_TABLE, WEIGHT_TABLE, FLOW_TABLE);
+    assert_eq!(tape.bytes.len(), longest);
+    tape
+}
+
+fn full_case(random: &mut Random, width: u32, height: u32) -> Case {
+    let mut case = Case::sized(random, width, height);
     case.terms.weight = 1_000;
     (case.terms.low, case.terms.high) = (10, 240);
-    let tape = case.tape(&case.flow(&mut random));
-    assert_eq!(tape.len(), tape_length(SAMPLE_TABLE, FLOW_TABLE));
-    tape
+    case.weights.clear();
+    case
 }
 
 fn jobs(step: usize) -> impl Iterator<Item = Vec<u8>> {
@@ -168,12 +198,16 @@ fn long_runs(step: usize) -> impl Iterator<Item = Vec<u8>> {
     })
 }
 
-/// Every prefix of the 2 by 1 job's tape with a flow, and of small tapes, with the answer that is
-/// due.
+/// Every prefix of the tapes of the 2 by 1 job and of the job with a joint, each with a flow, and
+/// of small tapes, with the answer that is due.
 fn prefixes(step: usize) -> impl Iterator<Item = (Vec<u8>, Answer<()>)> {
     let first = Tape::new(&two_by_one(), &[-256]);
+    let weighted = Tape::new(&jointed(), &[0, -512]);
     let others = small_tapes(12).flat_map(|(_, tape)| tape.prefixes());
-    first.prefixes().chain(others.step_by(step))
+    first
+        .prefixes()
+        .chain(weighted.prefixes())
+        .chain(others.step_by(step))
 }
 
 /// Small tapes with bytes changed.
@@ -183,7 +217,7 @@ fn changes(step: usize) -> impl Iterator<Item = Vec<u8>> {
 }
 
 fn damages(step: usize) -> impl Iterator<Item = Vec<u8>> {
-    let mut random = Random::new(0xDA3A6E2);
+    let mut random = Random::new(0xDA3A6E7);
     (0..1_500)
         .step_by(step)
         .map(move |_| Tape::random(&mut random, 40).damaged(&mut random))

@@ -1,8 +1,8 @@
 //! The documents' values, each with its text.
 
 use relief_inputs::{
-    about_the_box, compare_family, flat, narrow_box, three_by_one, two_by_one, two_by_two, Case,
-    Difference, Tape, TWO_BY_ONE_TEXT,
+    about_the_box, compare_family, flat, jointed, narrow_box, three_by_one, two_by_one, two_by_two,
+    Case, Difference, Tape, JOINTED_TEXT, TWO_BY_ONE_TEXT,
 };
 use relief_reference::program::clean;
 
@@ -31,20 +31,12 @@ fn values() -> Vec<(Vec<u8>, String)> {
         job.terms.weight = 65_280;
         job
     };
-    let run = |quick, allowance| {
-        let mut job = job.clone();
-        (job.rounds.quick, job.rounds.allowance) = (quick, allowance);
-        job.tape(&[])
-    };
-    let changed = |change: fn(&mut Tape)| {
-        let mut tape = Tape::new(&job, &[0]);
-        change(&mut tape);
-        tape.bytes
-    };
-    let refused = |number, place| format!("refused {number} at {place}\n");
+    let run = |quick, allowance| run_of(&job, quick, allowance);
+    let changed = |change: fn(&mut Tape)| Tape::new(&job, &[0]).changed(change);
     // The first bytes of the job's tape without a flow, and others behind them.
     let first = |length, behind: &[u8]| [&run(0, 100)[..length], behind].concat();
-    vec![
+    let alone = |record: &[u8]| [&flat(1, 1).tape(&[])[..17], record].concat();
+    let values = vec![
         (job.tape(&[]), TWO_BY_ONE_TEXT.to_string()),
         check(&job, 0, "checked 0 262144 0 262144", "128 640"),
         check(&job, -256, "checked 0 131072 131072 0", "384 384"),
@@ -104,9 +96,76 @@ fn values() -> Vec<(Vec<u8>, String)> {
         (first(6, &[]), refused(13, 5)),
         (first(18, &[]), refused(13, 17)),
         (first(19, &[]), refused(18, 19)),
-        (first(5, &[6]), refused(12, 5)),
+        (first(5, &[7]), refused(12, 5)),
+        (first(5, &[6]), refused(14, 5)),
         (first(5, &[1]), refused(14, 5)),
+        // A job without pairs has neither weights nor a flow.
+        (alone(&[6, 0, 0]), refused(14, 17)),
+        (alone(&[5, 0, 0, 0, 0]), refused(14, 17)),
+    ];
+    values.into_iter().chain(weighted_values()).collect()
+}
+
+/// Those of the job with a joint, whose pairs have the weights 0 and 512.
+fn weighted_values() -> Vec<(Vec<u8>, String)> {
+    let job = jointed();
+    let changed = |change: fn(&mut Tape)| Tape::new(&job, &[0, 0]).changed(change);
+    // Records behind the samples, with zeros.
+    let start = &job.tape(&[])[..21];
+    let (weight, flow) = ([6, 0, 0], [5, 0, 0, 0, 0]);
+    let behind = |records: &[&[u8]]| [start, &records.concat()].concat();
+    let best = "1572864 1572864 0";
+    let row = "128 1152 2176";
+    vec![
+        (job.tape(&[]), JOINTED_TEXT.to_string()),
+        (
+            job.tape(&[0, -512]),
+            text(&format!("checked 0 {best}"), row),
+        ),
+        (
+            job.tape(&[0, 0]),
+            text("checked 0 2097152 0 2097152", "128 640 2688"),
+        ),
+        (
+            run_of(&job, 0, 2),
+            text("spent 2 1581056 1433600 147456", "128 1088 2240"),
+        ),
+        (run_of(&job, 3, 0), text(&format!("settled 0 {best}"), row)),
+        (changed(|tape| tape.set_flow(0, 1)), refused(8, 0)),
+        (changed(|tape| tape.set_flow(1, -513)), refused(8, 1)),
+        (
+            changed(|tape| tape.set_pair_weight(1, 65_280)),
+            text("checked 0 267386880 0 267386880", "128 640 2688"),
+        ),
+        (
+            changed(|tape| tape.set_pair_weight(0, 65_281)),
+            refused(2, 21),
+        ),
+        (
+            changed(|tape| tape.set_pair_weight(1, 65_535)),
+            refused(2, 24),
+        ),
+        (behind(&[]), refused(18, 21)),
+        (behind(&[&weight[..2]]), refused(13, 21)),
+        (behind(&[&weight]), refused(18, 24)),
+        (behind(&[&weight, &[0]]), refused(14, 24)),
+        (behind(&[&weight, &flow]), refused(14, 24)),
+        (behind(&[&weight, &weight]), refused(18, 27)),
+        (behind(&[&weight, &weight, &weight]), refused(14, 27)),
+        (behind(&[&flow, &weight]), refused(14, 26)),
+        (behind(&[&flow, &flow, &weight]), refused(14, 31)),
     ]
+}
+
+fn refused(number: u32, place: usize) -> String {
+    format!("refused {number} at {place}\n")
+}
+
+/// The tape of a job with these rounds, without a flow.
+fn run_of(job: &Case, quick: u32, allowance: u16) -> Vec<u8> {
+    let mut job = job.clone();
+    (job.rounds.quick, job.rounds.allowance) = (quick, allowance);
+    job.tape(&[])
 }
 
 /// A job of one pair with its flow.

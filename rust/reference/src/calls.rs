@@ -4,7 +4,7 @@ use crate::grid::Grid;
 use crate::problem::{widened, Problem};
 use crate::refusal::{Fault, Refusal};
 use crate::rounds::{quick_rounds, steady_rounds, Outcome};
-use crate::terms::{Rounds, Terms};
+use crate::terms::{judge_pair_weights, Rounds, Terms};
 
 /// What an accepted call answers.
 #[derive(Clone, Copy, Debug, PartialEq, Eq)]
@@ -22,11 +22,18 @@ pub struct Figures {
 }
 
 /// The form of [`check`].
-type Check = fn(&Terms, &[u8], &[i32], &mut [i32]) -> Result<Figures, Refusal>;
+type Check = fn(&Terms, &[u8], &[i32], &[i32], &mut [i32]) -> Result<Figures, Refusal>;
 
 /// The form of [`run`].
-type Run =
-    fn(&Terms, &Rounds, &[u8], &mut [i32], &mut [i32], &mut [i32]) -> Result<Figures, Refusal>;
+type Run = fn(
+    &Terms,
+    &Rounds,
+    &[u8],
+    &[i32],
+    &mut [i32],
+    &mut [i32],
+    &mut [i32],
+) -> Result<Figures, Refusal>;
 
 /// Check and run, as one of the two pairs of functions that are written here for them.
 pub(crate) struct Calls {
@@ -37,32 +44,62 @@ pub(crate) struct Calls {
 /// The definitions.
 pub(crate) const DEFINED: Calls = Calls { check, run };
 
+impl Figures {
+    /// What `price` answers.
+    pub(crate) fn of_price(price: u64) -> Figures {
+        Figures {
+            outcome: Outcome::Checked,
+            moved: 0,
+            price,
+            floor: 0,
+            slack: 0,
+        }
+    }
+}
+
 /// Judges a given image.
-pub fn price(terms: &Terms, samples: &[u8], image: &[i32]) -> Result<Figures, Refusal> {
+///
+/// Here as in every call, `weights` has one value for each pair, or none: then each pair has the
+/// weight of the terms.
+pub fn price(
+    terms: &Terms,
+    samples: &[u8],
+    weights: &[i32],
+    image: &[i32],
+) -> Result<Figures, Refusal> {
+    let grid = judge_price(terms, samples, weights, image)?;
+    let problem = Problem::new(grid, terms, samples, weights);
+    Ok(Figures::of_price(figure(
+        problem.objective(&widened(image)),
+    )))
+}
+
+/// The grid of a price, if nothing makes it turn back.
+pub(crate) fn judge_price(
+    terms: &Terms,
+    samples: &[u8],
+    weights: &[i32],
+    image: &[i32],
+) -> Result<Grid, Refusal> {
     let grid = terms.judge()?;
     Fault::SamplesLength.unless(samples.len() == grid.pixel_count())?;
+    Fault::WeightsLength.unless(grid.holds_none_or_all_pairs(weights.len()))?;
     Fault::ImageLength.unless(image.len() == grid.pixel_count())?;
+    judge_pair_weights(weights)?;
     terms.judge_image(image)?;
-
-    let problem = Problem::new(grid, terms, samples);
-    Ok(Figures {
-        outcome: Outcome::Checked,
-        moved: 0,
-        price: figure(problem.objective(&widened(image))),
-        floor: 0,
-        slack: 0,
-    })
+    Ok(grid)
 }
 
 /// Judges a given flow and fills `image` with its image.
 pub fn check(
     terms: &Terms,
     samples: &[u8],
+    weights: &[i32],
     flow: &[i32],
     image: &mut [i32],
 ) -> Result<Figures, Refusal> {
-    let grid = judge_check(terms, samples, flow, image)?;
-    let problem = Problem::new(grid, terms, samples);
+    let grid = judge_check(terms, samples, weights, flow, image)?;
+    let problem = Problem::new(grid, terms, samples, weights);
     Ok(certify(
         &problem,
         &widened(flow),
@@ -76,14 +113,17 @@ pub fn check(
 pub(crate) fn judge_check(
     terms: &Terms,
     samples: &[u8],
+    weights: &[i32],
     flow: &[i32],
     image: &[i32],
 ) -> Result<Grid, Refusal> {
     let grid = terms.judge()?;
     Fault::SamplesLength.unless(samples.len() == grid.pixel_count())?;
     Fault::FlowLength.unless(flow.len() == grid.pair_count())?;
+    Fault::WeightsLength.unless(grid.holds_none_or_all_pairs(weights.len()))?;
     Fault::ImageLength.unless(image.len() == grid.pixel_count())?;
-    terms.judge_flow(flow)?;
+    judge_pair_weights(weights)?;
+    terms.judge_flow(weights, flow)?;
     Ok(grid)
 }
 
@@ -95,12 +135,13 @@ pub fn run(
     terms: &Terms,
     rounds: &Rounds,
     samples: &[u8],
+    weights: &[i32],
     flow: &mut [i32],
     image: &mut [i32],
     work: &mut [i32],
 ) -> Result<Figures, Refusal> {
-    let grid = judge_run(terms, rounds, samples, flow, image, work)?;
-    let problem = Problem::new(grid, terms, samples);
+    let grid = judge_run(terms, rounds, samples, weights, flow, image, work)?;
+    let problem = Problem::new(grid, terms, samples, weights);
     let quick = quick_rounds(&problem, rounds.quick);
     let steady = steady_rounds(&problem, quick, rounds.allowance);
     narrow(&steady.flow, flow);
@@ -119,6 +160,7 @@ pub(crate) fn judge_run(
     terms: &Terms,
     rounds: &Rounds,
     samples: &[u8],
+    weights: &[i32],
     flow: &[i32],
     image: &[i32],
     work: &[i32],
@@ -127,8 +169,10 @@ pub(crate) fn judge_run(
     rounds.judge()?;
     Fault::SamplesLength.unless(samples.len() == grid.pixel_count())?;
     Fault::FlowLength.unless(flow.len() == grid.pair_count())?;
+    Fault::WeightsLength.unless(grid.holds_none_or_all_pairs(weights.len()))?;
     Fault::ImageLength.unless(image.len() == grid.pixel_count())?;
     Fault::WorkLength.unless(work.len() == 2 * grid.pair_count())?;
+    judge_pair_weights(weights)?;
     Ok(grid)
 }
 

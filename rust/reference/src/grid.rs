@@ -42,6 +42,11 @@ impl Grid {
         2 * self.width * self.height - self.width - self.height
     }
 
+    /// Whether a buffer of this length has no value, or one for each pair.
+    pub(crate) fn holds_none_or_all_pairs(self, length: usize) -> bool {
+        [0, self.pair_count()].contains(&length)
+    }
+
     /// The pairs `(first, second)` in order: every pixel with the one below it,
     /// then every pixel with the one to its right.
     pub fn pairs(self) -> impl Iterator<Item = (usize, usize)> {

@@ -1,4 +1,4 @@
-//! The relief cleaner of document 01, with requests F-1 to F-6 of document 02, written a second
+//! The relief cleaner of document 01, with requests F-1 to F-7 of document 02, written a second
 //! time for comparison.
 //!
 //! The calls work in buffers that the caller lends, test all of their input

@@ -1,14 +1,15 @@
-//! Check, run and the rounds again, as loop nests over lent 32-bit buffers, for speed.
+//! Price, check, run and the rounds again, as loop nests over lent 32-bit buffers, for speed.
 //!
-//! Check and run test all of their input. The rounds expect accepted terms and buffers of
-//! the exact lengths.
+//! Price, check and run test all of their input. The rounds expect accepted terms and weights, and
+//! buffers of the exact lengths.
 //!
 //! 32 bits are enough: T never falls, so an extrapolated flow stays within three
 //! times the weight, and readings up to 65,408 less four such numbers stay below 2^20.
 
+use std::iter;
 use std::ops::Range;
 
-use crate::calls::{judge_check, judge_run, Calls, Figures};
+use crate::calls::{judge_check, judge_price, judge_run, Calls, Figures};
 use crate::refusal::Refusal;
 use crate::rounds::{next_t, Outcome, T_UNIT};
 use crate::terms::{reading, Rounds, Terms};
@@ -19,16 +20,49 @@ pub(crate) const PLAIN: Calls = Calls {
     run: run_plain,
 };
 
+/// Calls a method of a job's loop nest, of which there are two: one where all pairs have the weight
+/// of the terms, and one that reads the weights lent.
+macro_rules! nested {
+    ($terms:expr, $samples:expr, $weights:expr, $($call:tt)+) => {
+        match $weights {
+            [] => Nest {
+                terms: $terms,
+                samples: $samples,
+                weights: Same($terms.weight as i32),
+            }
+            .$($call)+,
+            weights => Nest {
+                terms: $terms,
+                samples: $samples,
+                weights: Listed(weights),
+            }
+            .$($call)+,
+        }
+    };
+}
+
+/// Judges a given image: what `price` answers.
+pub fn price_plain(
+    terms: &Terms,
+    samples: &[u8],
+    weights: &[i32],
+    image: &[i32],
+) -> Result<Figures, Refusal> {
+    judge_price(terms, samples, weights, image)?;
+    let price = nested!(terms, samples, weights, price(image));
+    Ok(Figures::of_price(price))
+}
+
 /// Judges a given flow and fills `image` with its image: what `check` answers.
 pub fn check_plain(
     terms: &Terms,
     samples: &[u8],
+    weights: &[i32],
     flow: &[i32],
     image: &mut [i32],
 ) -> Result<Figures, Refusal> {
-    judge_check(terms, samples, flow, image)?;
-    fill_image(terms, samples, flow, image);
-    Ok(figures(terms, samples, flow, image, Outcome::Checked, 0))
+    judge_check(terms, samples, weights, flow, image)?;
+    Ok(nested!(terms, samples, weights, check(flow, image)))
 }
 
 /// Does the rounds and fills `flow` and `image`: what `run` answers and leaves.
@@ -36,67 +70,14 @@ pub fn run_plain(
     terms: &Terms,
     rounds: &Rounds,
     samples: &[u8],
+    weights: &[i32],
     flow: &mut [i32],
     image: &mut [i32],
     work: &mut [i32],
 ) -> Result<Figures, Refusal> {
-    judge_run(terms, rounds, samples, flow, image, work)?;
-    flow.fill(0);
-    work.fill(0);
-    let ahead = &mut work[..flow.len()];
-    let mut t = T_UNIT;
-    for _ in 0..rounds.quick {
-        t = quick_round_plain(terms, samples, t, flow, ahead, image);
-    }
-    ahead.fill(0);
-
-    let allowance = rounds.allowance.into();
-    let mut moved = 0;
-    // A round that changes nothing is the test that finds no pair.
-    while moved < allowance && steady_round_plain(terms, samples, flow, image) {
-        moved += 1;
-    }
-    let spent = moved == allowance && would_move(terms, samples, flow, image);
-    let outcome = if spent {
-        Outcome::Spent
-    } else {
-        Outcome::Settled
-    };
-    // The last round or test has left the image of this flow.
-    Ok(figures(terms, samples, flow, image, outcome, moved))
-}
-
-/// The figures of a flow and its image.
-fn figures(
-    terms: &Terms,
-    samples: &[u8],
-    flow: &[i32],
-    image: &[i32],
-    outcome: Outcome,
-    moved: u32,
-) -> Figures {
-    let mut fidelity = 0;
-    for (&value, &sample) in image.iter().zip(samples) {
-        let distance = u64::from(value.abs_diff(reading(sample)));
-        fidelity += distance * distance;
-    }
-    let (mut variation, mut coupling) = (0, 0);
-    for_each_run(terms, image, |pairs, firsts, seconds| {
-        for ((&value, first), second) in flow[pairs].iter().zip(firsts).zip(seconds) {
-            let difference = first - second;
-            variation += u64::from(difference.unsigned_abs());
-            coupling += i64::from(value) * i64::from(difference);
-        }
-    });
-    let price = fidelity + 2 * u64::from(terms.weight) * variation;
-    let floor = fidelity as i64 + 2 * coupling;
-    Figures {
-        outcome,
-        moved,
-        price,
-        floor,
-        slack: (price as i64 - floor) as u64,
-    }
+    judge_run(terms, rounds, samples, weights, flow, image, work)?;
+    let figures = nested!(terms, samples, weights, run(rounds, flow, image, work));
+    Ok(figures)
 }
 
 /// Replaces `flow` by its step, leaves in `image` the image of the flow before the
@@ -104,35 +85,11 @@ fn figures(
 pub fn steady_round_plain(
     terms: &Terms,
     samples: &[u8],
+    weights: &[i32],
     flow: &mut [i32],
     image: &mut [i32],
 ) -> bool {
-    fill_image(terms, samples, flow, image);
-    let weight = terms.weight as i32;
-    let mut changed = false;
-    for_each_run(terms, image, |pairs, firsts, seconds| {
-        for ((value, first), second) in flow[pairs].iter_mut().zip(firsts).zip(seconds) {
-            let stepped = (*value + steady_share(first - second)).clamp(-weight, weight);
-            changed |= stepped != *value;
-            *value = stepped;
-        }
-    });
-    changed
-}
-
-/// Whether a steady round would change `flow`. Leaves its image in `image`.
-fn would_move(terms: &Terms, samples: &[u8], flow: &[i32], image: &mut [i32]) -> bool {
-    fill_image(terms, samples, flow, image);
-    let weight = terms.weight as i32;
-    let mut moving = false;
-    for_each_run(terms, image, |pairs, firsts, seconds| {
-        let mut pairs = flow[pairs].iter().zip(firsts).zip(seconds);
-        moving = moving
-            || pairs.any(|((&value, first), second)| {
-                (value + steady_share(first - second)).clamp(-weight, weight) != value
-            });
-    });
-    moving
+    nested!(terms, samples, weights, steady_round(flow, image))
 }
 
 /// One quick round at `t`: takes `flow` and `ahead` (document 01: P and R) to the
@@ -141,25 +98,250 @@ fn would_move(terms: &Terms, samples: &[u8], flow: &[i32], image: &mut [i32]) ->
 pub fn quick_round_plain(
     terms: &Terms,
     samples: &[u8],
+    weights: &[i32],
     t: u64,
     flow: &mut [i32],
     ahead: &mut [i32],
     image: &mut [i32],
 ) -> u64 {
-    fill_image(terms, samples, ahead, image);
-    let weight = terms.weight as i32;
-    let following_t = next_t(t);
-    let (gain, scale) = ((t - T_UNIT) as i64, following_t as i64);
-    for_each_run(terms, image, |pairs, firsts, seconds| {
-        let flows = flow[pairs.clone()].iter_mut().zip(&mut ahead[pairs]);
-        for (((value, ahead), first), second) in flows.zip(firsts).zip(seconds) {
-            let stepped = (*ahead + quick_share(first - second)).clamp(-weight, weight);
-            let momentum = gain * i64::from(stepped - *value) / scale;
-            *ahead = stepped + momentum as i32;
-            *value = stepped;
+    nested!(terms, samples, weights, quick_round(t, flow, ahead, image))
+}
+
+/// The weights of all pairs, as a loop nest takes them.
+trait Weights: Copy {
+    /// Those of a run of pairs.
+    fn of(self, pairs: Range<usize>) -> impl Iterator<Item = i32>;
+
+    /// The size of a difference times its pair's weight, divided by [`Weights::factor`].
+    fn weighted(size: u32, weight: i32) -> u64;
+
+    /// What is multiplied once for a sum.
+    fn factor(self) -> u64;
+}
+
+/// One weight for all pairs.
+#[derive(Clone, Copy)]
+struct Same(i32);
+
+impl Weights for Same {
+    fn of(self, _pairs: Range<usize>) -> impl Iterator<Item = i32> {
+        iter::repeat(self.0)
+    }
+
+    fn weighted(size: u32, _weight: i32) -> u64 {
+        size.into()
+    }
+
+    fn factor(self) -> u64 {
+        self.0 as u64
+    }
+}
+
+/// A weight for each pair.
+#[derive(Clone, Copy)]
+struct Listed<'a>(&'a [i32]);
+
+impl Weights for Listed<'_> {
+    fn of(self, pairs: Range<usize>) -> impl Iterator<Item = i32> {
+        self.0[pairs].iter().copied()
+    }
+
+    fn weighted(size: u32, weight: i32) -> u64 {
+        u64::from(size) * u64::from(weight as u32)
+    }
+
+    fn factor(self) -> u64 {
+        1
+    }
+}
+
+/// A job that has been judged.
+struct Nest<'a, W> {
+    terms: &'a Terms,
+    samples: &'a [u8],
+    weights: W,
+}
+
+impl<W: Weights> Nest<'_, W> {
+    fn price(&self, image: &[i32]) -> u64 {
+        let mut variation = 0;
+        self.for_each_run(image, |pairs, firsts, seconds| {
+            let weights = self.weights.of(pairs);
+            for ((first, second), weight) in firsts.iter().zip(seconds).zip(weights) {
+                variation += W::weighted((first - second).unsigned_abs(), weight);
+            }
+        });
+        self.fidelity(image) + 2 * self.weights.factor() * variation
+    }
+
+    fn check(&self, flow: &[i32], image: &mut [i32]) -> Figures {
+        self.fill_image(flow, image);
+        self.figures(flow, image, Outcome::Checked, 0)
+    }
+
+    fn run(
+        &self,
+        rounds: &Rounds,
+        flow: &mut [i32],
+        image: &mut [i32],
+        work: &mut [i32],
+    ) -> Figures {
+        flow.fill(0);
+        work.fill(0);
+        let ahead = &mut work[..flow.len()];
+        let mut t = T_UNIT;
+        for _ in 0..rounds.quick {
+            t = self.quick_round(t, flow, ahead, image);
         }
-    });
-    following_t
+        ahead.fill(0);
+
+        let allowance = rounds.allowance.into();
+        let mut moved = 0;
+        // A round that changes nothing is the test that finds no pair.
+        while moved < allowance && self.steady_round(flow, image) {
+            moved += 1;
+        }
+        let spent = moved == allowance && self.would_move(flow, image);
+        let outcome = if spent {
+            Outcome::Spent
+        } else {
+            Outcome::Settled
+        };
+        // The last round or test has left the image of this flow.
+        self.figures(flow, image, outcome, moved)
+    }
+
+    /// The figures of a flow and its image.
+    fn figures(&self, flow: &[i32], image: &[i32], outcome: Outcome, moved: u32) -> Figures {
+        let (mut variation, mut coupling) = (0, 0);
+        self.for_each_run(image, |pairs, firsts, seconds| {
+            let weights = self.weights.of(pairs.clone());
+            let numbers = flow[pairs].iter().zip(firsts).zip(seconds);
+            for (((&value, first), second), weight) in numbers.zip(weights) {
+                let difference = first - second;
+                variation += W::weighted(difference.unsigned_abs(), weight);
+                coupling += i64::from(value) * i64::from(difference);
+            }
+        });
+        let fidelity = self.fidelity(image);
+        let price = fidelity + 2 * self.weights.factor() * variation;
+        let floor = fidelity as i64 + 2 * coupling;
+        Figures {
+            outcome,
+            moved,
+            price,
+            floor,
+            slack: (price as i64 - floor) as u64,
+        }
+    }
+
+    fn fidelity(&self, image: &[i32]) -> u64 {
+        let mut fidelity = 0;
+        for (&value, &sample) in image.iter().zip(self.samples) {
+            let distance = u64::from(value.abs_diff(reading(sample)));
+            fidelity += distance * distance;
+        }
+        fidelity
+    }
+
+    fn steady_round(&self, flow: &mut [i32], image: &mut [i32]) -> bool {
+        self.fill_image(flow, image);
+        let mut changed = false;
+        self.for_each_run(image, |pairs, firsts, seconds| {
+            let weights = self.weights.of(pairs.clone());
+            let numbers = flow[pairs].iter_mut().zip(firsts).zip(seconds);
+            for (((value, first), second), weight) in numbers.zip(weights) {
+                let stepped = held(*value + steady_share(first - second), weight);
+                changed |= stepped != *value;
+                *value = stepped;
+            }
+        });
+        changed
+    }
+
+    /// Whether a steady round would change `flow`. Leaves its image in `image`.
+    fn would_move(&self, flow: &[i32], image: &mut [i32]) -> bool {
+        self.fill_image(flow, image);
+        let mut moving = false;
+        self.for_each_run(image, |pairs, firsts, seconds| {
+            let weights = self.weights.of(pairs.clone());
+            let numbers = flow[pairs].iter().zip(firsts).zip(seconds);
+            moving = moving
+                || numbers
+                    .zip(weights)
+                    .any(|(((&value, first), second), weight)| {
+                        held(value + steady_share(first - second), weight) != value
+                    });
+        });
+        moving
+    }
+
+    fn quick_round(&self, t: u64, flow: &mut [i32], ahead: &mut [i32], image: &mut [i32]) -> u64 {
+        self.fill_image(ahead, image);
+        let following_t = next_t(t);
+        let (gain, scale) = ((t - T_UNIT) as i64, following_t as i64);
+        self.for_each_run(image, |pairs, firsts, seconds| {
+            let weights = self.weights.of(pairs.clone());
+            let flows = flow[pairs.clone()].iter_mut().zip(&mut ahead[pairs]);
+            let numbers = flows.zip(firsts).zip(seconds);
+            for ((((value, ahead), first), second), weight) in numbers.zip(weights) {
+                let stepped = held(*ahead + quick_share(first - second), weight);
+                let momentum = gain * i64::from(stepped - *value) / scale;
+                *ahead = stepped + momentum as i32;
+                *value = stepped;
+            }
+        });
+        following_t
+    }
+
+    /// Fills `image` with the image of `flow`, which may pass the weights.
+    fn fill_image(&self, flow: &[i32], image: &mut [i32]) {
+        let (width, height) = self.size();
+        let (lower, upper) = self.terms.bounds().into_inner();
+        let (down, right) = flow.split_at(width * (height - 1));
+        for y in 0..height {
+            let row = y * width..(y + 1) * width;
+            let right = &right[y * (width - 1)..(y + 1) * (width - 1)];
+            let values = &mut image[row.clone()];
+            for (value, &sample) in values.iter_mut().zip(&self.samples[row.clone()]) {
+                *value = reading(sample);
+            }
+            if y > 0 {
+                add(values, &down[row.start - width..row.start]);
+            }
+            if y + 1 < height {
+                subtract(values, &down[row]);
+            }
+            add(&mut values[1..], right);
+            subtract(&mut values[..width - 1], right);
+            for value in values {
+                *value = (*value).clamp(lower, upper);
+            }
+        }
+    }
+
+    /// Visits all pairs in runs of successive ones, each with the values of its first
+    /// and of its second pixels: one run for the pairs downward, then one for each row.
+    fn for_each_run(&self, image: &[i32], mut visit: impl FnMut(Range<usize>, &[i32], &[i32])) {
+        let (width, height) = self.size();
+        let down = width * (height - 1);
+        visit(0..down, &image[..down], &image[width..]);
+        let mut start = down;
+        for row in image.chunks_exact(width) {
+            let end = start + width - 1;
+            visit(start..end, &row[..width - 1], &row[1..]);
+            start = end;
+        }
+    }
+
+    fn size(&self) -> (usize, usize) {
+        (self.terms.width as usize, self.terms.height as usize)
+    }
+}
+
+/// A flow number held to its weight. `clamp` would test the weight's sign at every pair.
+fn held(value: i32, weight: i32) -> i32 {
+    value.max(-weight).min(weight)
 }
 
 /// An eighth, rounded toward zero.
@@ -174,32 +356,6 @@ fn steady_share(difference: i32) -> i32 {
     (difference + added).div_euclid(8)
 }
 
-/// Fills `image` with the image of `flow`, which may pass the weight.
-fn fill_image(terms: &Terms, samples: &[u8], flow: &[i32], image: &mut [i32]) {
-    let (width, height) = (terms.width as usize, terms.height as usize);
-    let (lower, upper) = terms.bounds().into_inner();
-    let (down, right) = flow.split_at(width * (height - 1));
-    for y in 0..height {
-        let row = y * width..(y + 1) * width;
-        let right = &right[y * (width - 1)..(y + 1) * (width - 1)];
-        let values = &mut image[row.clone()];
-        for (value, &sample) in values.iter_mut().zip(&samples[row.clone()]) {
-            *value = reading(sample);
-        }
-        if y > 0 {
-            add(values, &down[row.start - width..row.start]);
-        }
-        if y + 1 < height {
-            subtract(values, &down[row]);
-        }
-        add(&mut values[1..], right);
-        subtract(&mut values[..width - 1], right);
-        for value in values {
-            *value = (*value).clamp(lower, upper);
-        }
-    }
-}
-
 fn add(values: &mut [i32], flow: &[i32]) {
     for (value, flow) in values.iter_mut().zip(flow) {
         *value += flow;
@@ -209,19 +365,5 @@ fn add(values: &mut [i32], flow: &[i32]) {
 fn subtract(values: &mut [i32], flow: &[i32]) {
     for (value, flow) in values.iter_mut().zip(flow) {
         *value -= flow;
-    }
-}
-
-/// Visits all pairs in runs of successive ones, each with the values of its first
-/// and of its second pixels: one run for the pairs downward, then one for each row.
-fn for_each_run(terms: &Terms, image: &[i32], mut visit: impl FnMut(Range<usize>, &[i32], &[i32])) {
-    let (width, height) = (terms.width as usize, terms.height as usize);
-    let down = width * (height - 1);
-    visit(0..down, &image[..down], &image[width..]);
-    let mut start = down;
-    for row in image.chunks_exact(width) {
-        let end = start + width - 1;
-        visit(start..end, &row[..width - 1], &row[1..]);
-        start = end;
     }
 }

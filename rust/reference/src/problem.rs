@@ -1,8 +1,8 @@
 //! Total variation denoising within a box, and its dual, in whole numbers.
 //!
-//! Primal: minimise `sum (X - B)^2 + 2 W sum |difference of X|` over the images X
-//! of the box. Dual: maximise, over the flows within W, the least value in the box
-//! of `sum (X - B)^2 + 2 sum flow * difference of X`.
+//! Primal: minimise `sum (X - B)^2 + 2 sum W |difference of X|` over the images X
+//! of the box, where each pair has its W. Dual: maximise, over the flows within W, the least
+//! value in the box of `sum (X - B)^2 + 2 sum flow * difference of X`.
 
 use crate::grid::Grid;
 use crate::terms::{reading, Terms};
@@ -14,19 +14,21 @@ use crate::terms::{reading, Terms};
 pub struct Problem {
     grid: Grid,
     readings: Vec<i64>,
-    weight: i64,
+    /// One for each pair.
+    weights: Vec<i64>,
     lower: i64,
     upper: i64,
 }
 
 impl Problem {
-    /// The problem of accepted `terms`, their `grid`, and one sample for each pixel.
-    pub fn new(grid: Grid, terms: &Terms, samples: &[u8]) -> Problem {
+    /// The problem of accepted `terms`, their `grid`, one sample for each pixel, and one weight
+    /// for each pair or none, which means the terms' at every pair.
+    pub fn new(grid: Grid, terms: &Terms, samples: &[u8], weights: &[i32]) -> Problem {
         let bounds = terms.bounds();
         Problem {
             grid,
             readings: samples.iter().map(|&s| i64::from(reading(s))).collect(),
-            weight: i64::from(terms.weight),
+            weights: widened(&terms.pair_weights(grid.pair_count(), weights)),
             lower: i64::from(*bounds.start()),
             upper: i64::from(*bounds.end()),
         }
@@ -37,7 +39,7 @@ impl Problem {
         Problem {
             grid: self.grid,
             readings: self.readings.iter().map(|reading| k * reading).collect(),
-            weight: k * self.weight,
+            weights: self.weights.iter().map(|weight| k * weight).collect(),
             lower: k * self.lower,
             upper: k * self.upper,
         }
@@ -48,10 +50,19 @@ impl Problem {
         self.grid.pair_count()
     }
 
-    /// The nearest value within `-weight..=weight`: the projection onto the dual's
+    /// The weight of each pair.
+    pub fn weights(&self) -> &[i64] {
+        &self.weights
+    }
+
+    /// At each pair the nearest value within `-weight..=weight`: the projection onto the dual's
     /// feasible set.
-    pub fn project(&self, flow_value: i64) -> i64 {
-        flow_value.clamp(-self.weight, self.weight)
+    pub fn project(&self, values: impl IntoIterator<Item = i64>) -> Vec<i64> {
+        values
+            .into_iter()
+            .zip(&self.weights)
+            .map(|(value, weight)| value.clamp(-weight, *weight))
+            .collect()
     }
 
     /// First pixel minus second, for each pair (document 01: fall).
@@ -86,9 +97,10 @@ impl Problem {
         let variation: i128 = self
             .differences(image)
             .into_iter()
-            .map(|difference| i128::from(difference).abs())
+            .zip(&self.weights)
+            .map(|(difference, &weight)| i128::from(weight) * i128::from(difference).abs())
             .sum();
-        self.fidelity(image) + 2 * i128::from(self.weight) * variation
+        self.fidelity(image) + 2 * variation
     }
 
     /// The dual objective (document 01: floor).

@@ -10,10 +10,13 @@ pub const INPUT_LIMIT: usize = 65_536;
 pub const SAMPLE_TABLE: usize = 4_096;
 /// Values in the program's flow table.
 pub const FLOW_TABLE: usize = 8_064;
+/// Values in the program's weight table, which is as long.
+pub const WEIGHT_TABLE: usize = FLOW_TABLE;
 
 /// The program's tables.
 pub const TABLES: Capacity = Capacity {
     samples: SAMPLE_TABLE,
+    weights: WEIGHT_TABLE,
     flow: FLOW_TABLE,
 };
 
@@ -53,18 +56,20 @@ impl Workspace {
             terms,
             rounds,
             samples,
+            weights,
             flow,
             ..
         } = &mut self.job;
         let image = &mut self.image;
         image.resize(samples.len(), 0);
         if !flow.is_empty() {
-            return (calls.check)(terms, samples, flow, image);
+            return (calls.check)(terms, samples, weights, flow, image);
         }
         let pair_count = terms.judge()?.pair_count();
         flow.resize(pair_count, 0);
         self.work.resize(2 * pair_count, 0);
-        (calls.run)(terms, rounds, samples, flow, image, &mut self.work)
+        let work = &mut self.work;
+        (calls.run)(terms, rounds, samples, weights, flow, image, work)
     }
 }
 

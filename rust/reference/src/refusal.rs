@@ -7,7 +7,7 @@ use std::fmt;
 pub enum Fault {
     /// A side or the number of pixels is outside the limits.
     Size = 1,
-    /// The weight is over its limit.
+    /// The weight, or that of a pair, is outside its limits.
     Weight = 2,
     /// The low end of the box is above the high end.
     Box = 3,
@@ -19,7 +19,7 @@ pub enum Fault {
     ImageLength = 6,
     /// The work buffer does not hold two values for each pair.
     WorkLength = 7,
-    /// A flow number is beyond the weight.
+    /// A flow number is beyond its pair's weight.
     FlowValue = 8,
     /// An image value is outside the box.
     ImageValue = 9,
@@ -39,6 +39,8 @@ pub enum Fault {
     InputTooLong = 17,
     /// The input ends where a record is due.
     TapeUnfinished = 18,
+    /// The weight buffer is neither empty nor holds one value for each pair.
+    WeightsLength = 19,
 }
 
 impl Fault {

@@ -50,13 +50,14 @@ pub fn steady_share(difference: i64) -> i64 {
 }
 
 /// One projected gradient step on the dual, which adds to each flow number the `share` of its
-/// pair's difference. The flow lent may pass the weight.
+/// pair's difference. The flow lent may pass the weights.
 fn step(problem: &Problem, flow: &[i64], share: fn(i64) -> i64) -> Vec<i64> {
     let differences = problem.differences(&problem.image_of(flow));
-    flow.iter()
+    let stepped = flow
+        .iter()
         .zip(differences)
-        .map(|(value, difference)| problem.project(value + share(difference)))
-        .collect()
+        .map(|(value, difference)| value + share(difference));
+    problem.project(stepped)
 }
 
 /// The T that follows `t`.
@@ -68,7 +69,7 @@ pub fn next_t(t: u64) -> u64 {
 /// The flow that `count` quick rounds leave (document 01: the last P).
 pub fn quick_rounds(problem: &Problem, count: u32) -> Vec<i64> {
     let mut flow = vec![0; problem.pair_count()];
-    // The extrapolated flow (document 01: R), which may pass the weight.
+    // The extrapolated flow (document 01: R), which may pass the weights.
     let mut ahead = flow.clone();
     let mut t = T_UNIT;
     for _ in 0..count {

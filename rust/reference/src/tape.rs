@@ -1,7 +1,7 @@
 //! The job tape: its records, and the calls read and write.
 
 use crate::refusal::{Fault, Refusal};
-use crate::terms::{Rounds, Terms};
+use crate::terms::{is_pair_weight, judge_pair_weights, Rounds, Terms};
 
 const END: u8 = 0;
 const SIZE: u8 = 1;
@@ -9,6 +9,7 @@ const WEIGHT_AND_BOX: u8 = 2;
 const ROUNDS: u8 = 3;
 const SAMPLE: u8 = 4;
 const FLOW: u8 = 5;
+const PAIR_WEIGHT: u8 = 6;
 
 /// A record: its kind with its numbers.
 #[derive(Clone, Copy, Debug, PartialEq, Eq)]
@@ -19,6 +20,7 @@ enum Record {
     Rounds { quick: u16, allowance: u16 },
     Sample(u8),
     Flow(i32),
+    PairWeight(u16),
 }
 
 impl Record {
@@ -45,6 +47,10 @@ impl Record {
                 tape.push(FLOW);
                 tape.extend(value.to_le_bytes());
             }
+            Record::PairWeight(weight) => {
+                tape.push(PAIR_WEIGHT);
+                tape.extend(weight.to_le_bytes());
+            }
         }
     }
 }
@@ -56,6 +62,8 @@ enum Due {
     WeightAndBox,
     Rounds,
     Sample,
+    PairWeightFlowOrEnd,
+    PairWeight,
     FlowOrEnd,
     Flow,
     End,
@@ -70,12 +78,13 @@ struct Layout {
 
 fn layout(kind: u8) -> Option<Layout> {
     let (allowed, body_length): (&[Due], usize) = match kind {
-        END => (&[Due::FlowOrEnd, Due::End], 0),
+        END => (&[Due::PairWeightFlowOrEnd, Due::FlowOrEnd, Due::End], 0),
         SIZE => (&[Due::Size], 4),
         WEIGHT_AND_BOX => (&[Due::WeightAndBox], 4),
         ROUNDS => (&[Due::Rounds], 4),
         SAMPLE => (&[Due::Sample], 1),
-        FLOW => (&[Due::FlowOrEnd, Due::Flow], 4),
+        FLOW => (&[Due::PairWeightFlowOrEnd, Due::FlowOrEnd, Due::Flow], 4),
+        PAIR_WEIGHT => (&[Due::PairWeightFlowOrEnd, Due::PairWeight], 2),
         _ => return None,
     };
     Some(Layout {
@@ -103,6 +112,7 @@ fn decode(kind: u8, body: &[u8]) -> Option<Record> {
         },
         (SAMPLE, &[sample]) => Record::Sample(sample),
         (FLOW, &[a, b, c, d]) => Record::Flow(i32::from_le_bytes([a, b, c, d])),
+        (PAIR_WEIGHT, &[a, b]) => Record::PairWeight(u16::from_le_bytes([a, b])),
         _ => return None,
     })
 }
@@ -139,6 +149,8 @@ pub(crate) enum AfterEnd {
 pub struct Capacity {
     /// Values in the sample buffer.
     pub samples: usize,
+    /// Values in the weight buffer.
+    pub weights: usize,
     /// Values in the flow buffer.
     pub flow: usize,
 }
@@ -148,6 +160,7 @@ pub(crate) struct Contents {
     pub(crate) terms: Terms,
     pub(crate) rounds: Rounds,
     pub(crate) samples: Vec<u8>,
+    pub(crate) weights: Vec<i32>,
     pub(crate) flow: Vec<i32>,
     pixel_count: usize,
     pair_count: usize,
@@ -163,6 +176,7 @@ impl Contents {
             terms: Terms::default(),
             rounds: Rounds::default(),
             samples: Vec::new(),
+            weights: Vec::new(),
             flow: Vec::new(),
             pixel_count: 0,
             pair_count: 0,
@@ -174,6 +188,7 @@ impl Contents {
     /// Nothing has been read, in the buffers that are there.
     pub(crate) fn clear(&mut self) {
         self.samples.clear();
+        self.weights.clear();
         self.flow.clear();
         (self.offset, self.due) = (0, Due::Size);
     }
@@ -198,7 +213,7 @@ impl Contents {
         if after_end == AfterEnd::Nothing {
             Fault::ByteAfterEnd.at_any((end < tape.len()).then_some(end))?;
         }
-        self.terms.judge_flow(&self.flow)?;
+        self.terms.judge_flow(&self.weights, &self.flow)?;
         Ok(end)
     }
 
@@ -212,8 +227,8 @@ impl Contents {
                 (self.terms.width, self.terms.height) = (width.into(), height.into());
                 let grid = self.terms.judge_size().map_err(at_record)?;
                 (self.pixel_count, self.pair_count) = (grid.pixel_count(), grid.pair_count());
-                let holds =
-                    capacity.samples >= self.pixel_count && capacity.flow >= self.pair_count;
+                let holds = capacity.samples >= self.pixel_count
+                    && capacity.weights.min(capacity.flow) >= self.pair_count;
                 Fault::BufferTooShort.unless(holds)?;
                 Due::WeightAndBox
             }
@@ -233,9 +248,21 @@ impl Contents {
                 if self.samples.len() < self.pixel_count {
                     Due::Sample
                 } else if self.pair_count > 0 {
-                    Due::FlowOrEnd
+                    Due::PairWeightFlowOrEnd
                 } else {
                     Due::End
+                }
+            }
+            Record::PairWeight(weight) => {
+                let weight = i32::from(weight);
+                Fault::Weight
+                    .unless(is_pair_weight(weight))
+                    .map_err(at_record)?;
+                self.weights.push(weight);
+                if self.weights.len() < self.pair_count {
+                    Due::PairWeight
+                } else {
+                    Due::FlowOrEnd
                 }
             }
             Record::Flow(value) => {
@@ -251,61 +278,81 @@ impl Contents {
     }
 }
 
-/// What a tape says beside its samples and flow.
+/// What a tape says beside its samples, weights and flow.
 #[derive(Clone, Copy, Debug, PartialEq, Eq)]
 pub struct Job {
     /// Size, weight and box.
     pub terms: Terms,
     /// Quick rounds and steady allowance.
     pub rounds: Rounds,
+    /// Whether the tape has weight records.
+    pub has_weights: bool,
     /// Whether the tape has flow records.
     pub has_flow: bool,
 }
 
-/// Reads a tape of one job, its samples and flow into the front of the buffers.
+/// Reads a tape of one job, its samples, weights and flow into the front of the buffers.
 ///
-/// Without flow records the flow buffer is untouched.
-pub fn read(tape: &[u8], samples: &mut [u8], flow: &mut [i32]) -> Result<Job, Refusal> {
+/// Without weight records the weight buffer is untouched, without flow records the flow buffer.
+pub fn read(
+    tape: &[u8],
+    samples: &mut [u8],
+    weights: &mut [i32],
+    flow: &mut [i32],
+) -> Result<Job, Refusal> {
     let capacity = Capacity {
         samples: samples.len(),
+        weights: weights.len(),
         flow: flow.len(),
     };
     let mut contents = Contents::new();
     contents.read(tape, AfterEnd::Nothing, capacity)?;
 
     fill_front(samples, &contents.samples);
+    fill_front(weights, &contents.weights);
     fill_front(flow, &contents.flow);
     Ok(Job {
         terms: contents.terms,
         rounds: contents.rounds,
+        has_weights: !contents.weights.is_empty(),
         has_flow: !contents.flow.is_empty(),
     })
 }
 
 /// Writes a job's tape into the front of `output` and gives its byte count.
 ///
-/// A flow of length 0 is none.
+/// Weights or a flow of length 0 are none.
 pub fn write(
     terms: &Terms,
     rounds: &Rounds,
     samples: &[u8],
+    weights: &[i32],
     flow: &[i32],
     output: &mut [u8],
 ) -> Result<usize, Refusal> {
     let grid = terms.judge()?;
     rounds.judge()?;
     Fault::SamplesLength.unless(samples.len() == grid.pixel_count())?;
-    Fault::FlowLength.unless(flow.is_empty() || flow.len() == grid.pair_count())?;
-    let tape = tape_of(terms, rounds, samples, flow);
+    Fault::FlowLength.unless(grid.holds_none_or_all_pairs(flow.len()))?;
+    Fault::WeightsLength.unless(grid.holds_none_or_all_pairs(weights.len()))?;
+    let tape = tape_of(terms, rounds, samples, weights, flow);
     Fault::BufferTooShort.unless(tape.len() <= output.len())?;
-    terms.judge_flow(flow)?;
+    judge_pair_weights(weights)?;
+    terms.judge_flow(weights, flow)?;
 
     fill_front(output, &tape);
     Ok(tape.len())
 }
 
-/// The tape of a job within the limits, which two bytes a number can hold.
-fn tape_of(terms: &Terms, rounds: &Rounds, samples: &[u8], flow: &[i32]) -> Vec<u8> {
+/// The tape of a job within the limits, which two bytes a number can hold. Pair weights need not
+/// be judged yet: the tape has as many bytes with others.
+fn tape_of(
+    terms: &Terms,
+    rounds: &Rounds,
+    samples: &[u8],
+    weights: &[i32],
+    flow: &[i32],
+) -> Vec<u8> {
     let header = [
         Record::Size {
             width: terms.width as u16,
@@ -324,6 +371,11 @@ fn tape_of(terms: &Terms, rounds: &Rounds, samples: &[u8], flow: &[i32]) -> Vec<
     let records = header
         .into_iter()
         .chain(samples.iter().copied().map(Record::Sample))
+        .chain(
+            weights
+                .iter()
+                .map(|&weight| Record::PairWeight(weight as u16)),
+        )
         .chain(flow.iter().copied().map(Record::Flow))
         .chain([Record::End]);
     let mut tape = Vec::new();

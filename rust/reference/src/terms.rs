@@ -24,7 +24,7 @@ pub struct Terms {
     pub width: u32,
     /// Rows.
     pub height: u32,
-    /// The regularisation weight W in sub-units.
+    /// The regularisation weight W in sub-units, at every pair that has none of its own.
     pub weight: u32,
     /// The lowest level of the box.
     pub low: u8,
@@ -56,10 +56,23 @@ impl Terms {
         LEVEL * i32::from(self.low)..=LEVEL * i32::from(self.high) + LEVEL - 1
     }
 
-    /// Number 8, at the first flow number beyond the weight.
-    pub(crate) fn judge_flow(&self, flow: &[i32]) -> Result<(), Refusal> {
-        let beyond = |value: &i32| value.unsigned_abs() > self.weight;
-        Fault::FlowValue.at_any(flow.iter().position(beyond))
+    /// The weight of each of so many pairs: as lent, or the terms' at all of them where none is.
+    pub fn pair_weights(&self, pair_count: usize, lent: &[i32]) -> Vec<i32> {
+        match lent {
+            [] => vec![self.weight as i32; pair_count],
+            _ => lent.to_vec(),
+        }
+    }
+
+    /// Number 8, at the first flow number beyond its pair's weight.
+    pub(crate) fn judge_flow(&self, weights: &[i32], flow: &[i32]) -> Result<(), Refusal> {
+        let mut numbers = flow.iter().map(|value| value.unsigned_abs());
+        Fault::FlowValue.at_any(match weights {
+            [] => numbers.position(|size| size > self.weight),
+            _ => numbers
+                .zip(weights)
+                .position(|(size, &weight)| size > weight as u32),
+        })
     }
 
     /// Number 9, at the first image value outside the box.
@@ -68,6 +81,17 @@ impl Terms {
         let outside = |value: &i32| !bounds.contains(value);
         Fault::ImageValue.at_any(image.iter().position(outside))
     }
+}
+
+/// Whether a pair may have this weight.
+pub(crate) fn is_pair_weight(weight: i32) -> bool {
+    (0..=WEIGHT_LIMIT as i32).contains(&weight)
+}
+
+/// Number 2, at the first weight that a pair may not have.
+pub(crate) fn judge_pair_weights(weights: &[i32]) -> Result<(), Refusal> {
+    let beyond = |&weight: &i32| !is_pair_weight(weight);
+    Fault::Weight.at_any(weights.iter().position(beyond))
 }
 
 /// How many rounds a run may make, as lent.

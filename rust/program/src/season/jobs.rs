@@ -1,8 +1,8 @@
 //! Seasons of random jobs: whole, cut, changed, and with a damaged job among them.
 
 use relief_inputs::{
-    changes_of, concatenated, flat, season_job, season_prefixes, small_tapes, two_by_one, Answer,
-    Difference, Random, Tape,
+    changes_of, concatenated, flat, jointed, season_job, season_prefixes, small_tapes, two_by_one,
+    Answer, Difference, Random, Tape,
 };
 
 use super::{compare as compare_season, family};
@@ -62,22 +62,23 @@ fn damages(step: usize) -> impl Iterator<Item = Vec<u8>> {
     })
 }
 
-/// Two runs and two checks, one job of them with a single pixel.
-fn small_jobs() -> [Tape; 4] {
+/// Two runs and three checks, one job of them with a single pixel, and one with weights.
+fn small_jobs() -> [Tape; 5] {
     [
         Tape::new(&two_by_one(), &[]),
         Tape::new(&two_by_one(), &[256]),
         Tape::new(&flat(1, 1), &[]),
         Tape::new(&flat(2, 2), &[1, -2, 256, -256]),
+        Tape::new(&jointed(), &[0, -512]),
     ]
 }
 
-/// The season of these four.
+/// The season of these five.
 pub fn small_season() -> Vec<u8> {
     concatenated(&small_jobs())
 }
 
-/// Every prefix of a season of four jobs, and of others of three, with the answer that is due.
+/// Every prefix of a season of five jobs, and of others of three, with the answer that is due.
 fn prefixes(step: usize) -> impl Iterator<Item = (Vec<u8>, Answer<()>)> {
     let others = small_tapes(12).flat_map(|(mut random, tape)| {
         let mut jobs = vec![tape];
@@ -87,7 +88,7 @@ fn prefixes(step: usize) -> impl Iterator<Item = (Vec<u8>, Answer<()>)> {
     season_prefixes(&small_jobs()).chain(others.step_by(step))
 }
 
-/// A season of four jobs with bytes changed, each of them at least once.
+/// A season of five jobs with bytes changed, each of them at least once.
 fn changes(step: usize) -> impl Iterator<Item = Vec<u8>> {
     changes_of(small_season()).step_by(13 * step)
 }

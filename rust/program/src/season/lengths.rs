@@ -1,14 +1,14 @@
 //! Seasons of many bytes and of many jobs, and single jobs of too many bytes.
 
 use relief_inputs::{compare_family, filler, flat, two_by_one, Difference, Random, Tape};
-use relief_reference::program::{FLOW_TABLE, SAMPLE_TABLE};
+use relief_reference::program::{FLOW_TABLE, INPUT_LIMIT, SAMPLE_TABLE, WEIGHT_TABLE};
 use relief_reference::season::{report, LIMITS};
 
 use super::family;
 use super::jobs::random_jobs;
 use crate::child::{Input, Program};
 use crate::compare::compare_text;
-use crate::tapes::{full_tape, slackest_tape};
+use crate::tapes::{full_tape, overfull_tape, slackest_tape, weighted_tape};
 
 /// Where a program may have to make room for more of its input.
 const BOUNDARIES: [usize; 5] = [65_536, 4_096, 8_192, 32_768, 131_072];
@@ -26,7 +26,11 @@ pub fn compare(program: &Program, step: usize) -> Result<(), Difference> {
     .met(&["settled and checked"], &[8, 13, 18])?;
     family(program, "far longer seasons", long_seasons(step))?
         .met(&["settled and spent and checked"], &[12, 13])?;
-    family(program, "jobs of too many bytes", long_jobs())?.met(&[], &[12, 14, 16])?;
+    family(program, "jobs of too many records", long_jobs())?.met(&[], &[12, 14, 16])?;
+    family(program, "jobs of too many bytes", too_long_jobs(step))?.met(
+        &["checked", "settled and checked"],
+        &[2, 12, 13, 14, 17, 18],
+    )?;
     family(program, "65,535 jobs, and about as many", many_jobs())?
         .met(&["settled", "settled and checked"], &[12, 13, 18])?;
     if step == 1 {
@@ -51,10 +55,9 @@ fn boundaries(step: usize) -> impl Iterator<Item = Vec<u8>> {
 /// the weight, and cut at the boundary.
 fn about(boundary: usize, before: usize) -> [Vec<u8>; 3] {
     let [whole, beyond] = [256, 257].map(|value| {
-        let mut tape = Tape::new(&two_by_one(), &[0]);
-        tape.set_flow(0, value);
+        let tape = Tape::new(&two_by_one(), &[0]);
         let mut season = filler(boundary - before);
-        season.extend(tape.bytes);
+        season.extend(tape.changed(|tape| tape.set_flow(0, value)));
         season.extend(two_by_one().tape(&[]));
         season
     });
@@ -79,7 +82,7 @@ fn long_seasons(step: usize) -> impl Iterator<Item = Vec<u8>> {
     })
 }
 
-/// Jobs of more than 65,536 bytes. With the program's tables such a job has a fault before.
+/// Jobs of more than 65,536 bytes, with a fault before.
 fn long_jobs() -> Vec<Vec<u8>> {
     let records = |record: &[u8]| record.repeat(70_000 / record.len());
     let (run, full) = (two_by_one().tape(&[]), full_tape());
@@ -87,10 +90,10 @@ fn long_jobs() -> Vec<Vec<u8>> {
     let flow_end = samples_end + 5 * FLOW_TABLE;
     assert_eq!(flow_end, full.len() - 1);
     let mut jobs = Vec::new();
-    // Behind all samples, and behind all flow numbers: more of them, an unknown kind, and a kind that
-    // is not allowed.
+    // Behind all samples, and behind all flow numbers: more of them, weights, an unknown kind, and
+    // a kind that is not allowed.
     for end in [samples_end, flow_end] {
-        for more in [&[4, 7][..], &[5, 1, 0, 0, 0], &[6], &[3]] {
+        for more in [&[4, 7][..], &[5, 1, 0, 0, 0], &[6, 0, 0], &[7], &[3]] {
             jobs.push([&full[..end], &records(more)].concat());
         }
     }
@@ -103,6 +106,79 @@ fn long_jobs() -> Vec<Vec<u8>> {
             [&[][..], &run, &later].map(|before| [before, job].concat())
         })
         .collect()
+}
+
+/// Jobs with all weights and flow numbers, the first of as many bytes as can be and the others of
+/// more than 65,536: whole, cut about there, with faults before and behind, alone and among others.
+fn too_long_jobs(step: usize) -> impl Iterator<Item = Vec<u8>> {
+    let (run, full) = (two_by_one().tape(&[]), full_tape());
+    let longest = weighted_tape(100, 37).bytes;
+    assert_eq!(longest.len(), 65_520);
+    let mut jobs = vec![longest.clone(), [&longest[..], &[7]].concat()];
+    // Byte 65,536 is inside the last flow record, right before one, and further before the end.
+    for tape in [
+        weighted_tape(14, 269),
+        weighted_tape(19, 197),
+        overfull_tape(),
+    ] {
+        let tape = tape.bytes;
+        let cuts = [
+            INPUT_LIMIT - 1,
+            INPUT_LIMIT,
+            INPUT_LIMIT + 1,
+            tape.len() - 1,
+        ];
+        jobs.extend(cuts.map(|length| tape[..length].to_vec()));
+        jobs.push(tape);
+    }
+    jobs.extend(faulty_overfull_jobs());
+    let starts = [
+        Vec::new(),
+        run.clone(),
+        filler(INPUT_LIMIT - 31),
+        full.repeat(3),
+    ];
+    let seasons = jobs.into_iter().flat_map(move |job| {
+        let behind = [&job[..], &run].concat();
+        let seasons = starts
+            .each_ref()
+            .map(|before| [&before[..], &behind].concat());
+        [job].into_iter().chain(seasons)
+    });
+    // The first job in all ways and the others alone, always.
+    seasons
+        .enumerate()
+        .filter(move |(index, _)| *index < 5 || index % 5 == 0 || index % step == 0)
+        .map(|(_, season)| season)
+}
+
+/// The longest job with a byte changed: in its terms, weights and flow, in the last record that
+/// begins before byte 65,536, and behind.
+fn faulty_overfull_jobs() -> Vec<Vec<u8>> {
+    let tape = overfull_tape();
+    let weights = 15 + 2 * SAMPLE_TABLE;
+    let flow = weights + 3 * WEIGHT_TABLE;
+    let last = flow + (INPUT_LIMIT - flow) / 5 * 5;
+    let end = tape.bytes.len() - 1;
+    let changes = [
+        (weights - 2, 5),
+        (weights, 7),
+        (weights + 300, 5),
+        (flow, 6),
+        // A flow number is judged at the end.
+        (flow + 4, 0x7F),
+        (last, 0),
+        (last + 5, 7),
+        (end, 7),
+    ];
+    let mut jobs = changes
+        .map(|(place, byte)| tape.clone().changed(|tape| tape.bytes[place] = byte))
+        .to_vec();
+    jobs.extend([0, 100, WEIGHT_TABLE - 1].map(|index| {
+        let beyond = |tape: &mut Tape| tape.set_pair_weight(index, 65_281);
+        tape.clone().changed(beyond)
+    }));
+    jobs
 }
 
 fn many_jobs() -> Vec<Vec<u8>> {
@@ -118,14 +194,14 @@ fn many_jobs() -> Vec<Vec<u8>> {
         most(&one, 0, &[]),
         // Not read any more: a job, what is none, and many jobs.
         most(&one, 0, &one),
-        most(&one, 0, &[6; 99]),
+        most(&one, 0, &[7; 99]),
         most(&one, 0, &[1]),
         most(&one, 0, &one.repeat(9_000)),
         // Still read.
-        most(&one, 1, &[6; 99]),
+        most(&one, 1, &[7; 99]),
         most(&one, 1, &one[..16]),
         most(&one, 1, &one[..17]),
-        most(&one, 30_000, &[6; 99]),
+        most(&one, 30_000, &[7; 99]),
         // The largest slack is the last job's, and one behind that does not count.
         most(&two, 1, &small),
         most(&two, 1, &[&small[..], &large].concat()),

@@ -1,11 +1,14 @@
 //! The documents' values, each with its text.
 
-use relief_inputs::{compare_family, flat, two_by_one, Difference, Tape, TWO_BY_ONE_SEASON};
+use relief_inputs::{
+    compare_family, flat, jointed, two_by_one, Difference, Tape, TWO_BY_ONE_SEASON,
+};
 use relief_reference::season::report as season_report;
 
 use super::compare as compare_season;
 use crate::child::Program;
 use crate::compare::report;
+use crate::tapes::overfull_tape;
 
 /// Compares the program's text with the reference's, and that with the documents'.
 pub fn compare(program: &Program) -> Result<(), Difference> {
@@ -18,7 +21,7 @@ pub fn compare(program: &Program) -> Result<(), Difference> {
         }
         compare_season(program, &input)
     })?
-    .met(&["no jobs", "settled"], &[1, 2, 8, 12, 13, 14, 16, 18])
+    .met(&["no jobs", "settled"], &[1, 2, 8, 12, 13, 14, 16, 17, 18])
 }
 
 /// Each season with what the program is to print.
@@ -32,11 +35,7 @@ fn values() -> Vec<(Vec<u8>, String)> {
     };
     let [best, worst] = [-256, 256].map(|flow| job.tape(&[flow]));
     let one = flat(1, 1).tape(&[]);
-    let changed = |change: fn(&mut Tape)| {
-        let mut tape = Tape::new(&job, &[0]);
-        change(&mut tape);
-        tape.bytes
-    };
+    let changed = |change: fn(&mut Tape)| Tape::new(&job, &[0]).changed(change);
     let beyond = changed(|tape| tape.set_flow(0, 257));
     let (single, none) = (TWO_BY_ONE_SEASON, text([0; 6], [0, 0], [0, 0]));
     let refused = |season: &str, line: &str| format!("{season}{line}\n");
@@ -46,6 +45,18 @@ fn values() -> Vec<(Vec<u8>, String)> {
     let mixed_text = text([6, 11, 2, 1, 3, 1_835_060], [917_504, 5], [166_823, 7]);
     let spent_twice = text([2, 4, 0, 2, 0, 72], [36, 1], [18, 0]);
     let after_one = |last: &[u8]| [&run, last].concat();
+    let joint = jointed();
+    let weighted = {
+        let mut quick = joint.clone();
+        (quick.rounds.quick, quick.rounds.allowance) = (3, 0);
+        let checks = [[0, 0], [0, -512]].map(|flow| joint.tape(&flow));
+        [joint.tape(&[]), quick.tape(&[]), checks.concat()].concat()
+    };
+    let weighted_text = text([4, 12, 2, 0, 2, 2_097_152], [2_097_152, 3], [174_762, 8]);
+    let changed_joint = |change: fn(&mut Tape)| {
+        let tape = Tape::new(&joint, &[0, 0]);
+        [&weighted[..], &tape.changed(change)].concat()
+    };
     vec![
         (run.clone(), single.to_string()),
         (Vec::new(), none.clone()),
@@ -69,7 +80,8 @@ fn values() -> Vec<(Vec<u8>, String)> {
             after_one(&run[..19]),
             refused(single, "job 2 refused 18 at 19"),
         ),
-        (after_one(&[6]), refused(single, "job 2 refused 12 at 0")),
+        (after_one(&[7]), refused(single, "job 2 refused 12 at 0")),
+        (after_one(&[6]), refused(single, "job 2 refused 14 at 0")),
         // An end record is no job.
         (after_one(&[0]), refused(single, "job 2 refused 14 at 0")),
         (vec![0], refused(&none, "job 1 refused 14 at 0")),
@@ -89,12 +101,34 @@ fn values() -> Vec<(Vec<u8>, String)> {
         ),
         // A slack of 0 is the largest where all are 0.
         (best.repeat(2), text([2, 4, 0, 0, 2, 0], [0, 1], [0, 0])),
+        // A job without pairs has neither weights nor a flow.
+        (
+            [&one[..17], &[6, 0, 0]].concat(),
+            refused(&none, "job 1 refused 14 at 17"),
+        ),
+        (
+            [&one[..17], &[5, 0, 0, 0, 0]].concat(),
+            refused(&none, "job 1 refused 14 at 17"),
+        ),
         (one, text([1, 1, 1, 0, 0, 0], [0, 1], [0, 0])),
         (
             [&mixed[..], &[9]].concat(),
             refused(&mixed_text, "job 7 refused 12 at 0"),
         ),
         (mixed, mixed_text),
+        (weighted.clone(), weighted_text.clone()),
+        (
+            changed_joint(|tape| tape.set_flow(0, 1)),
+            refused(&weighted_text, "job 5 refused 8 at 0"),
+        ),
+        (
+            changed_joint(|tape| tape.set_pair_weight(1, 65_281)),
+            refused(&weighted_text, "job 5 refused 2 at 24"),
+        ),
+        (
+            after_one(&overfull_tape().bytes),
+            refused(single, "job 2 refused 17 at 0"),
+        ),
     ]
 }
 

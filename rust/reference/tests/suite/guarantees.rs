@@ -2,7 +2,7 @@
 //! guarantee, and that of two flows of one job, on the grid and its whole divisions, and
 //! the bounds of a run.
 
-use relief_inputs::{beside_the_bound, three_by_one, two_by_one, Case, Random};
+use relief_inputs::{beside_the_bound, jointed, three_by_one, two_by_one, Case, Random};
 use relief_reference::problem::{squared_distance, widened, within_gaps};
 use relief_reference::rounds::{quick_rounds, steady_step};
 use relief_reference::{Outcome, Problem};
@@ -91,18 +91,17 @@ fn checks_are_certified() {
     assert!(gapless > JOBS / 20);
 }
 
-/// Whether a fall of more than 4 is left where the flow has room for it within the weight.
+/// Whether a fall of more than 4 is left where the flow has room for it within its weight.
 fn would_move(case: &Case, answer: &Answer) -> bool {
-    let weight = i64::from(case.terms.weight);
     let falls = case.problem().differences(&widened(&answer.image));
-    let mut pairs = falls.into_iter().zip(widened(&answer.flow));
-    pairs.any(|(fall, value)| fall > 4 && value < weight || fall < -4 && value > -weight)
+    let mut pairs = falls.into_iter().zip(&answer.flow).zip(case.pair_weights());
+    pairs.any(|((fall, &value), weight)| fall > 4 && value < weight || fall < -4 && value > -weight)
 }
 
 #[test]
 fn runs_are_certified_and_bounded() {
     let mut random = Random::new(0x4D4);
-    let (mut settled, mut spent, mut sure_to_settle) = (0, 0, 0);
+    let (mut settled, mut spent, mut sure_to_settle, mut weighted) = (0, 0, 0, 0);
     for _ in 0..JOBS {
         let case = Case::small(&mut random);
         let answer = case.run().unwrap();
@@ -124,8 +123,9 @@ fn runs_are_certified_and_bounded() {
         match answer.figures.outcome {
             Outcome::Settled => {
                 settled += 1;
-                let pair_count = case.grid().pair_count() as u64;
-                let bound = 16 * u64::from(case.terms.weight) * pair_count;
+                let sum: i64 = widened(&case.pair_weights()).iter().sum();
+                let bound = 16 * sum as u64;
+                weighted += usize::from(!case.weights.is_empty());
                 assert!(!would_move);
                 assert!(moved <= allowance);
                 assert!(answer.figures.slack <= bound);
@@ -138,22 +138,76 @@ fn runs_are_certified_and_bounded() {
             Outcome::Checked => panic!("a run is never checked"),
         }
     }
-    for count in [settled, spent, sure_to_settle] {
+    for count in [settled, spent, sure_to_settle, weighted] {
         assert!(count > JOBS / 10);
     }
 }
 
-/// Quick rounds carry the flow past the best one to -W, where a fall of 4 moves nothing.
+/// Quick rounds carry the flow past the best one to -W, where a fall of 4 moves nothing. The sum of
+/// the weights is the same where other pairs have weight 0.
 #[test]
 fn a_settled_slack_may_be_the_bound() {
     let mut case = two_by_one();
     case.terms.weight = 258;
     (case.rounds.quick, case.rounds.allowance) = (7, 0);
-    let answer = case.run().unwrap();
-    assert_eq!(answer.flow, [-258]);
-    assert_eq!(answer.image, [386, 382]);
-    assert_eq!(answer.figures.outcome, Outcome::Settled);
-    assert_eq!(answer.figures.slack, 16 * 258);
+    let mut jointed = case.clone();
+    jointed.terms.width = 3;
+    jointed.samples.push(255);
+    jointed.weights = vec![258, 0];
+    for case in [case, jointed] {
+        let answer = case.run().unwrap();
+        assert_eq!(answer.flow[0], -258);
+        assert_eq!(answer.image[..2], [386, 382]);
+        assert_eq!(answer.figures.outcome, Outcome::Settled);
+        assert_eq!(answer.figures.slack, 16 * 258);
+    }
+}
+
+/// A weight buffer that has the terms' weight at every pair is as none.
+#[test]
+fn equal_weights_are_the_weight() {
+    let mut random = Random::new(0xE9A1);
+    for _ in 0..JOBS / 10 {
+        let mut case = Case::small(&mut random);
+        case.weights.clear();
+        let weighted = Case {
+            weights: case.pair_weights(),
+            ..case.clone()
+        };
+        let flow = random.flow(&weighted.weights);
+        let checked = weighted.check(&flow).unwrap();
+        assert_eq!(checked, case.check(&flow).unwrap());
+        assert_eq!(weighted.price(&checked.image), case.price(&checked.image));
+        assert_eq!(weighted.run(), case.run());
+    }
+}
+
+/// Where each pair has its own weight, that of the terms makes no difference.
+#[test]
+fn own_weights_are_taken_alone() {
+    let mut random = Random::new(0x0A1);
+    for _ in 0..JOBS / 10 {
+        let mut case = Case::small(&mut random);
+        case.weights = case.pair_weights();
+        if case.weights.is_empty() {
+            continue;
+        }
+        let mut other = case.clone();
+        other.terms.weight = random.weight(65_280);
+        let flow = random.flow(&case.weights);
+        let checked = case.check(&flow).unwrap();
+        assert_eq!(checked, other.check(&flow).unwrap());
+        assert_eq!(case.price(&checked.image), other.price(&checked.image));
+        assert_eq!(case.run(), other.run());
+    }
+}
+
+#[test]
+fn a_division_multiplies_each_weight() {
+    let problem = jointed().problem();
+    assert_eq!(problem.weights(), [0, 512]);
+    assert_eq!(problem.divided(3).weights(), [0, 1_536]);
+    assert_eq!(two_by_one().problem().divided(3).weights(), [768]);
 }
 
 /// From any flow, and from one near that of a run, where the floor rises least: by 2 is proved, by
@@ -168,8 +222,8 @@ fn a_steady_round_that_moves_raises_the_floor_by_eight() {
         let any = widened(&case.flow(&mut random));
         let near_the_end = widened(&case.run().unwrap().flow)
             .into_iter()
-            .map(|value| problem.project(value + random.between(-1, 1)))
-            .collect();
+            .map(|value| value + random.between(-1, 1));
+        let near_the_end = problem.project(near_the_end);
         for (flow, moving) in [any, near_the_end].into_iter().zip(&mut moving) {
             let stepped = steady_step(&problem, &flow);
             if stepped != flow {
@@ -226,8 +280,12 @@ fn assert_within_slacks(case: &Case, answers: [&Answer; 2]) {
 /// An answer beside a flow of a division that need not be k times one of the grid.
 fn assert_within_finer_slacks(random: &mut Random, case: &Case, answer: &Answer) {
     for k in 2..=5 {
-        let weight = k as u32 * case.terms.weight;
-        let finer = widened(&random.flow(answer.flow.len(), weight));
+        let weights: Vec<i32> = case
+            .pair_weights()
+            .iter()
+            .map(|weight| k as i32 * weight)
+            .collect();
+        let finer = widened(&random.flow(&weights));
         let flow = multiplied(k, &widened(&answer.flow));
         assert_within_gaps(&case.problem().divided(k), [&flow, &finer]);
     }
@@ -248,7 +306,7 @@ fn two_flows_of_one_job_are_within_their_slacks() {
         let run = case.run().unwrap();
         let any = case.flow(&mut random);
         let first = random.pick(&[&any, &run.flow]);
-        let second = random.other_flow(first, case.terms.weight);
+        let second = random.other_flow(first, &case.pair_weights());
         let [first, second] = [first, &second].map(|flow| case.check(flow).unwrap());
         for answers in [[&first, &second], [&first, &run], [&run, &second]] {
             assert_within_slacks(&case, answers);
@@ -295,15 +353,17 @@ fn twice_the_squared_distance_may_be_the_sum() {
     assert_within_slacks(&case, [&one, &other]);
 }
 
-/// It is said of one job: with another scan, weight or box it fails, even where both slacks are 0.
+/// It is said of one job: with another scan, weight, weight of a pair or box it fails, even where
+/// both slacks are 0.
 #[test]
 fn two_jobs_may_be_further_apart() {
     let best = two_by_one().check(&[-256]).unwrap();
-    let [mut scan, mut weight, mut levels] = [(); 3].map(|()| two_by_one());
+    let [mut scan, mut weight, mut pair, mut levels] = [(); 4].map(|()| two_by_one());
     scan.samples = vec![0, 4];
     weight.terms.weight = 0;
+    pair.weights = vec![0];
     (levels.terms.low, levels.terms.high) = (3, 3);
-    for (case, flow) in [(scan, -256), (weight, 0), (levels, 0)] {
+    for (case, flow) in [(scan, -256), (weight, 0), (pair, 0), (levels, 0)] {
         let other = case.check(&[flow]).unwrap();
         let slacks = [best.figures.slack, other.figures.slack];
         assert_eq!(slacks, [0, 0]);

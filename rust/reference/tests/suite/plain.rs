@@ -1,11 +1,13 @@
 //! The loop nests over 32-bit buffers against the definitions.
 
-use relief_inputs::{chessboard, chessboard_flow, two_by_one, Case, Random};
-use relief_reference::plain::{check_plain, quick_round_plain, run_plain, steady_round_plain};
+use relief_inputs::{chessboard, chessboard_flow, jointed, two_by_one, Case, Random};
+use relief_reference::plain::{
+    check_plain, price_plain, quick_round_plain, run_plain, steady_round_plain,
+};
 use relief_reference::problem::widened;
 use relief_reference::rounds::{quick_rounds, steady_step, T_UNIT};
 use relief_reference::terms::WEIGHT_LIMIT;
-use relief_reference::{check, run, Outcome};
+use relief_reference::{check, price, run, Outcome};
 
 use crate::support::{marked, Calls};
 
@@ -20,14 +22,22 @@ fn cases(seed: u64) -> impl Iterator<Item = (Random, Case)> {
     })
 }
 
-/// Both checks of `flow`, and what they leave in the image.
+/// Both checks of `flow`, what they leave in the image, and both prices of that.
 fn assert_check(case: &Case, flow: &[i32]) {
-    let Case { terms, samples, .. } = case;
+    let Case {
+        terms,
+        samples,
+        weights,
+        ..
+    } = case;
     let mut image = marked(samples.len());
     let mut expected_image = image.clone();
-    let figures = check_plain(terms, samples, flow, &mut image);
-    assert_eq!(figures, check(terms, samples, flow, &mut expected_image));
+    let figures = check_plain(terms, samples, weights, flow, &mut image);
+    let expected = check(terms, samples, weights, flow, &mut expected_image);
+    assert_eq!(figures, expected);
     assert_eq!(image, expected_image);
+    let priced = price_plain(terms, samples, weights, &image);
+    assert_eq!(priced, price(terms, samples, weights, &image));
 }
 
 #[test]
@@ -37,6 +47,14 @@ fn check_equals_the_definition() {
         assert_check(&case, &flow);
         flow.push(0);
         assert_check(&case, &flow);
+        flow.pop();
+        for weights in [vec![1], vec![65_281; flow.len()], vec![-1; flow.len()]] {
+            let refused = Case {
+                weights,
+                ..case.clone()
+            };
+            assert_check(&refused, &flow);
+        }
     }
 }
 
@@ -48,8 +66,13 @@ fn check_equals_the_definition_at_the_largest_totals() {
     (case.terms.width, case.terms.height) = (width as u32, height as u32);
     case.terms.weight = WEIGHT_LIMIT;
     case.samples = chessboard(width, height);
-    for value in [-weight, 0, weight] {
-        assert_check(&case, &chessboard_flow(width, height, value));
+    for listed in [false, true] {
+        if listed {
+            case.weights = case.pair_weights();
+        }
+        for value in [-weight, 0, weight] {
+            assert_check(&case, &chessboard_flow(width, height, value));
+        }
     }
 }
 
@@ -59,6 +82,7 @@ fn assert_run(case: &Case, [more_flow, more_work]: [isize; 2]) -> Option<Outcome
         terms,
         rounds,
         samples,
+        weights,
     } = case;
     let pairs = case.grid().pair_count();
     let mut flow = marked(pairs.saturating_add_signed(more_flow));
@@ -66,11 +90,14 @@ fn assert_run(case: &Case, [more_flow, more_work]: [isize; 2]) -> Option<Outcome
     let mut work = marked((2 * pairs).saturating_add_signed(more_work));
     let [mut expected_flow, mut expected_image, mut expected_work] =
         [&flow, &image, &work].map(Clone::clone);
-    let figures = run_plain(terms, rounds, samples, &mut flow, &mut image, &mut work);
+    let figures = run_plain(
+        terms, rounds, samples, weights, &mut flow, &mut image, &mut work,
+    );
     let expected = run(
         terms,
         rounds,
         samples,
+        weights,
         &mut expected_flow,
         &mut expected_image,
         &mut expected_work,
@@ -98,14 +125,15 @@ fn run_equals_the_definition() {
     assert!(settled > 20 && spent > 20);
 }
 
-/// With the last allowances before the 2 by 1 job settles, and with all of them used.
+/// With the last allowances before a job settles, and with all of them used.
 #[test]
 fn run_equals_the_definition_at_every_allowance() {
     for quick in [0, 1, 7] {
         for allowance in 0..30 {
-            let mut case = two_by_one();
-            (case.rounds.quick, case.rounds.allowance) = (quick, allowance);
-            assert_run(&case, [0, 0]);
+            for mut case in [two_by_one(), jointed()] {
+                (case.rounds.quick, case.rounds.allowance) = (quick, allowance);
+                assert_run(&case, [0, 0]);
+            }
         }
     }
 }
@@ -118,7 +146,13 @@ fn steady_round_equals_the_definition() {
         let mut image = marked(case.samples.len());
         for _ in 0..3 {
             let before = widened(&flow);
-            let changed = steady_round_plain(&case.terms, &case.samples, &mut flow, &mut image);
+            let Case {
+                terms,
+                samples,
+                weights,
+                ..
+            } = &case;
+            let changed = steady_round_plain(terms, samples, weights, &mut flow, &mut image);
             let after = widened(&flow);
             assert_eq!(after, steady_step(&problem, &before));
             assert_eq!(changed, after != before);
@@ -134,9 +168,16 @@ fn assert_quick_rounds(case: &Case, count: u32) {
     let mut ahead = vec![0; pair_count];
     let mut image = marked(case.samples.len());
     let mut t = T_UNIT;
-    let Case { terms, samples, .. } = case;
+    let Case {
+        terms,
+        samples,
+        weights,
+        ..
+    } = case;
     for _ in 0..count {
-        t = quick_round_plain(terms, samples, t, &mut flow, &mut ahead, &mut image);
+        t = quick_round_plain(
+            terms, samples, weights, t, &mut flow, &mut ahead, &mut image,
+        );
     }
     assert_eq!(widened(&flow), quick_rounds(&case.problem(), count));
 }
@@ -155,6 +196,10 @@ fn all_quick_rounds_at_the_largest_weight() {
     for _ in 0..4 {
         let mut case = Case::sized(&mut random, 4, 3);
         case.terms.weight = 65_280;
+        case.weights.clear();
+        assert_quick_rounds(&case, 4_096);
+        case.weights = vec![65_280; case.grid().pair_count()];
+        case.weights[0] = 0;
         assert_quick_rounds(&case, 4_096);
     }
 }

@@ -1,7 +1,7 @@
 //! The cleaning program's text, from the library and from the binary.
 
-use relief_inputs::{two_by_one, Case, Random, TWO_BY_ONE_TEXT};
-use relief_reference::program::{clean, FLOW_TABLE, INPUT_LIMIT, SAMPLE_TABLE};
+use relief_inputs::{jointed, two_by_one, Case, Random, JOINTED_TEXT, TWO_BY_ONE_TEXT};
+use relief_reference::program::{clean, FLOW_TABLE, INPUT_LIMIT, SAMPLE_TABLE, WEIGHT_TABLE};
 
 use crate::support::printed;
 
@@ -22,6 +22,11 @@ checked 0 540672 -376832 917504
     let mut tape = two_by_one().tape(&[256]);
     tape[20..24].copy_from_slice(&257_i32.to_le_bytes());
     assert_eq!(clean(&tape), "refused 8 at 0\n");
+}
+
+#[test]
+fn run_of_the_job_with_a_joint() {
+    assert_eq!(clean(&jointed().tape(&[])), JOINTED_TEXT);
 }
 
 #[test]
@@ -57,9 +62,15 @@ fn the_tables_hold_every_size_up_to_4096_pixels() {
     full.rounds.allowance = 1;
     assert_eq!(full.grid().pixel_count(), SAMPLE_TABLE);
     assert_eq!(full.grid().pair_count(), FLOW_TABLE);
+    full.weights.clear();
     let flow = full.flow(&mut random);
     assert_eq!(clean(&full.tape(&[])).lines().count(), 2 + 64);
     assert!(clean(&full.tape(&flow)).contains("\nchecked 0 "));
+    full.weights = full.pair_weights();
+    assert_eq!(full.weights.len(), WEIGHT_TABLE);
+    assert_eq!(clean(&full.tape(&[])).lines().count(), 2 + 64);
+    // All weights and all flow numbers are more than the input may have.
+    assert_eq!(clean(&full.tape(&flow)), "refused 17 at 0\n");
 
     for (width, height, taken) in [(4_096, 1, true), (1, 4_096, true), (17, 241, false)] {
         let mut job = Case::sized(&mut random, width, height);

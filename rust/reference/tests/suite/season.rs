@@ -5,7 +5,8 @@
 use std::io::{self, Read};
 
 use relief_inputs::{
-    filler, flat, season_job, season_prefixes, two_by_one, Case, Random, Tape, TWO_BY_ONE_SEASON,
+    filler, flat, jointed, season_job, season_prefixes, two_by_one, Case, Random, Tape,
+    TWO_BY_ONE_SEASON,
 };
 use relief_reference::program::{clean, TABLES};
 use relief_reference::season::{report, report_plain_within, report_within, Limits, LIMITS};
@@ -182,6 +183,33 @@ fn the_first_of_equal_slacks_is_named() {
     }
 }
 
+#[test]
+fn jobs_with_a_joint() {
+    let job = jointed();
+    let mut quick = job.clone();
+    (quick.rounds.quick, quick.rounds.allowance) = (3, 0);
+    let mut season = [&job, &quick].map(|job| job.tape(&[])).concat();
+    season.extend([[0, 0], [0, -512]].map(|flow| job.tape(&flow)).concat());
+    let lines = Lines {
+        jobs: 4,
+        pixels: 12,
+        settled: 2,
+        checked: 2,
+        total: 2_097_152,
+        largest: (2_097_152, 3),
+        mean: (174_762, 8),
+        ..Lines::default()
+    };
+    assert_eq!(reported(&season), lines.text());
+
+    // The first number is beyond the first weight, though not beyond the terms'.
+    let mut beyond = Tape::new(&job, &[0, 0]);
+    beyond.set_flow(0, 1);
+    season.extend(&beyond.bytes);
+    let refused = Some((8, 0));
+    assert_eq!(reported(&season), Lines { refused, ..lines }.text());
+}
+
 /// One pixel has no pairs: it is run, with nothing to move.
 #[test]
 fn jobs_of_one_pixel() {
@@ -208,13 +236,14 @@ fn jobs_of_one_pixel() {
     assert_eq!(reported(&season), lines.text());
 }
 
-/// A job of 2 by 2 pixels with a flow. Its records stand at 0, 5, 10, 15 to 21, 23 to 38
-/// and 43.
+/// A job of 2 by 2 pixels with weights and a flow. Its records stand at 0, 5, 10, 15 to 21, 23 to
+/// 32, 35 to 50 and 55.
 fn square_tape() -> Tape {
     let mut job = two_by_one();
     (job.terms.height, job.terms.weight) = (2, 257);
     (job.terms.low, job.terms.high) = (8, 12);
     job.samples = vec![0, 9, 255, 4];
+    job.weights = vec![1, 2, 256, 257];
     Tape::new(&job, &[1, -2, 256, -257])
 }
 
@@ -230,28 +259,36 @@ fn two_by_one_and_first(tape: &Tape, length: usize) -> String {
 
 /// Every kind of refusal that a season can have but 13, 17 and 18: number and place, and the byte
 /// that leads to it.
-const FLAWS: [(u32, usize, usize, u8); 21] = [
-    (12, 0, 0, 6),
+const FLAWS: [(u32, usize, usize, u8); 29] = [
+    (12, 0, 0, 7),
     (12, 5, 5, 255),
-    (12, 17, 17, 6),
-    (12, 33, 33, 7),
-    (12, 43, 43, 6),
+    (12, 17, 17, 7),
+    (12, 32, 32, 7),
+    (12, 45, 45, 255),
+    (12, 55, 55, 7),
     (14, 0, 0, 0),
     (14, 0, 0, 2),
     (14, 5, 5, 1),
     (14, 15, 15, 5),
+    (14, 15, 15, 6),
     (14, 21, 21, 0),
     (14, 23, 23, 4),
-    (14, 28, 28, 0),
-    (14, 43, 43, 5),
+    (14, 26, 26, 0),
+    (14, 29, 29, 5),
+    (14, 35, 35, 6),
+    (14, 40, 40, 0),
+    (14, 50, 50, 6),
+    (14, 55, 55, 5),
     (1, 0, 1, 0),
     (1, 0, 2, 0x10),
     (16, 0, 2, 0x0F),
     (2, 5, 7, 0xFF),
     (3, 5, 8, 13),
     (10, 10, 12, 0x11),
-    (8, 1, 31, 0x7F),
-    (8, 3, 41, 0x80),
+    (2, 23, 25, 0xFF),
+    (2, 32, 34, 0xFF),
+    (8, 1, 43, 0x7F),
+    (8, 3, 53, 0x80),
 ];
 
 #[test]
@@ -268,7 +305,7 @@ fn every_refusal_at_the_first_and_at_later_jobs() {
             let season = [good.repeat(before as usize), faulty.clone()].concat();
             assert_eq!(reported(&season), expected);
             // What follows does not count, be it a job or not.
-            for behind in [&good[..], &square, &[0], &[6; 99]] {
+            for behind in [&good[..], &square, &[0], &[7; 99]] {
                 assert_eq!(reported(&[&season, behind].concat()), expected);
             }
         }
@@ -279,11 +316,14 @@ fn every_refusal_at_the_first_and_at_later_jobs() {
 #[test]
 fn the_first_faulty_record_decides() {
     let mut faulty = square();
-    faulty[41] = 0x80;
+    faulty[53] = 0x80;
     let refused = Some((8, 3));
     assert_eq!(reported(&faulty), two_by_ones(0, refused));
-    faulty[43] = 6;
-    let refused = Some((12, 43));
+    faulty[55] = 7;
+    let refused = Some((12, 55));
+    assert_eq!(reported(&faulty), two_by_ones(0, refused));
+    faulty[34] = 0xFF;
+    let refused = Some((2, 32));
     assert_eq!(reported(&faulty), two_by_ones(0, refused));
     faulty[12] = 0x11;
     let refused = Some((10, 10));
@@ -297,7 +337,7 @@ fn a_byte_behind_the_end_begins_another_job() {
     for byte in 0..=255 {
         let refused = match byte {
             1 => (13, 0),
-            0..=5 => (14, 0),
+            0..=6 => (14, 0),
             _ => (12, 0),
         };
         let season = [&job[..], &[byte]].concat();
@@ -335,8 +375,15 @@ fn where_the_second_job_ends() {
         (6, 13, 5),
         (15, 18, 15),
         (16, 13, 15),
-        (42, 13, 38),
-        (43, 18, 43),
+        (23, 18, 23),
+        (24, 13, 23),
+        (25, 13, 23),
+        (26, 18, 26),
+        (34, 13, 32),
+        (35, 18, 35),
+        (36, 13, 35),
+        (54, 13, 50),
+        (55, 18, 55),
     ] {
         let season = [&job, &square[..length]].concat();
         assert_eq!(reported(&season), two_by_ones(1, Some((number, place))));
@@ -361,12 +408,12 @@ fn a_season_ends_after_65_535_jobs() {
     assert_eq!(reported(&one.repeat(65_535)), expected);
     assert_eq!(reported(&one.repeat(65_536)), expected);
     assert_eq!(
-        reported(&[&one.repeat(65_535)[..], &[6; 9]].concat()),
+        reported(&[&one.repeat(65_535)[..], &[7; 9]].concat()),
         expected
     );
     assert_eq!(reported(&one.repeat(65_534)), most(65_534, None));
     assert_eq!(
-        reported(&[&one.repeat(65_534)[..], &[6; 9]].concat()),
+        reported(&[&one.repeat(65_534)[..], &[7; 9]].concat()),
         most(65_534, Some((12, 0)))
     );
 }
@@ -421,9 +468,10 @@ fn a_fault_in_the_first_bytes_of_a_job_is_told() {
         season[offset] = byte;
         // A kind is a fault by itself and terms with their record; flow numbers are judged when
         // the whole tape has passed.
-        let seen = match number {
-            12 | 14 => place + 1,
-            8 => square().len(),
+        let seen = match (number, place) {
+            (12 | 14, _) => place + 1,
+            (8, _) => square().len(),
+            (2, 23 | 32) => place + 3,
             _ => place + 5,
         };
         for job_bytes in 20..=season.len() {
@@ -441,6 +489,7 @@ fn a_fault_in_the_first_bytes_of_a_job_is_told() {
 const LARGE: Limits = Limits {
     tables: Capacity {
         samples: 40_000,
+        weights: 80_000,
         flow: 80_000,
     },
     ..LIMITS
@@ -472,7 +521,7 @@ fn jobs_about_as_long_as_65_536_bytes() {
         if taken {
             assert!(followed_by(&[]).starts_with("jobs 2\n"));
             assert!(followed_by(&good).starts_with("jobs 3\n"));
-            assert!(followed_by(&[6]).ends_with("job 3 refused 12 at 0\n"));
+            assert!(followed_by(&[7]).ends_with("job 3 refused 12 at 0\n"));
         } else {
             assert_eq!(followed_by(&[]), refused(17, 0));
             assert_eq!(followed_by(&good), refused(17, 0));
@@ -491,20 +540,93 @@ fn jobs_about_as_long_as_65_536_bytes() {
     }
 }
 
-/// With the program's tables no job without a fault is as long as that.
 #[test]
 fn more_records_than_the_tables_hold_are_not_allowed() {
     let good = two_by_one().tape(&[]);
     let refused = |number, place| two_by_ones(1, Some((number, place)));
     let mut random = Random::new(0x10A6);
-    let case = Case::sized(&mut random, 64, 64);
-    let mut tape = case.tape(&case.flow(&mut random));
-    assert_eq!(tape.len(), 16 + 2 * TABLES.samples + 5 * TABLES.flow);
-    let end = tape.len() - 1;
-    tape.truncate(end);
-    tape.extend([5, 0, 0, 0, 0].repeat(10_000));
-    let season = [&good[..], &tape].concat();
-    assert_eq!(reported(&season), refused(14, end));
+    let mut case = Case::sized(&mut random, 64, 64);
+    case.weights.clear();
+    let flowing = case.tape(&case.flow(&mut random));
+    assert_eq!(flowing.len(), 16 + 2 * TABLES.samples + 5 * TABLES.flow);
+    case.weights = case.pair_weights();
+    let weighted = case.tape(&[]);
+    assert_eq!(weighted.len(), 16 + 2 * TABLES.samples + 3 * TABLES.weights);
+    for (mut tape, more) in [(flowing, &[5, 0, 0, 0, 0][..]), (weighted, &[6, 0, 0])] {
+        let end = tape.len() - 1;
+        tape.truncate(end);
+        tape.extend(more.repeat(20_000));
+        let season = [&good[..], &tape].concat();
+        assert_eq!(reported(&season), refused(14, end));
+    }
+}
+
+/// A flat job of this size with all weights and a flow of zeros, and its tape's length.
+fn longest_tape(width: u32, height: u32, length: usize) -> Tape {
+    let mut job = flat(width, height);
+    job.weights = job.pair_weights();
+    let tape = Tape::new(&job, &vec![0; job.weights.len()]);
+    assert_eq!(tape.bytes.len(), length);
+    tape
+}
+
+/// With weights and a flow a job of the program's own tables may be too long.
+#[test]
+fn weights_and_flow_of_over_65_536_bytes() {
+    let good = two_by_one().tape(&[]);
+    let season = |job: &[u8], behind: &[u8]| reported(&[&good[..], job, behind].concat());
+    let too_long = two_by_ones(1, Some((17, 0)));
+    let short = longest_tape(100, 37, 65_520);
+    assert!(season(&short.bytes, &good).starts_with("jobs 3\n"));
+    assert!(season(&short.bytes, &[7]).ends_with("job 3 refused 12 at 0\n"));
+
+    // Byte 65,536 is inside the last flow record, further before the end, and right before one.
+    for tape in [
+        longest_tape(14, 269, 65_540),
+        longest_tape(64, 64, 72_720),
+        longest_tape(19, 197, 65_662),
+    ] {
+        for behind in [&[][..], &good, &[7; 99]] {
+            assert_eq!(season(&tape.bytes, behind), too_long);
+        }
+        assert_eq!(clean(&tape.bytes), "refused 17 at 0\n");
+        for cut in [65_534, 65_535, 65_536] {
+            let ended = two_by_one_and_first(&tape, cut);
+            assert_eq!(season(&tape.bytes[..cut], &[]), ended);
+        }
+        assert_eq!(season(&tape.bytes[..65_537], &[]), too_long);
+    }
+}
+
+/// A fault counts in the first 65,536 bytes and not behind them. Flow numbers are judged at the
+/// end, which these do not hold.
+#[test]
+fn faults_of_a_job_of_over_65_536_bytes() {
+    let tape = longest_tape(64, 64, 72_720);
+    let weights = 15 + 2 * TABLES.samples;
+    let flow = weights + 3 * TABLES.weights;
+    // The record whose last byte is the first one behind, and the one after it.
+    let last = flow + 5 * ((65_536 - flow) / 5);
+    for (offset, byte, refused) in [
+        (10, 7, (12, 10)),
+        (weights + 300, 5, (14, weights + 300)),
+        (weights + 302, 0xFF, (17, 0)),
+        (flow, 6, (14, flow)),
+        (flow + 3, 0x7F, (17, 0)),
+        (last, 6, (14, last)),
+        (last + 5, 6, (17, 0)),
+        (72_719, 6, (17, 0)),
+    ] {
+        let mut faulty = tape.bytes.clone();
+        faulty[offset] = byte;
+        let (number, place) = refused;
+        assert_eq!(reported(&faulty), two_by_ones(0, Some((number, place))));
+    }
+    // A weight is judged at its record.
+    let mut beyond = tape;
+    beyond.set_pair_weight(100, 65_281);
+    let refused = Some((2, weights + 300));
+    assert_eq!(reported(&beyond.bytes), two_by_ones(0, refused));
 }
 
 impl Lines {
@@ -580,7 +702,7 @@ fn filler_of_every_length() {
 #[test]
 fn the_binaries_print_the_text() {
     let job = two_by_one().tape(&[]);
-    let season = [&job[..], &[6]].concat();
+    let season = [&job[..], &[7]].concat();
     let text = format!("{TWO_BY_ONE_SEASON}job 2 refused 12 at 0\n");
     for binary in [
         env!("CARGO_BIN_EXE_season-reference"),

@@ -4,6 +4,7 @@ use std::io::Write;
 use std::process::{Command, Stdio};
 
 use relief_inputs::Case;
+use relief_reference::tape::Capacity;
 use relief_reference::{check, price, read, run, Figures, Job, Outcome, Problem, Refusal};
 
 /// What an accepted check or run gives and leaves in its buffers.
@@ -27,7 +28,7 @@ pub trait Calls {
 
 impl Calls for Case {
     fn problem(&self) -> Problem {
-        Problem::new(self.grid(), &self.terms, &self.samples)
+        Problem::new(self.grid(), &self.terms, &self.samples, &self.weights)
     }
 
     fn ends(&self) -> (i64, i64) {
@@ -36,12 +37,18 @@ impl Calls for Case {
     }
 
     fn price(&self, image: &[i32]) -> Result<Figures, Refusal> {
-        price(&self.terms, &self.samples, image)
+        price(&self.terms, &self.samples, &self.weights, image)
     }
 
     fn check(&self, flow: &[i32]) -> Result<Answer, Refusal> {
         let mut image = marked(self.grid().pixel_count());
-        let figures = check(&self.terms, &self.samples, flow, &mut image)?;
+        let Case {
+            terms,
+            samples,
+            weights,
+            ..
+        } = self;
+        let figures = check(terms, samples, weights, flow, &mut image)?;
         Ok(Answer {
             figures,
             flow: flow.to_vec(),
@@ -59,6 +66,7 @@ impl Calls for Case {
             &self.terms,
             &self.rounds,
             &self.samples,
+            &self.weights,
             &mut flow,
             &mut image,
             &mut work,
@@ -76,6 +84,7 @@ impl Calls for Case {
 pub struct ReadBack {
     pub answer: Result<Job, Refusal>,
     pub samples: Vec<u8>,
+    pub weights: Vec<i32>,
     pub flow: Vec<i32>,
 }
 
@@ -89,28 +98,47 @@ pub fn marked(length: usize) -> Vec<i32> {
     vec![MARK; length]
 }
 
+/// Reads `tape` into buffers for so many samples, and so many pairs in both others.
+pub fn read_back(tape: &[u8], samples: usize, pairs: usize) -> ReadBack {
+    let capacity = Capacity {
+        samples,
+        weights: pairs,
+        flow: pairs,
+    };
+    read_back_within(tape, capacity)
+}
+
 /// Reads `tape` into marked buffers, and sees to it that only the fronts are filled.
-pub fn read_back(tape: &[u8], samples_length: usize, flow_length: usize) -> ReadBack {
-    let mut samples = vec![SAMPLE_MARK; samples_length];
-    let mut flow = marked(flow_length);
-    let answer = read(tape, &mut samples, &mut flow);
-    let (filled_samples, filled_flow) = match &answer {
+pub fn read_back_within(tape: &[u8], capacity: Capacity) -> ReadBack {
+    let mut samples = vec![SAMPLE_MARK; capacity.samples];
+    let mut weights = marked(capacity.weights);
+    let mut flow = marked(capacity.flow);
+    let answer = read(tape, &mut samples, &mut weights, &mut flow);
+    let (pixels, weighted, flowing) = match &answer {
         Ok(job) => {
             let grid = job.terms.judge().expect("read judges the terms");
-            let pairs = if job.has_flow { grid.pair_count() } else { 0 };
-            (grid.pixel_count(), pairs)
+            let all_if = |there| if there { grid.pair_count() } else { 0 };
+            (
+                grid.pixel_count(),
+                all_if(job.has_weights),
+                all_if(job.has_flow),
+            )
         }
-        Err(_) => (0, 0),
+        Err(_) => (0, 0, 0),
     };
-    assert!(samples[filled_samples..].iter().all(|&s| s == SAMPLE_MARK));
-    assert!(flow[filled_flow..].iter().all(|&value| value == MARK));
-    samples.truncate(filled_samples);
-    flow.truncate(filled_flow);
     ReadBack {
         answer,
-        samples,
-        flow,
+        samples: front(samples, pixels, SAMPLE_MARK),
+        weights: front(weights, weighted, MARK),
+        flow: front(flow, flowing, MARK),
     }
+}
+
+/// The first values of a buffer, behind which there are only marks.
+fn front<T: PartialEq>(mut buffer: Vec<T>, length: usize, mark: T) -> Vec<T> {
+    assert!(buffer[length..].iter().all(|value| *value == mark));
+    buffer.truncate(length);
+    buffer
 }
 
 pub fn refusal(number: u32, place: u64) -> Refusal {

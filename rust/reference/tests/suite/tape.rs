@@ -1,6 +1,6 @@
 //! Tapes written and read back, cut short and changed.
 
-use relief_inputs::{flat, two_by_one, Case, Random, Tape};
+use relief_inputs::{flat, jointed, record_orders, two_by_one, Case, Random, Tape};
 use relief_reference::program::{clean, FLOW_TABLE, SAMPLE_TABLE};
 use relief_reference::{Job, Refusal};
 
@@ -23,6 +23,25 @@ fn bytes_of_the_two_by_one_tape() {
     assert_eq!(job.tape(&[-2]), tape);
 }
 
+#[test]
+fn bytes_of_the_tape_with_a_joint() {
+    #[rustfmt::skip]
+    let tape = [
+        1, 3, 0, 1, 0,
+        2, 0, 1, 0, 255,
+        3, 0, 0, 100, 0,
+        4, 0,
+        4, 2,
+        4, 10,
+        6, 0, 0,
+        6, 0, 2,
+        5, 0, 0, 0, 0,
+        5, 0, 0xFE, 0xFF, 0xFF,
+        0,
+    ];
+    assert_eq!(jointed().tape(&[0, -512]), tape);
+}
+
 /// Reads `tape`. An accepted one, written again, gives its own bytes; the program
 /// prints a refusal for any other.
 fn read_and_write_again(tape: &[u8]) -> Result<Job, Refusal> {
@@ -34,6 +53,7 @@ fn read_and_write_again(tape: &[u8]) -> Result<Job, Refusal> {
                 terms: job.terms,
                 rounds: job.rounds,
                 samples: taken.samples,
+                weights: taken.weights,
             };
             assert_eq!(case.tape(&taken.flow), tape);
             assert!(text.starts_with("outcome "));
@@ -53,17 +73,19 @@ fn a_written_tape_reads_back_as_the_job() {
             let job = Job {
                 terms: case.terms,
                 rounds: case.rounds,
+                has_weights: !case.weights.is_empty(),
                 has_flow: !flow.is_empty(),
             };
             assert_eq!(taken.answer, Ok(job));
             assert_eq!(taken.samples, case.samples);
+            assert_eq!(taken.weights, case.weights);
             assert_eq!(taken.flow, flow);
         }
     }
 }
 
-/// Tapes with and without a flow and with no pairs.
-fn small_tapes() -> [Tape; 4] {
+/// Tapes with and without weights and a flow, and with no pairs.
+fn small_tapes() -> [Tape; 6] {
     let row = two_by_one();
     let mut square = two_by_one();
     square.terms.height = 2;
@@ -73,6 +95,8 @@ fn small_tapes() -> [Tape; 4] {
         Tape::new(&row, &[-256]),
         Tape::new(&square, &[1, -2, 256, 0]),
         Tape::new(&flat(1, 1), &[]),
+        Tape::new(&jointed(), &[]),
+        Tape::new(&jointed(), &[0, -512]),
     ]
 }
 
@@ -91,6 +115,34 @@ fn where_the_two_by_one_tape_ends() {
         }
     }
     assert!(read_and_write_again(&tape).is_ok());
+}
+
+#[test]
+fn where_the_tape_with_a_joint_ends() {
+    let tape = jointed().tape(&[0, -512]);
+    for (length, number, place) in [
+        (21, 18, 21),
+        (22, 13, 21),
+        (23, 13, 21),
+        (24, 18, 24),
+        (25, 13, 24),
+        (26, 13, 24),
+        (27, 18, 27),
+        (28, 13, 27),
+    ] {
+        let ended = read_and_write_again(&tape[..length]);
+        assert_eq!(ended, Err(refusal(number, place)));
+    }
+}
+
+#[test]
+fn weights_stand_between_the_samples_and_the_flow() {
+    let mut taken = 0;
+    for (tape, due) in record_orders(6) {
+        assert_eq!(read_and_write_again(&tape).map(drop), due, "{tape:?}");
+        taken += usize::from(due.is_ok());
+    }
+    assert_eq!(taken, 4 + 1);
 }
 
 #[test]

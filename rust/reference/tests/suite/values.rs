@@ -1,7 +1,7 @@
-//! Document 01's "Values to compare", as requests F-1 and F-3 change them, readings and box, the
-//! shares of a fall, and the laws of T and its root.
+//! Document 01's "Values to compare", as requests F-1 and F-3 change them, a job with a weight for
+//! each pair, readings and box, the shares of a fall, and the laws of T and its root.
 
-use relief_inputs::{about_the_box, flat, narrow_box, two_by_one, two_by_two, Case};
+use relief_inputs::{about_the_box, flat, jointed, narrow_box, two_by_one, two_by_two, Case, Tape};
 use relief_reference::problem::widened;
 use relief_reference::rounds::{
     next_t, quick_rounds, quick_share, steady_rounds, steady_share, T_UNIT,
@@ -103,16 +103,61 @@ fn checks_of_the_two_by_one_job() {
     assert_eq!(job.check(&[257]), Err(refusal(8, 0)));
 }
 
+/// The 2 by 1 job's samples 0 and 2, then 10, with weights 0 and 512.
+#[test]
+fn checks_of_the_job_with_a_joint() {
+    let job = jointed();
+    for (flow, image, price, floor, slack) in [
+        (0, [128, 640, 2_688], 2_097_152, 0, 2_097_152),
+        (-511, [128, 1_151, 2_177], 1_572_866, 1_570_814, 2_052),
+        (-512, [128, 1_152, 2_176], 1_572_864, 1_572_864, 0),
+        (512, [128, 128, 3_200], 3_670_016, -2_621_440, 6_291_456),
+    ] {
+        let answer = job.check(&[0, flow]).unwrap();
+        assert_eq!(answer.image, image);
+        assert_eq!(answer.figures, figures(Checked, 0, price, floor, slack));
+        assert_eq!(job.price(&image), Ok(figures(Checked, 0, price, 0, 0)));
+    }
+    // Each number is held to its own weight, and the first beyond it is named.
+    for (flow, place) in [([1, 0], 0), ([-1, -513], 0), ([0, 513], 1), ([0, -513], 1)] {
+        assert_eq!(job.check(&flow), Err(refusal(8, place)));
+    }
+}
+
+#[test]
+fn runs_of_the_job_with_a_joint() {
+    for (quick, allowance, flow, outcome, moved, totals) in [
+        (0, 0, 0, Spent, 0, (2_097_152, 0, 2_097_152)),
+        (0, 1, -256, Spent, 1, (1_703_936, 917_504, 786_432)),
+        (0, 2, -448, Spent, 2, (1_581_056, 1_433_600, 147_456)),
+        (0, 3, -512, Settled, 3, (1_572_864, 1_572_864, 0)),
+        (0, 100, -512, Settled, 3, (1_572_864, 1_572_864, 0)),
+        (2, 0, -448, Spent, 0, (1_581_056, 1_433_600, 147_456)),
+        (3, 0, -512, Settled, 0, (1_572_864, 1_572_864, 0)),
+    ] {
+        let rounds = Rounds { quick, allowance };
+        assert_run_of(jointed(), rounds, &[0, flow], outcome, moved, totals);
+    }
+}
+
 /// Runs the 2 by 1 job and compares the flow it leaves and all of its figures.
 fn assert_run(rounds: Rounds, flow: i32, outcome: Outcome, moved: u32, totals: (u64, i64, u64)) {
-    let job = Case {
-        rounds,
-        ..two_by_one()
-    };
+    assert_run_of(two_by_one(), rounds, &[flow], outcome, moved, totals);
+}
+
+fn assert_run_of(
+    mut job: Case,
+    rounds: Rounds,
+    flow: &[i32],
+    outcome: Outcome,
+    moved: u32,
+    totals: (u64, i64, u64),
+) {
+    job.rounds = rounds;
     let answer = job.run().unwrap();
     let (price, floor, slack) = totals;
-    assert_eq!(answer.flow, [flow]);
-    assert_eq!(answer.work, [0, 0]);
+    assert_eq!(answer.flow, flow);
+    assert_eq!(answer.work, vec![0; 2 * flow.len()]);
     assert_eq!(answer.figures, figures(outcome, moved, price, floor, slack));
 }
 
@@ -299,10 +344,34 @@ fn limits_of_the_weight() {
     assert!(read_back(&largest, 2, 1).answer.is_ok());
 
     job.terms.weight = 65_281;
-    assert_eq!(price(&job.terms, &job.samples, &[0, 0]), Err(refusal(2, 0)));
+    assert_eq!(
+        price(&job.terms, &job.samples, &[], &[0, 0]),
+        Err(refusal(2, 0))
+    );
     let mut beyond = largest;
     beyond[6..8].copy_from_slice(&65_281_u16.to_le_bytes());
     assert_eq!(read_back(&beyond, 2, 1).answer, Err(refusal(2, 5)));
+}
+
+#[test]
+fn limits_of_the_weight_of_a_pair() {
+    let mut job = two_by_one();
+    job.weights = vec![65_280];
+    let mut tape = Tape::new(&job, &[65_280]);
+    assert!(job.run().is_ok());
+    assert!(job.check(&[-65_280]).is_ok());
+    assert!(job.price(&[0, 0]).is_ok());
+    assert_eq!(job.check(&[65_281]), Err(refusal(8, 0)));
+    assert!(read_back(&tape.bytes, 2, 1).answer.is_ok());
+
+    tape.set_pair_weight(0, 65_281);
+    assert_eq!(read_back(&tape.bytes, 2, 1).answer, Err(refusal(2, 19)));
+    for beyond in [65_281, -1] {
+        job.weights = vec![beyond];
+        assert_eq!(job.price(&[0, 0]), Err(refusal(2, 0)));
+        assert_eq!(job.check(&[0]), Err(refusal(2, 0)));
+        assert_eq!(job.run(), Err(refusal(2, 0)));
+    }
 }
 
 #[test]
@@ -338,7 +407,7 @@ fn limits_of_the_size() {
 
     job.terms.height = 257;
     assert_eq!(
-        price(&job.terms, &job.samples, &checked.image),
+        price(&job.terms, &job.samples, &[], &checked.image),
         Err(refusal(1, 0))
     );
     let mut beyond = tape;
