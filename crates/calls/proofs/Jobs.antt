@@ -37,8 +37,11 @@ module _ (t : Terms) (samples : List ℕ) (weights : List ℤ) where
     -- an image of the box
     module _ (values : List ℤ) (n : length values ≡ pixelsOf t) (inside : InBox (grid t samples weights) (at values)) where
       image-most : Within (2 ^ 20) values
-      image-most = within-below values (λ i l. omega (arith, widest-fits,
-          natAbs-upto (value-least t samples weights ok (at values) inside i (rw n at l)) (value-most t samples weights ok (at values) inside i (rw n at l))))
+      image-most = within-below values (λ i l. omega (
+        arith,
+        widest-fits,
+        natAbs-upto (value-least t samples weights ok (at values) inside i (rw n at l)) (value-most t samples weights ok (at values) inside i (rw n at l)),
+      ))
 
       pub raster-limits : RasterLimits (t .width) (t .height) values
       raster-limits =

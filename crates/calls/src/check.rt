@@ -13,13 +13,7 @@ ghost use Rattle.model.specs.Accepted.{CheckAllowed};
 ghost use Rattle.certificate.specs.Demand.{CheckDemand};
 ghost use Rattle.calls.specs.Answers.{answerOf};
 
-pub fn check(
-    t: Terms,
-    samples: &[u8],
-    weights: &[i32],
-    flow: &[i32],
-    image: &mut [i32],
-) -> Answer
+pub fn check(t: Terms, samples: &[u8], weights: &[i32], flow: &[i32], image: &mut [i32]) -> Answer
     ensures { λ r. ⌜ answerOf r ≡ checkAnswer t (now (samples .entry)) (now (weights .entry)) (now (flow .entry)) (now (image .entry)) ⌝ }
     ensures { λ _. ⌜ now (image .exit) ≡ checkImage t (now (samples .entry)) (now (weights .entry)) (now (flow .entry)) (now (image .entry)) ⌝ }
     ensures { λ r. ⌜ ((answerOf r .number ≡ 0) ↔ CheckAllowed t (now (samples .entry)) (now (weights .entry)) (now (flow .entry)) (now (image .entry))) ⌝ }

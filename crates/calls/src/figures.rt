@@ -57,21 +57,11 @@ pub fn image_price(t: Terms, samples: &[u8], weights: &[i32], image: &[i32]) -> 
     ensures { λ r. ⌜ pos r ≡ Problem.price (grid t (now (samples .entry)) (now (weights .entry))) (at (now (image .entry))) ⌝ }
 {
     let variation = total_variation_grid(image, t.width as usize, t.height as usize, weights);
-    objective(
-        misfit(image, samples),
-        variation,
-        scale(t.weight, weights),
-    )
+    objective(misfit(image, samples), variation, scale(t.weight, weights))
 }
 
 // The figures of a flow whose image is at hand.
-pub fn of_flow(
-    t: Terms,
-    samples: &[u8],
-    weights: &[i32],
-    flow: &[i32],
-    image: &[i32],
-) -> Figures
+pub fn of_flow(t: Terms, samples: &[u8], weights: &[i32], flow: &[i32], image: &[i32]) -> Figures
     requires { ⌜ FlowReady t (now samples) (now weights) (now flow) (now image) ⌝ }
     ensures { λ r. ⌜ pos (r .price) ≡ Problem.price (grid t (now (samples .entry)) (now (weights .entry))) (Problem.image (grid t (now (samples .entry)) (now (weights .entry))) (at (now (flow .entry)))) ⌝ }
     ensures { λ r. ⌜ r .floor ≡ Problem.floor (grid t (now (samples .entry)) (now (weights .entry))) (at (now (flow .entry))) ⌝ }

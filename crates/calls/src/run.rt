@@ -46,9 +46,8 @@ pub fn run(
     }
     let lower = pixel::low_end(t.low);
     let upper = pixel::high_end(t.high);
-    quick_rounds(
-        t, lower, upper, r.quick, samples, weights, flow, image, work,
-    );
+    let quick = r.quick;
+    quick_rounds(t, lower, upper, quick, samples, weights, flow, image, work);
     buffers::clear(work);
     let end = steady_rounds(t, lower, upper, r.allowance, samples, weights, flow, image);
     let f = figures::of_flow(t, samples, weights, flow, image);

@@ -41,16 +41,8 @@ fn advance_round(
     fill_image(image, samples, ahead, w, h, lower, upper);
     let next = momentum::next_momentum(momentum);
     let factor = momentum::reciprocal(momentum - 65536, next);
-    advance_grid(
-        flow,
-        ahead,
-        image,
-        w,
-        h,
-        signed::natural(t.weight),
-        weights,
-        factor,
-    );
+    let weight = signed::natural(t.weight);
+    advance_grid(flow, ahead, image, w, h, weight, weights, factor);
     next
 }
 
@@ -111,7 +103,17 @@ pub fn quick_rounds(
     let mut momentum = 65536;
     let mut k = 0;
     while k < quick {
-        momentum = quick_round(t, lower, upper, samples, weights, flow, image, work, momentum);
+        momentum = quick_round(
+            t,
+            lower,
+            upper,
+            samples,
+            weights,
+            flow,
+            image,
+            work,
+            momentum,
+        );
         k += 1;
     }
 }

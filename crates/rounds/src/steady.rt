@@ -38,8 +38,7 @@ fn some_moves(
     let w = t.width as usize;
     let h = t.height as usize;
     fill_image(image, samples, flow, w, h, lower, upper);
-    let first =
-        grid::first_moving_grid(flow, image, w, h, signed::natural(t.weight), weights);
+    let first = grid::first_moving_grid(flow, image, w, h, signed::natural(t.weight), weights);
     match first {
         Moving::At(_) => true,
         Moving::Nothing => false,

@@ -23,13 +23,7 @@ pub enum Moving {
 }
 
 // The step of a steady round: each pair's number becomes its stepped value.
-pub fn step_pairs(
-    flow: &mut [i32],
-    image: &[i32],
-    stride: usize,
-    weight: i32,
-    weights: &[i32],
-)
+pub fn step_pairs(flow: &mut [i32], image: &[i32], stride: usize, weight: i32, weights: &[i32])
     requires { ⌜ StepLimits (now flow) (now image) stride weight (now weights) ⌝ }
     ensures { λ _. ⌜ now (flow .exit) ≡ table (length (now (flow .entry))) (stepAt nearestEighth (weightAt weight (now (weights .entry))) (now (flow .entry)) (now (image .entry)) stride) ⌝ }
 {

@@ -100,7 +100,7 @@ extrapolated-requires c κs =
     let l = v .before .before .before .before .before .before .loop in (
       rw (filling-rest (l .inv .0) (l .j) (pos 0) (le-refl (l .j)), small (s .args .flow .now) (s .pre .flow-most) (l .j)) (s .pre .flow-most (l .j)),
       rw (next-is v) (le-trans (step-most eighth (weightAt (toZ w32 (ofZ w32 (s .args .weight))) (s .args .weights .now) (l .j)) _ _ _)
-      (own-within _ (s .args .weights .now) (rw (toZ-ofZ w32 (s .args .weight) (s .fits .weight)) (s .pre .weight-most)) (s .pre .weights-most) (l .j))),
+          (own-within _ (s .args .weights .now) (rw (toZ-ofZ w32 (s .args .weight) (s .fits .weight)) (s .pre .weight-most)) (s .pre .weights-most) (l .j))),
       s .pre .factor-most,
     )
 

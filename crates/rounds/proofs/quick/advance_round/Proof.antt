@@ -55,20 +55,21 @@ natural-requires c κs = search needs
 
 -- the factor, by the model's next T
 by-next : (c : tie.After-natural) →
-    let r = c .before .before .before .before in
+    let r = c .before in
     let T = r .before .before .before .before .before .before .before .before .before .args .momentum in
     Reciprocal (T - 65536) (nextMomentum T) (r .reciprocal .result)
 by-next c =
-    let r = c .before .before .before .before in
+    let r = c .before in
     rw (← r .before .next-momentum .ensures) (r .reciprocal .ensures)
 
 advance-grid-requires : tie.Need-advance-grid-requires
 advance-grid-requires c κs =
-    let f = c .before .before .before .before .before .before .before in
+    let n = c .before .before .before in
+    let f = n .before .before .before .before in
     let s = f .before .before .before .before .before .before in
     let p = s .pre .1 in
     let k = f .before .before .before .before .struct-known .given in
-    rw (read w32 (c .natural .ok), c .natural .ensures)
+    rw (read w32 (n .natural .ok), n .natural .ensures)
     (record {
       grid =
           grid-limits (s .args .t) (s .args .samples .now) (p .limits) (ahead-length s) (p .ahead-most) (s .args .weights .now) (p .pair-weights) (k .1 .1 .1 .0 .fits)
@@ -77,7 +78,7 @@ advance-grid-requires c κs =
       weight-most = p .limits .weight-most;
       weights-most = weights-within (s .args .t) (s .args .weights .now) (p .pair-weights);
       flow-most = p .flow-most;
-      factor-most = factor-most _ _ (p .momentum-least) (p .momentum-most) (by-next c);
+      factor-most = factor-most _ _ (p .momentum-least) (p .momentum-most) (by-next n);
     })
 
 same-length : tie.Need-same-length
@@ -92,8 +93,8 @@ same-length-3 c = search needs
 returns : tie.Need-returns
 returns c =
     let g = c .before .before in
-    let n = g .before in
-    let f = n .before .before .before .before .before .before .before in
+    let n = g .before .before .before .before in
+    let f = n .before .before .before .before in
     let s = f .before .before .before .before .before .before in
     let p = s .pre .1 in
     let a = s .args in
@@ -104,7 +105,7 @@ returns c =
         rw (read w32 (n .natural .ok), n .natural .ensures, p .lengths .flow-length) at (g .advance-grid .ensures .1)
             ∙ ahead-is (a .t) (a .samples .now) (a .weights .now) (p .limits) (p .pair-weights) eighth (a .flow .now) (a .ahead .now) (a .momentum) e _ (p .flow-most)
             (p .momentum-least) (p .momentum-most) (by-next n),
-        (unfold quickRound in n .before .before .before .before .before .next-momentum .ensures, e),
+        (unfold quickRound in n .before .before .next-momentum .ensures, e),
       ),
     )
 
