@@ -190,6 +190,8 @@ cases =
     ∷ threeByOne (pair 0 512) (beginning 0 100 24 (0 ∷ [])) (text (ascii "refused 14 at 24\n"))
     ∷ threeByOne (pair 0 512) (beginning 0 100 26 []) (text (ascii "refused 13 at 24\n"))
     ∷ threeByOne (pair 0 512) (beginning 0 100 27 (5 ∷ 1 ∷ 0 ∷ 0 ∷ 0 ∷ 5 ∷ 0 ∷ 0 ∷ 0 ∷ 0 ∷ 0 ∷ [])) (text (ascii "refused 8 at 0\n"))
+    ∷ threeByOne (pair 0 512) (beginning 0 100 27 (5 ∷ 0 ∷ 0 ∷ 0 ∷ 0 ∷ 5 ∷ 0 ∷ 254 ∷ 255 ∷ 255 ∷ 0 ∷ []))
+    (text (ascii "outcome moved price floor slack\nchecked 0 1572864 1572864 0\n128 1152 2176\n"))
     ∷ threeByOne (pair 0 512) (beginning 0 100 21 (5 ∷ 0 ∷ 0 ∷ 0 ∷ 0 ∷ 5 ∷ 0 ∷ 0 ∷ 0 ∷ 0 ∷ 6 ∷ [])) (text (ascii "refused 14 at 31\n"))
     ∷ twoByOne (sharing (pos 4)) (shares (pos 0) (pos 0))
     ∷ twoByOne (sharing (pos 5)) (shares (pos 0) (pos 1))
