@@ -27,36 +27,40 @@ module _ {X : Type 0} (shown : Answer → List ℤ → X) (s : Shows shown) wher
     same-by Verdict.Accept former other = refl
     same-by (Verdict.Refuse number place) former other = s .alike number place former other
 
-  module _ (t : Terms) (samples : List ℕ) (flow : List ℤ) where
+  module _ (t : Terms) (samples : List ℕ) (weights flow : List ℤ) where
     -- what is shown of a check whose image buffer held these values
     abbrev pub ofCheck : List ℤ → X
-    ofCheck image = shown (checkAnswer t samples flow image) (checkImage t samples flow image)
+    ofCheck image = shown (checkAnswer t samples weights flow image) (checkImage t samples weights flow image)
 
-    same-verdict : (image other : List ℤ) → length image ≡ length other → checkVerdict t samples flow image ≡ checkVerdict t samples flow other
+    same-verdict : (image other : List ℤ) → length image ≡ length other →
+        checkVerdict t samples weights flow image ≡ checkVerdict t samples weights flow other
     unfolding checkVerdict
     same-verdict image other e = cc
 
     pub same-check : (image other : List ℤ) → length image ≡ length other → ofCheck image ≡ ofCheck other
     unfolding checkAnswer checkImage
     same-check image other e =
-        let a : Answer = figuresOf checked 0 t samples flow in
+        let a : Answer = figuresOf checked 0 t samples weights flow in
         let values : List ℤ = imageOf t samples flow in
-        same-by a values (checkVerdict t samples flow image) image other ∙ ap (λ (v : Verdict). by a values v other) (same-verdict image other e)
+        same-by a values (checkVerdict t samples weights flow image) image other
+        ∙ ap (λ (v : Verdict). by a values v other) (same-verdict image other e)
 
-  module _ (t : Terms) (r : Rounds) (samples : List ℕ) where
+  module _ (t : Terms) (r : Rounds) (samples : List ℕ) (weights : List ℤ) where
     -- what is shown of a run whose buffers held these values
     abbrev pub ofRun : List ℤ → List ℤ → List ℤ → X
-    ofRun flow image work = shown (runAnswer t r samples flow image work) (runImage t r samples flow image work)
+    ofRun flow image work = shown (runAnswer t r samples weights flow image work) (runImage t r samples weights flow image work)
 
-    module _ (f i w f' i' w' : List ℤ) (flows : length f ≡ length f') (images : length i ≡ length i') (works : length w ≡ length w') where
-      same-run-verdict : runVerdict t r samples f i w ≡ runVerdict t r samples f' i' w'
+    module _ (f i w f' i' w' : List ℤ) (flows : length f ≡ length f') (images : length i ≡ length i')
+        (works : length w ≡ length w') where
+      same-run-verdict : runVerdict t r samples weights f i w ≡ runVerdict t r samples weights f' i' w'
       unfolding runVerdict
       same-run-verdict = cc
 
       pub same-run : ofRun f i w ≡ ofRun f' i' w'
       unfolding runAnswer runImage
       same-run =
-          let e : Steady = ending t r samples in
-          let a : Answer = figuresOf (cond (e .settled) settled spent) (e .moved) t samples (e .flow) in
+          let e : Steady = ending t r samples weights in
+          let a : Answer = figuresOf (cond (e .settled) settled spent) (e .moved) t samples weights (e .flow) in
           let values : List ℤ = imageOf t samples (e .flow) in
-          same-by a values (runVerdict t r samples f i w) i i' ∙ ap (λ (v : Verdict). by a values v i') same-run-verdict
+          same-by a values (runVerdict t r samples weights f i w) i i'
+          ∙ ap (λ (v : Verdict). by a values v i') same-run-verdict

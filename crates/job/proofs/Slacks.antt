@@ -25,9 +25,10 @@ front-bytes n l bytes i = go (ltb i n) refl
     go false h =
         subst (λ (x : ℕ). x < 256) (sym (List·getD-eq-default (take n l) 0 (omega (arith, length-take n l, ltb-false i n h)))) (omega arith)
 
-pub slack-most : (t : Terms) (r : Rounds) (flowed : Bool) (samples : List ℕ) (flow image work : List ℤ) → t .high < 256 → ((i : ℕ) → getD samples i 0 < 256) →
-    natAbs (answerIn t r flowed samples flow image work .slack) ≤ mostSlack * pixelsOf t
-slack-most t r true samples flow image work high bytes =
-    check-small t (take (pixelsOf t) samples) high (front-bytes (pixelsOf t) samples bytes) _ _
-slack-most t r false samples flow image work high bytes =
-    run-small t (take (pixelsOf t) samples) high (front-bytes (pixelsOf t) samples bytes) r _ _ _
+pub slack-most : (t : Terms) (r : Rounds) (weighted flowed : Bool) (samples : List ℕ) (weights flow image work : List ℤ) →
+    t .high < 256 → ((i : ℕ) → getD samples i 0 < 256) →
+    natAbs (answerIn t r weighted flowed samples weights flow image work .slack) ≤ mostSlack * pixelsOf t
+slack-most t r weighted true samples weights flow image work high bytes =
+    check-small t (take (pixelsOf t) samples) _ high (front-bytes (pixelsOf t) samples bytes) _ _
+slack-most t r weighted false samples weights flow image work high bytes =
+    run-small t (take (pixelsOf t) samples) _ high (front-bytes (pixelsOf t) samples bytes) r _ _ _

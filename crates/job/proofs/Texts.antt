@@ -18,16 +18,17 @@ use Rattle.model.specs.Lists.{zeros, overwritten}
 use Rattle.model.specs.Grid.{sizeAllowed}
 use Rattle.model.specs.Verdict.{left}
 use Rattle.model.specs.Calls.{Answer, refusal, pixelsOf, pairsOf, imageOf, checkVerdict, checkAnswer, checkImage, runVerdict, runAnswer, runImage}
-use Rattle.model.specs.Tape.{Progress, Parse, turned, whole, parse, ReadAnswer, readOf, readAnswer, readSamples, readFlow, lentBy}
+use Rattle.model.specs.Tape.{Progress, Parse, turned, whole, parse, ReadAnswer, readOf, readAnswer, readSamples, readWeights, readFlow, lentBy}
 use Rattle.tape_read.specs.declared.read.ReadResult.{ReadResult}
 use Rattle.tape_read.specs.Answers.{readAnswerOf}
 use Rattle.model.specs.Program.{refusalText, jobAnswer, jobImage, answerText, readText}
 use Rattle.model.proofs.Lists.{length-table}
 use Rattle.terms.proofs.Size.{allowed-size}
 use Rattle.roundtrip.proofs.Accepted.{accepted-job}
-use Rattle.roundtrip.proofs.Judged.{accepted-parse, passed-parse, answer-by, samples-by, flow-by}
-use Rattle.job.specs.Tables.{Tables, Holds, answerIn, imageFront, flowIn, imageIn, workIn}
-use Rattle.job.specs.Cleaned.{flowLeft, imageLeft, workLeft}
+use Rattle.roundtrip.proofs.Judged.{accepted-parse, passed-parse, answer-by, samples-by, weights-by, flow-by}
+use Rattle.roundtrip.proofs.RoundTrip.{counted}
+use Rattle.job.specs.Tables.{Tables, Holds, weightsOf, answerIn, imageFront, imageIn}
+use Rattle.job.specs.Cleaned.{after}
 use Rattle.job.proofs.Formers.{Shows, ofCheck, same-check, ofRun, same-run}
 
 -- the image that a call leaves is as long as the one it was lent, if that has a value for each pixel
@@ -35,94 +36,142 @@ left-length : (n : ℕ) (v : Verdict) (new former : List ℤ) → length new ≡
 left-length n Verdict.Accept new former e g = e
 left-length n (Verdict.Refuse number place) new former e g = g
 
-module _ (t : Terms) (samples : List ℕ) where
+module _ (t : Terms) (samples : List ℕ) (weights : List ℤ) where
   image-length : (flow : List ℤ) → length (imageOf t samples flow) ≡ pixelsOf t
   unfolding imageOf
   image-length flow = length-table (pixelsOf t) _
 
-  check-length : (flow image : List ℤ) → length image ≡ pixelsOf t → length (checkImage t samples flow image) ≡ pixelsOf t
+  check-length : (flow image : List ℤ) → length image ≡ pixelsOf t → length (checkImage t samples weights flow image) ≡ pixelsOf t
   unfolding checkImage
-  check-length flow image e = left-length (pixelsOf t) (checkVerdict t samples flow image) _ image (image-length _) e
+  check-length flow image e = left-length (pixelsOf t) (checkVerdict t samples weights flow image) _ image (image-length _) e
 
-  run-length : (r : Rounds) (flow image work : List ℤ) → length image ≡ pixelsOf t → length (runImage t r samples flow image work) ≡ pixelsOf t
+  run-length : (r : Rounds) (flow image work : List ℤ) → length image ≡ pixelsOf t →
+      length (runImage t r samples weights flow image work) ≡ pixelsOf t
   unfolding runImage
-  run-length r flow image work e = left-length (pixelsOf t) (runVerdict t r samples flow image work) _ image (image-length _) e
+  run-length r flow image work e =
+      left-length (pixelsOf t) (runVerdict t r samples weights flow image work) _ image (image-length _) e
 
 zeros-length : (n : ℕ) → length (zeros n) ≡ n
 zeros-length n = length-replicate n _
 
+-- a table's front is what was read into it
+front-read : {A : Type 0} (xs table : List A) (n : ℕ) → length xs ≡ n → take n (overwritten xs table) ≡ xs
+front-read xs table n e = take-at xs (drop (length xs) table) n e
+
 -- what holds of a whole job and of the tables that it was read into
-pub record Fits (samples flow : ℕ) (p : Progress) : Type 0 where
+pub record Fits (samples weights flow : ℕ) (p : Progress) : Type 0 where
   pub size : sizeAllowed (p .terms .width) (p .terms .height) ≡ true
   pub samplesHold : pixelsOf (p .terms) ≤ samples
+  pub weightsHold : pairsOf (p .terms) ≤ weights
   pub flowHolds : pairsOf (p .terms) ≤ flow
   pub sampled : length (p .samples) ≡ pixelsOf (p .terms)
+  pub weighs : (length (p .weights) ≡ 0) ⊎ (length (p .weights) ≡ pairsOf (p .terms))
   pub flows : (length (p .flow) ≡ 0) ⊎ (length (p .flow) ≡ pairsOf (p .terms))
 
-pub whole-fits : (input samples : List ℕ) (flow : List ℤ) → ((i : ℕ) → getD input i 0 < 256) → (p : Progress) →
-    parse input (lentBy samples flow) ≡ whole p → Fits (length samples) (length flow) p
-whole-fits input samples flow byte p e =
-    let j = accepted-job input (lentBy samples flow) byte refl p (passed-parse input samples flow p e .0) in
+pub whole-fits : (input samples : List ℕ) (weights flow : List ℤ) → ((i : ℕ) → getD input i 0 < 256) → (p : Progress) →
+    parse input (lentBy samples weights flow) ≡ whole p → Fits (length samples) (length weights) (length flow) p
+whole-fits input samples weights flow byte p e =
+    let j = accepted-job input (lentBy samples weights flow) byte refl p (passed-parse input samples weights flow p e .0) in
     let size = j .sound .size (omega (arith, j .complete)) in
-    record { size = size .0; samplesHold = size .1; flowHolds = size .2; sampled = j .samples; flows = j .flow }
+    record {
+      size = size .0;
+      samplesHold = size .1;
+      weightsHold = size .2;
+      flowHolds = size .3;
+      sampled = j .samples;
+      weighs = j .weights;
+      flows = j .flow;
+    }
 
 -- what is shown of a job whose numbers stand in the fronts of the tables
-module _ {X : Type 0} (shown : Answer → List ℤ → X) (shows : Shows shown) (p : Progress) (samples : List ℕ) (flow image work : List ℤ) (f : Fits (length samples) (length flow) p)
+module _ {X : Type 0} (shown : Answer → List ℤ → X) (shows : Shows shown) (p : Progress) (samples : List ℕ)
+    (weights flow image work : List ℤ) (f : Fits (length samples) (length weights) (length flow) p)
     (imageHolds : pixelsOf (p .terms) ≤ length image) (workHolds : 2 * pairsOf (p .terms) ≤ length work) where
+  abbrev weighted : Bool
+  weighted = not (eqb (length (p .weights)) 0)
+
   abbrev flowed : Bool
   flowed = not (eqb (length (p .flow)) 0)
 
   abbrev S : List ℕ
   S = overwritten (p .samples) samples
 
+  abbrev W : List ℤ
+  W = overwritten (p .weights) weights
+
   abbrev F : List ℤ
   F = overwritten (p .flow) flow
 
   codes : take (pixelsOf (p .terms)) S ≡ p .samples
-  codes = take-at (p .samples) (drop (length (p .samples)) samples) (pixelsOf (p .terms)) (f .sampled)
+  codes = front-read (p .samples) samples (pixelsOf (p .terms)) (f .sampled)
+
+  own : take (weightsOf weighted (pairsOf (p .terms))) W ≡ p .weights
+  own = front-read (p .weights) weights _ (sym (counted (length (p .weights)) (pairsOf (p .terms)) (f .weighs)))
 
   front-length : length (take (pixelsOf (p .terms)) image) ≡ pixelsOf (p .terms)
   front-length = length-take-le _ image imageHolds
 
   -- the image by its front
-  by-front : (b : Bool) → length (imageFront (p .terms) (p .rounds) b S F image work) ≡ pixelsOf (p .terms)
-  by-front true = check-length (p .terms) _ _ _ front-length
-  by-front false = run-length (p .terms) _ (p .rounds) _ _ _ front-length
+  by-front : (b : Bool) → length (imageFront (p .terms) (p .rounds) weighted b S W F image work) ≡ pixelsOf (p .terms)
+  by-front true = check-length (p .terms) _ _ _ _ front-length
+  by-front false = run-length (p .terms) _ _ (p .rounds) _ _ _ front-length
 
   abbrev front : Bool → X
-  front b = shown (answerIn (p .terms) (p .rounds) b S F image work) (imageFront (p .terms) (p .rounds) b S F image work)
+  front b =
+      shown (answerIn (p .terms) (p .rounds) weighted b S W F image work)
+      (imageFront (p .terms) (p .rounds) weighted b S W F image work)
 
-  checked : length (p .flow) ≡ pairsOf (p .terms) → front true ≡ ofCheck shown shows (p .terms) (p .samples) (p .flow) (zeros (pixelsOf (p .terms)))
+  checked : length (p .flow) ≡ pairsOf (p .terms) →
+      front true ≡ ofCheck shown shows (p .terms) (p .samples) (p .weights) (p .flow) (zeros (pixelsOf (p .terms)))
   checked e =
       let t : Terms = p .terms in
-      ap₂ (λ (s : List ℕ) (g : List ℤ). ofCheck shown shows t s g (take (pixelsOf t) image)) codes (take-at (p .flow) (drop (length (p .flow)) flow) (pairsOf t) e)
-      ∙ same-check shown shows t (p .samples) (p .flow) (take (pixelsOf t) image) (zeros (pixelsOf t)) (front-length ∙ sym (zeros-length (pixelsOf t)))
+      ap₂ (λ (s : List ℕ) (w : List ℤ). ofCheck shown shows t s w (take (pairsOf t) F) (take (pixelsOf t) image)) codes own
+      ∙ ap (λ (g : List ℤ). ofCheck shown shows t (p .samples) (p .weights) g (take (pixelsOf t) image))
+      (front-read (p .flow) flow (pairsOf t) e)
+      ∙ same-check shown shows t (p .samples) (p .weights) (p .flow) (take (pixelsOf t) image) (zeros (pixelsOf t))
+      (front-length ∙ sym (zeros-length (pixelsOf t)))
 
-  ran : length (p .flow) ≡ 0 → front false ≡ ofRun shown shows (p .terms) (p .rounds) (p .samples) (zeros (pairsOf (p .terms))) (zeros (pixelsOf (p .terms))) (zeros (2 * pairsOf (p .terms)))
+  ran : length (p .flow) ≡ 0 →
+      front false
+      ≡ ofRun shown shows (p .terms) (p .rounds) (p .samples) (p .weights) (zeros (pairsOf (p .terms)))
+      (zeros (pixelsOf (p .terms))) (zeros (2 * pairsOf (p .terms)))
   ran e =
       let t : Terms = p .terms in
-      let long : pairsOf t ≤ length F = omega (arith, f .flowHolds, length-append (p .flow) (drop (length (p .flow)) flow), length-drop (length (p .flow)) flow) in
-      ap (λ (s : List ℕ). ofRun shown shows t (p .rounds) s (take (pairsOf t) F) (take (pixelsOf t) image) (take (2 * pairsOf t) work)) codes
-      ∙ same-run shown shows t (p .rounds) (p .samples) _ _ _ (zeros (pairsOf t)) (zeros (pixelsOf t)) (zeros (2 * pairsOf t))
-      (length-take-le _ F long ∙ sym (zeros-length (pairsOf t))) (front-length ∙ sym (zeros-length (pixelsOf t)))
-      (length-take-le _ work workHolds ∙ sym (zeros-length (2 * pairsOf t)))
+      let long : pairsOf t ≤ length F =
+      omega (arith, f .flowHolds, length-append (p .flow) (drop (length (p .flow)) flow), length-drop (length (p .flow)) flow) in
+      ap₂
+      (λ (s : List ℕ) (w : List ℤ).
+      ofRun shown shows t (p .rounds) s w (take (pairsOf t) F) (take (pixelsOf t) image) (take (2 * pairsOf t) work))
+      codes own
+      ∙ same-run shown shows t (p .rounds) (p .samples) (p .weights) _ _ _ (zeros (pairsOf t)) (zeros (pixelsOf t))
+      (zeros (2 * pairsOf t)) (length-take-le _ F long ∙ sym (zeros-length (pairsOf t)))
+      (front-length ∙ sym (zeros-length (pixelsOf t))) (length-take-le _ work workHolds ∙ sym (zeros-length (2 * pairsOf t)))
 
-  pub job-shown : shown (answerIn (p .terms) (p .rounds) flowed S F image work)
-      (take (pixelsOf (p .terms)) (imageIn (p .terms) (p .rounds) flowed S F image work)) ≡ shown (jobAnswer p) (jobImage p)
+  pub job-shown : shown (answerIn (p .terms) (p .rounds) weighted flowed S W F image work)
+      (take (pixelsOf (p .terms)) (imageIn (p .terms) (p .rounds) weighted flowed S W F image work)) ≡ shown (jobAnswer p) (jobImage p)
   unfolding jobAnswer jobImage
   job-shown =
-      ap (shown (answerIn (p .terms) (p .rounds) flowed S F image work))
-      (take-at (imageFront (p .terms) (p .rounds) flowed S F image work) (drop (pixelsOf (p .terms)) image) (pixelsOf (p .terms)) (by-front flowed))
+      ap (shown (answerIn (p .terms) (p .rounds) weighted flowed S W F image work))
+      (take-at (imageFront (p .terms) (p .rounds) weighted flowed S W F image work) (drop (pixelsOf (p .terms)) image)
+      (pixelsOf (p .terms)) (by-front flowed))
       ∙ go (eqb (length (p .flow)) 0) refl
     where
-      listed : eqb (length (p .flow)) 0 ≡ false → length (p .flow) ≡ pairsOf (p .terms)
-      listed h = ⊎-elim (λ (z : length (p .flow) ≡ 0). absurd (eqb-false _ _ h z)) (λ (e : length (p .flow) ≡ pairsOf (p .terms)). e) (f .flows)
+      t : Terms
+      t = p .terms
+
+      listed : eqb (length (p .flow)) 0 ≡ false → length (p .flow) ≡ pairsOf t
+      listed h =
+          ⊎-elim (λ (z : length (p .flow) ≡ 0). absurd (eqb-false _ _ h z)) (λ (e : length (p .flow) ≡ pairsOf t). e) (f .flows)
 
       go : (b : Bool) → eqb (length (p .flow)) 0 ≡ b →
           front (not b)
           ≡ shown
-          (cond b (runAnswer (p .terms) (p .rounds) (p .samples) (zeros (pairsOf (p .terms))) (zeros (pixelsOf (p .terms))) (zeros (2 * pairsOf (p .terms)))) (checkAnswer (p .terms) (p .samples) (p .flow) (zeros (pixelsOf (p .terms)))))
-          (cond b (runImage (p .terms) (p .rounds) (p .samples) (zeros (pairsOf (p .terms))) (zeros (pixelsOf (p .terms))) (zeros (2 * pairsOf (p .terms)))) (checkImage (p .terms) (p .samples) (p .flow) (zeros (pixelsOf (p .terms)))))
+          (cond b
+          (runAnswer t (p .rounds) (p .samples) (p .weights) (zeros (pairsOf t)) (zeros (pixelsOf t)) (zeros (2 * pairsOf t)))
+          (checkAnswer t (p .samples) (p .weights) (p .flow) (zeros (pixelsOf t))))
+          (cond b
+          (runImage t (p .rounds) (p .samples) (p .weights) (zeros (pairsOf t)) (zeros (pixelsOf t)) (zeros (2 * pairsOf t)))
+          (checkImage t (p .samples) (p .weights) (p .flow) (zeros (pixelsOf t))))
       go true h = ran (eqb-true _ _ h)
       go false h = checked (listed h)
 
@@ -140,50 +189,55 @@ none-small : sizeAllowed 0 0 ≡ false
 unfolding sizeAllowed
 none-small = refl
 
-module _ (input samples : List ℕ) (flow : List ℤ) (byte : (i : ℕ) → getD input i 0 < 256) where
+module _ (input samples : List ℕ) (weights flow : List ℤ) (byte : (i : ℕ) → getD input i 0 < 256) where
   abbrev tape : Parse
-  tape = parse input (lentBy samples flow)
+  tape = parse input (lentBy samples weights flow)
 
   -- a job: the tape is whole
-  pub record Taken (t : Terms) (r : Rounds) (flowed : Bool) : Type 0 where
+  pub record Taken (t : Terms) (r : Rounds) (weighted flowed : Bool) : Type 0 where
     pub p : Progress
     pub is : tape ≡ whole p
-    pub fits : Fits (length samples) (length flow) p
+    pub fits : Fits (length samples) (length weights) (length flow) p
+    pub answer : readAnswerOf (ReadResult.Job t r weighted flowed) ≡ readOf (whole p)
     pub terms : t ≡ p .terms
-    pub rounds : r ≡ p .rounds
-    pub flows : flowed ≡ not (eqb (length (p .flow)) 0)
 
-  pub taken : (t : Terms) (r : Rounds) (flowed : Bool) → readAnswerOf (ReadResult.Job t r flowed) ≡ readAnswer input samples flow → Taken t r flowed
-  taken t r flowed e = go (accepted-parse input samples flow (ap (λ (a : ReadAnswer). a .number) (sym e)))
+  pub taken : (t : Terms) (r : Rounds) (weighted flowed : Bool) →
+      readAnswerOf (ReadResult.Job t r weighted flowed) ≡ readAnswer input samples weights flow → Taken t r weighted flowed
+  taken t r weighted flowed e = go (accepted-parse input samples weights flow (ap (λ (a : ReadAnswer). a .number) (sym e)))
     where
-      go : (p : Progress) × (tape ≡ whole p) → Taken t r flowed
+      go : (p : Progress) × (tape ≡ whole p) → Taken t r weighted flowed
       go (p, h) =
-          let a : readAnswerOf (ReadResult.Job t r flowed) ≡ readOf (whole p) = e ∙ answer-by input samples flow h in
+          let a : readAnswerOf (ReadResult.Job t r weighted flowed) ≡ readOf (whole p) =
+          e ∙ answer-by input samples weights flow h in
           record {
             p = p;
             is = h;
-            fits = whole-fits input samples flow byte p h;
+            fits = whole-fits input samples weights flow byte p h;
+            answer = a;
             terms = ap (λ (x : ReadAnswer). x .terms) a;
-            rounds = ap (λ (x : ReadAnswer). x .rounds) a;
-            flows = ap (λ (x : ReadAnswer). x .flowed) a;
           }
 
   -- a refusal: the tape is turned back with it
-  pub turned-back : (number place : ℕ) → readAnswerOf (ReadResult.Refused number place) ≡ readAnswer input samples flow → tape ≡ turned number place
+  pub turned-back : (number place : ℕ) →
+      readAnswerOf (ReadResult.Refused number place) ≡ readAnswer input samples weights flow → tape ≡ turned number place
   turned-back number place e = go tape refl
     where
       go : (r : Parse) → tape ≡ r → tape ≡ turned number place
       go (turned n q) h =
-          let a : readAnswerOf (ReadResult.Refused number place) ≡ readOf (turned n q) = e ∙ answer-by input samples flow h in
+          let a : readAnswerOf (ReadResult.Refused number place) ≡ readOf (turned n q) =
+          e ∙ answer-by input samples weights flow h in
           h ∙ ap₂ turned (sym (ap (λ (x : ReadAnswer). x .number) a)) (sym (ap (λ (x : ReadAnswer). x .place) a))
       go (whole p) h =
-          let a : readAnswerOf (ReadResult.Refused number place) ≡ readOf (whole p) = e ∙ answer-by input samples flow h in
-          absurd
-          (true≢false (sym (subst (λ (t : Terms). sizeAllowed (t .width) (t .height) ≡ true) (sym (ap (λ (x : ReadAnswer). x .terms) a)) (whole-fits input samples flow byte p h .size)) ∙ none-small))
+          let a : readAnswerOf (ReadResult.Refused number place) ≡ readOf (whole p) =
+          e ∙ answer-by input samples weights flow h in
+          let small =
+          subst (λ (t : Terms). sizeAllowed (t .width) (t .height) ≡ true) (sym (ap (λ (x : ReadAnswer). x .terms) a))
+          (whole-fits input samples weights flow byte p h .size) in
+          absurd (true≢false (sym small ∙ none-small))
 
-  module _ (number place : ℕ) (e : readAnswerOf (ReadResult.Refused number place) ≡ readAnswer input samples flow) where
-    refused : eqb (readAnswer input samples flow .number) 0 ≡ false
-    refused = go (eqb (readAnswer input samples flow .number) 0) refl
+  module _ (number place : ℕ) (e : readAnswerOf (ReadResult.Refused number place) ≡ readAnswer input samples weights flow) where
+    refused : eqb (readAnswer input samples weights flow .number) 0 ≡ false
+    refused = go (eqb (readAnswer input samples weights flow .number) 0) refl
       where
         clash : (p : Progress) × (tape ≡ whole p) → ⊥
         clash (p, h) =
@@ -191,38 +245,42 @@ module _ (input samples : List ℕ) (flow : List ℤ) (byte : (i : ℕ) → getD
             let z : _≡_ {A = ℕ} 0 1 = cc in
             absurd (omega arith)
 
-        go : (b : Bool) → eqb (readAnswer input samples flow .number) 0 ≡ b → b ≡ false
-        go true h = absurd (clash (accepted-parse input samples flow (eqb-true _ _ h)))
+        go : (b : Bool) → eqb (readAnswer input samples weights flow .number) 0 ≡ b → b ≡ false
+        go true h = absurd (clash (accepted-parse input samples weights flow (eqb-true _ _ h)))
         go false h = refl
 
     -- the text, and the tables as they were
     pub refused-text : refusalText (refusal number place) ≡ readText tape
     refused-text = ap readText (sym (turned-back number place e))
 
-    pub refused-keeps : (left former : List ℤ) → former ≡ cond (eqb (readAnswer input samples flow .number) 0) left former
+    pub refused-keeps : (left former : List ℤ) →
+        former ≡ cond (eqb (readAnswer input samples weights flow .number) 0) left former
     refused-keeps left former = ap (λ (b : Bool). cond b left former) (sym refused)
 
-    pub refused-flow : (left : List ℤ) {values : List ℤ} → values ≡ readFlow input samples flow →
-        values ≡ cond (eqb (readAnswer input samples flow .number) 0) left flow
+    pub refused-flow : (left : List ℤ) {values : List ℤ} → values ≡ readFlow input samples weights flow →
+        values ≡ cond (eqb (readAnswer input samples weights flow .number) 0) left flow
     refused-flow left g =
-        g ∙ flow-by input samples flow (turned-back number place e) ∙ refused-keeps left flow
+        g ∙ flow-by input samples weights flow (turned-back number place e) ∙ refused-keeps left flow
 
 -- ---- a job in the tables
 
-module _ {input samples : List ℕ} {flow : List ℤ} {byte : (i : ℕ) → getD input i 0 < 256} {t : Terms} {r : Rounds} {flowed : Bool}
-    (k : Taken input samples flow byte t r flowed) where
+module _ {input samples : List ℕ} {weights flow : List ℤ} {byte : (i : ℕ) → getD input i 0 < 256} {t : Terms} {r : Rounds}
+    {weighted flowed : Bool} (k : Taken input samples weights flow byte t r weighted flowed) where
   pub allowed : sizeAllowed (t .width) (t .height) ≡ true
   allowed = subst (λ (u : Terms). sizeAllowed (u .width) (u .height) ≡ true) (sym (k .terms)) (k .fits .size)
 
-  held : (pixelsOf t ≤ length samples) × (pairsOf t ≤ length flow)
-  held = subst (λ (u : Terms). (pixelsOf u ≤ length samples) × (pairsOf u ≤ length flow)) (sym (k .terms)) (k .fits .samplesHold, k .fits .flowHolds)
+  held : (pixelsOf t ≤ length samples) × (pairsOf t ≤ length weights) × (pairsOf t ≤ length flow)
+  held =
+      subst (λ (u : Terms). (pixelsOf u ≤ length samples) × (pairsOf u ≤ length weights) × (pairsOf u ≤ length flow))
+      (sym (k .terms)) (k .fits .samplesHold, k .fits .weightsHold, k .fits .flowHolds)
 
   module _ {image work : ℕ} (holds : Holds (length samples) (length flow) image work) where
-    pub tables : {s f : ℕ} → s ≡ length samples → f ≡ length flow → Tables t s f image work
-    tables e g =
+    pub tables : {s w f : ℕ} → s ≡ length samples → w ≡ length weights → f ≡ length flow → Tables t s w f image work
+    tables e h g =
         record {
           size = allowed;
           samplesHold = omega (arith, held);
+          weightsHold = omega (arith, held);
           flowHolds = omega (arith, held);
           imageHolds = omega (arith, held, holds .imageHolds);
           workHolds = omega (arith, held, holds .workHolds);
@@ -237,42 +295,47 @@ module _ {input samples : List ℕ} {flow : List ℤ} {byte : (i : ℕ) → getD
 
   -- what is shown of the job, and what is left in the tables
   module _ (image work : List ℤ) (holds : Holds (length samples) (length flow) (length image) (length work))
-      {S : List ℕ} {F : List ℤ} (s : S ≡ readSamples input samples flow) (f : F ≡ readFlow input samples flow) where
+      {S : List ℕ} {W F : List ℤ} (s : S ≡ readSamples input samples weights flow)
+      (w : W ≡ readWeights input samples weights flow) (f : F ≡ readFlow input samples weights flow) where
     read-shown : {X : Type 0} (shown : Terms → Answer → List ℤ → X) → ((u : Terms) → Shows (shown u)) →
-        {a : Answer} {values : List ℤ} → a ≡ answerIn t r flowed S F image work → values ≡ imageIn t r flowed S F image work →
+        {a : Answer} {values : List ℤ} → a ≡ answerIn t r weighted flowed S W F image work →
+        values ≡ imageIn t r weighted flowed S W F image work →
         shown t a (take (pixelsOf t) values) ≡ shown (k .p .terms) (jobAnswer (k .p)) (jobImage (k .p))
     read-shown {X} shown shows e g =
         ap₂ (λ (b : Answer) (l : List ℤ). shown t b (take (pixelsOf t) l)) e g
-        ∙ ap (λ (u : Terms). there u r flowed S F) (k .terms)
-        ∙ ap (λ (u : Rounds). there (k .p .terms) u flowed S F) (k .rounds)
-        ∙ ap (λ (b : Bool). there (k .p .terms) (k .p .rounds) b S F) (k .flows)
-        ∙ ap₂ (there (k .p .terms) (k .p .rounds) (not (eqb (length (k .p .flow)) 0))) (s ∙ samples-by input samples flow (k .is)) (f ∙ flow-by input samples flow (k .is))
-        ∙ job-shown (shown (k .p .terms)) (shows (k .p .terms)) (k .p) samples flow image work (k .fits) (omega (arith, k .fits .samplesHold, holds .imageHolds)) (omega (arith, k .fits .flowHolds, holds .workHolds))
+        ∙ ap (λ (x : ReadAnswer). there x S W F) (k .answer)
+        ∙ ap₂ (λ (l : List ℕ) (m : List ℤ). there (readOf (whole (k .p))) l m F)
+        (s ∙ samples-by input samples weights flow (k .is)) (w ∙ weights-by input samples weights flow (k .is))
+        ∙ ap (there (readOf (whole (k .p))) _ _) (f ∙ flow-by input samples weights flow (k .is))
+        ∙ job-shown (shown (k .p .terms)) (shows (k .p .terms)) (k .p) samples weights flow image work (k .fits)
+        (omega (arith, k .fits .samplesHold, holds .imageHolds)) (omega (arith, k .fits .flowHolds, holds .workHolds))
       where
-        there : Terms → Rounds → Bool → List ℕ → List ℤ → X
-        there u q b l m = shown u (answerIn u q b l m image work) (take (pixelsOf u) (imageIn u q b l m image work))
+        there : ReadAnswer → List ℕ → List ℤ → List ℤ → X
+        there x l m n =
+            shown (x .terms) (answerIn (x .terms) (x .rounds) (x .weighted) (x .flowed) l m n image work)
+            (take (pixelsOf (x .terms)) (imageIn (x .terms) (x .rounds) (x .weighted) (x .flowed) l m n image work))
 
-    pub read-text : {a : Answer} {values : List ℤ} → a ≡ answerIn t r flowed S F image work → values ≡ imageIn t r flowed S F image work →
-        answerText a t (take (pixelsOf t) values) ≡ readText (parse input (lentBy samples flow))
+    pub read-text : {a : Answer} {values : List ℤ} → a ≡ answerIn t r weighted flowed S W F image work →
+        values ≡ imageIn t r weighted flowed S W F image work →
+        answerText a t (take (pixelsOf t) values) ≡ readText (parse input (lentBy samples weights flow))
     read-text e g = read-shown (λ u a values. answerText a u values) text-shows e g ∙ ap readText (sym (k .is))
 
-    pub read-answer : {a : Answer} → a ≡ answerIn t r flowed S F image work → a ≡ jobAnswer (k .p)
+    pub read-answer : {a : Answer} → a ≡ answerIn t r weighted flowed S W F image work → a ≡ jobAnswer (k .p)
     read-answer e = read-shown (λ (_ : Terms) (a : Answer) (_ : List ℤ). a) (λ _. answer-shows) e refl
 
-    module _ (e : readAnswerOf (ReadResult.Job t r flowed) ≡ readAnswer input samples flow) {values : List ℤ} where
-      left-by : (leaves : Terms → Rounds → Bool → List ℕ → List ℤ → List ℤ) (former : List ℤ) → values ≡ leaves t r flowed S F →
-          let a : ReadAnswer = readAnswer input samples flow in
-          values ≡ cond (eqb (a .number) 0) (leaves (a .terms) (a .rounds) (a .flowed) (readSamples input samples flow) (readFlow input samples flow)) former
-      left-by leaves former g =
-          subst
-          (λ (a : ReadAnswer). values ≡ cond (eqb (a .number) 0) (leaves (a .terms) (a .rounds) (a .flowed) (readSamples input samples flow) (readFlow input samples flow)) former)
-          e (g ∙ ap₂ (leaves t r flowed) s f)
-
-      pub flow-left : values ≡ flowIn t r flowed S F image work → values ≡ flowLeft input samples flow image work
-      flow-left = left-by (λ u q b l m. flowIn u q b l m image work) flow
-
-      pub image-left : values ≡ imageIn t r flowed S F image work → values ≡ imageLeft input samples flow image work
-      image-left = left-by (λ u q b l m. imageIn u q b l m image work) image
-
-      pub work-left : values ≡ workIn t r flowed S F image work → values ≡ workLeft input samples flow image work
-      work-left = left-by (λ u q b l m. workIn u q b l m image work) work
+    -- what the job leaves in a table
+    pub left-in : readAnswerOf (ReadResult.Job t r weighted flowed) ≡ readAnswer input samples weights flow →
+        (leaves : Terms → Rounds → Bool → Bool → List ℕ → List ℤ → List ℤ → List ℤ → List ℤ → List ℤ) (former : List ℤ) {values : List ℤ} →
+        values ≡ leaves t r weighted flowed S W F image work → values ≡ after input samples weights flow image work leaves former
+    left-in e leaves former {values} g =
+        g
+        ∙ ap₂ (λ (l : List ℕ) (m : List ℤ). leaves t r weighted flowed l m F image work) s w
+        ∙ ap (λ (n : List ℤ). by (readAnswerOf (ReadResult.Job t r weighted flowed)) n) f
+        ∙ ap (λ (a : ReadAnswer). by a (readFlow input samples weights flow)) e
+      where
+        by : ReadAnswer → List ℤ → List ℤ
+        by a n =
+            cond (eqb (a .number) 0)
+            (leaves (a .terms) (a .rounds) (a .weighted) (a .flowed) (readSamples input samples weights flow)
+            (readWeights input samples weights flow) n image work)
+            former

@@ -11,9 +11,10 @@ use Rattle.model.specs.Grid.{sizeAllowed}
 use Rattle.model.specs.Calls.{Answer, pixelsOf, pairsOf, checkAnswer, checkImage, runAnswer, runFlow, runImage, runWork}
 
 -- an allowed size, and tables that are long enough
-pub record Tables (t : Terms) (samples flow image work : ℕ) : Type 0 where
+pub record Tables (t : Terms) (samples weights flow image work : ℕ) : Type 0 where
   pub size : sizeAllowed (t .width) (t .height) ≡ true
   pub samplesHold : pixelsOf t ≤ samples
+  pub weightsHold : pairsOf t ≤ weights
   pub flowHolds : pairsOf t ≤ flow
   pub imageHolds : pixelsOf t ≤ image
   pub workHolds : 2 * pairsOf t ≤ work
@@ -23,10 +24,17 @@ pub record Holds (samples flow image work : ℕ) : Type 0 where
   pub imageHolds : samples ≤ image
   pub workHolds : 2 * flow ≤ work
 
-module _ (t : Terms) (r : Rounds) (flowed : Bool) (samples : List ℕ) (flow image work : List ℤ) where
+-- how many weights a job has: one for each pair where they were there, else none
+abbrev pub weightsOf : Bool → ℕ → ℕ
+weightsOf weighted pairs = cond weighted pairs 0
+
+module _ (t : Terms) (r : Rounds) (weighted flowed : Bool) (samples : List ℕ) (weights flow image work : List ℤ) where
   -- what the calls are lent: the tables' fronts
   abbrev samplesLent : List ℕ
   samplesLent = take (pixelsOf t) samples
+
+  abbrev weightsLent : List ℤ
+  weightsLent = take (weightsOf weighted (pairsOf t)) weights
 
   abbrev flowLent : List ℤ
   flowLent = take (pairsOf t) flow
@@ -40,17 +48,21 @@ module _ (t : Terms) (r : Rounds) (flowed : Bool) (samples : List ℕ) (flow ima
   -- their answer, and what they leave in each front; the rest is left
   abbrev pub answerIn : Answer
   answerIn =
-      cond flowed (checkAnswer t samplesLent flowLent imageLent) (runAnswer t r samplesLent flowLent imageLent workLent)
+      cond flowed
+      (checkAnswer t samplesLent weightsLent flowLent imageLent)
+      (runAnswer t r samplesLent weightsLent flowLent imageLent workLent)
 
   abbrev pub imageFront : List ℤ
   imageFront =
-      cond flowed (checkImage t samplesLent flowLent imageLent) (runImage t r samplesLent flowLent imageLent workLent)
+      cond flowed
+      (checkImage t samplesLent weightsLent flowLent imageLent)
+      (runImage t r samplesLent weightsLent flowLent imageLent workLent)
 
   abbrev pub flowIn : List ℤ
-  flowIn = cond flowed flow (runFlow t r samplesLent flowLent imageLent workLent ++ drop (pairsOf t) flow)
+  flowIn = cond flowed flow (runFlow t r samplesLent weightsLent flowLent imageLent workLent ++ drop (pairsOf t) flow)
 
   abbrev pub imageIn : List ℤ
   imageIn = imageFront ++ drop (pixelsOf t) image
 
   abbrev pub workIn : List ℤ
-  workIn = cond flowed work (runWork t r samplesLent flowLent imageLent workLent ++ drop (2 * pairsOf t) work)
+  workIn = cond flowed work (runWork t r samplesLent weightsLent flowLent imageLent workLent ++ drop (2 * pairsOf t) work)

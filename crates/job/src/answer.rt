@@ -22,22 +22,34 @@ pub fn answer_of(
     tape: &[u8],
     t: Tally,
     samples: &mut [u8],
+    weights: &mut [i32],
     flow: &mut [i32],
     image: &mut [i32],
     work: &mut [i32],
 ) -> Answered
-    requires { ⌜ WholeRecords (now tape) (lentBy (now samples) (now flow)) t × Holds (length (now samples)) (length (now flow)) (length (now image)) (length (now work)) ⌝ }
-    ensures { λ r. ⌜ AnswerTo (parse (now (tape .entry)) (lentBy (now (samples .entry)) (now (flow .entry)))) (length (now (samples .entry))) r ⌝ }
+    requires { ⌜ WholeRecords (now tape) (lentBy (now samples) (now weights) (now flow)) t × Holds (length (now samples)) (length (now flow)) (length (now image)) (length (now work)) ⌝ }
+    ensures { λ r. ⌜ AnswerTo (parse (now (tape .entry)) (lentBy (now (samples .entry)) (now (weights .entry)) (now (flow .entry)))) (length (now (samples .entry))) r ⌝ }
 {
-    let got = take_numbers(tape, t, samples, flow);
+    let got = take_numbers(tape, t, samples, weights, flow);
     match got {
         ReadResult::Refused { number, place } => Answered::Refused(number, place),
         ReadResult::Job {
             terms,
             rounds,
+            weighted,
             flowed,
         } => {
-            let answer = treat(terms, rounds, flowed, samples, flow, image, work);
+            let answer = treat(
+                terms,
+                rounds,
+                weighted,
+                flowed,
+                samples,
+                weights,
+                flow,
+                image,
+                work,
+            );
             Answered::Job(answer, terms::pixels(terms.width, terms.height))
         }
     }

@@ -8,34 +8,46 @@ use model::Terms;
 ghost use mathlib.Core.Path.{_≡_};
 ghost use lib.ListN.{length};
 ghost use Rattle.calls.specs.Answers.{answerOf};
-ghost use Rattle.job.specs.Tables.{Tables, answerIn, flowIn, imageIn, workIn};
+ghost use Rattle.job.specs.Tables.{Tables, weightsOf, answerIn, flowIn, imageIn, workIn};
+
+// How many weights of pairs are lent: all or none.
+fn weights_of(weighted: bool, pairs: usize) -> usize
+    ensures { λ r. ⌜ r ≡ weightsOf weighted pairs ⌝ }
+{
+    if weighted { pairs } else { 0 }
+}
 
 // The front of each table is lent to the call, as long as the job needs it.
 pub fn treat(
     t: Terms,
     r: Rounds,
+    weighted: bool,
     flowed: bool,
     samples: &[u8],
+    weights: &[i32],
     flow: &mut [i32],
     image: &mut [i32],
     work: &mut [i32],
 ) -> Answer
-    requires { ⌜ Tables t (length (now samples)) (length (now flow)) (length (now image)) (length (now work)) ⌝ }
-    ensures { λ a. ⌜ answerOf a ≡ answerIn t r flowed (now (samples .entry)) (now (flow .entry)) (now (image .entry)) (now (work .entry)) ⌝ }
-    ensures { λ _. ⌜ now (flow .exit) ≡ flowIn t r flowed (now (samples .entry)) (now (flow .entry)) (now (image .entry)) (now (work .entry)) ⌝ }
-    ensures { λ _. ⌜ now (image .exit) ≡ imageIn t r flowed (now (samples .entry)) (now (flow .entry)) (now (image .entry)) (now (work .entry)) ⌝ }
-    ensures { λ _. ⌜ now (work .exit) ≡ workIn t r flowed (now (samples .entry)) (now (flow .entry)) (now (image .entry)) (now (work .entry)) ⌝ }
+    requires { ⌜ Tables t (length (now samples)) (length (now weights)) (length (now flow)) (length (now image)) (length (now work)) ⌝ }
+    ensures { λ a. ⌜ answerOf a ≡ answerIn t r weighted flowed (now (samples .entry)) (now (weights .entry)) (now (flow .entry)) (now (image .entry)) (now (work .entry)) ⌝ }
+    ensures { λ _. ⌜ now (flow .exit) ≡ flowIn t r weighted flowed (now (samples .entry)) (now (weights .entry)) (now (flow .entry)) (now (image .entry)) (now (work .entry)) ⌝ }
+    ensures { λ _. ⌜ now (image .exit) ≡ imageIn t r weighted flowed (now (samples .entry)) (now (weights .entry)) (now (flow .entry)) (now (image .entry)) (now (work .entry)) ⌝ }
+    ensures { λ _. ⌜ now (work .exit) ≡ workIn t r weighted flowed (now (samples .entry)) (now (weights .entry)) (now (flow .entry)) (now (image .entry)) (now (work .entry)) ⌝ }
 {
     let n = terms::pixels(t.width, t.height);
     let m = terms::pairs(t.width, t.height);
     let codes = &samples[..n];
+    let count = weights_of(weighted, m);
+    let own = &weights[..count];
     if flowed {
-        check(t, codes, &flow[..m], &mut image[..n])
+        check(t, codes, own, &flow[..m], &mut image[..n])
     } else {
         run(
             t,
             r,
             codes,
+            own,
             &mut flow[..m],
             &mut image[..n],
             &mut work[..2 * m],

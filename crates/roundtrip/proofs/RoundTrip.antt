@@ -183,7 +183,7 @@ left-reads-back t r s w f output small e h z =
 -- ---- an accepted tape, read and written again, gives its own bytes
 
 -- how many there are of what comes for every pair or for none
-counted : (n pairs : ℕ) → (n ≡ 0) ⊎ (n ≡ pairs) → cond (not (eqb n 0)) pairs 0 ≡ n
+pub counted : (n pairs : ℕ) → (n ≡ 0) ⊎ (n ≡ pairs) → cond (not (eqb n 0)) pairs 0 ≡ n
 counted n pairs = go (eqb n 0) refl
   where
     go : (b : Bool) → eqb n 0 ≡ b → (n ≡ 0) ⊎ (n ≡ pairs) → cond (not b) pairs 0 ≡ n

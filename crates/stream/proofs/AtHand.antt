@@ -42,7 +42,8 @@ module _ (bytes : List ℕ) (lent : Lent) (t : Totals) (few : t .jobs < 65535) w
         report =
             λ rest.
             counted-report lent t few (bytes ++ rest)
-            (λ z. omega (arith, z, length-append bytes rest, c .size, tape-length (c .job .terms) (c .job .rounds) (c .job .samples) (c .job .flow)))
+            (λ z.
+            omega (arith, z, length-append bytes rest, c .size, tape-length (c .job .terms) (c .job .rounds) (c .job .samples) (c .job .weights) (c .job .flow)))
             (first-whole lent bytes rest (c .read))
             ∙ ap₂ (λ (x : Totals) (n : ℕ). reportFrom lent x (drop n (bytes ++ rest))) (sym (c .added .totals)) (sym (c .size))
             ∙ ap (reportFrom lent after) (drop-append-le size bytes rest long);

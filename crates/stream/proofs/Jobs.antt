@@ -12,6 +12,7 @@ use Rattle.model.specs.declared.Lent.{Lent}
 use Rattle.model.specs.declared.Totals.{Totals}
 use Rattle.model.specs.declared.Verdict.{Verdict}
 use Rattle.model.specs.Verdict.{orElse, firstRefusal}
+use Rattle.model.specs.Grid.{weightOf}
 use Rattle.model.specs.Calls.{firstBeyond, flowRow}
 use Rattle.model.specs.Tape.{Progress, turned, whole, judged, unless, parse, tooShort, lentBy}
 use Rattle.model.specs.Season.{bytesOf}
@@ -38,10 +39,15 @@ module _ (bytes : List ℕ) (lent : Lent) {t : Tally} {o : ℕ} (r : Reached byt
     stopped-refused f s = record { refused = λ behind. ap judged (scan.refused-longer bytes lent r f e s behind); faulty = s }
 
 -- .. or at the end record
-module _ (bytes samples : List ℕ) (flow : List ℤ) {t : Tally} {o : ℕ} (r : Reached bytes (lentIn (length samples) (length flow)) t o)
-    (e : Step.Done ≡ stepOf bytes o t (lentIn (length samples) (length flow))) where
+module _ (bytes samples : List ℕ) (weights flow : List ℤ) {t : Tally} {o : ℕ}
+    (r : Reached bytes (lentIn (length samples) (length weights) (length flow)) t o)
+    (e : Step.Done ≡ stepOf bytes o t (lentIn (length samples) (length weights) (length flow))) where
   abbrev lent : Lent
-  lent = lentIn (length samples) (length flow)
+  lent = lentIn (length samples) (length weights) (length flow)
+
+  -- a pair's own weight
+  abbrev weight : ℕ → ℕ
+  weight = weightOf (r .progress .terms) (r .progress .weights)
 
   abbrev tape : List ℕ
   tape = take (o + 1) bytes
@@ -52,12 +58,12 @@ module _ (bytes samples : List ℕ) (flow : List ℤ) {t : Tally} {o : ℕ} (r :
   size : length tape ≡ o + 1
   size = length-take-le (o + 1) bytes inside
 
-  alone : recordsOf tape (lentBy samples flow) ≡ whole (r .progress)
+  alone : recordsOf tape (lentBy samples weights flow) ≡ whole (r .progress)
   alone =
       scan.finished bytes lent r e .job tape (omega (arith, size)) (take-take (o + 1) (o + 1) bytes (omega arith)) false
       (λ _. omega (arith, size))
 
-  pub records : WholeRecords tape (lentBy samples flow) t
+  pub records : WholeRecords tape (lentBy samples weights flow) t
   records = (r .progress, alone, r .counted)
 
   followed : (behind : List ℕ) → recordsOf (bytes ++ behind) lent ≡ whole (r .progress)
@@ -66,34 +72,34 @@ module _ (bytes samples : List ℕ) (flow : List ℤ) {t : Tally} {o : ℕ} (r :
       (take-append-le (o + 1) bytes behind inside) true (λ z. absurd (true≢false z))
 
   -- so what is read of the job's own bytes is what is read of all
-  same : (behind : List ℕ) → parse (bytes ++ behind) lent ≡ parse tape (lentBy samples flow)
+  same : (behind : List ℕ) → parse (bytes ++ behind) lent ≡ parse tape (lentBy samples weights flow)
   unfolding parse
   same behind = ap judged (followed behind ∙ sym alone)
 
   -- 8 is no number that says that the input ends
-  faulty : {n q : ℕ} → parse tape (lentBy samples flow) ≡ turned n q → tooShort n ≡ false
+  faulty : {n q : ℕ} → parse tape (lentBy samples weights flow) ≡ turned n q → tooShort n ≡ false
   unfolding parse firstRefusal
-  faulty {n} {q} h = go (firstRefusal (flowRow (r .progress .terms .weight) (r .progress .flow) ∷ [])) refl (sym (ap judged alone) ∙ h)
+  faulty {n} {q} h = go (firstRefusal (flowRow weight (r .progress .flow) ∷ [])) refl (sym (ap judged alone) ∙ h)
     where
       eight : (b : Bool) (x : ℕ) {m l : ℕ} → orElse b (Verdict.Refuse 8 x) Verdict.Accept ≡ Verdict.Refuse m l → m ≡ 8
       eight true x e = cc
       eight false x e = cc
 
-      go : (v : Verdict) → firstRefusal (flowRow (r .progress .terms .weight) (r .progress .flow) ∷ []) ≡ v → unless v (whole (r .progress)) ≡ turned n q → tooShort n ≡ false
+      go : (v : Verdict) → firstRefusal (flowRow weight (r .progress .flow) ∷ []) ≡ v → unless v (whole (r .progress)) ≡ turned n q → tooShort n ≡ false
       go Verdict.Accept e h = cc
       go (Verdict.Refuse m l) e h =
           let is : n ≡ m = cc in
           let flow : List ℤ = r .progress .flow in
-          let first : ℕ = firstBeyond (r .progress .terms .weight) flow in
+          let first : ℕ = firstBeyond weight flow in
           ap tooShort (is ∙ eight (ltb first (length flow)) first e)
 
   -- a job's bytes are its tape's
-  bytes-of : ((i : ℕ) → getD bytes i 0 < 256) → {p : Progress} → parse tape (lentBy samples flow) ≡ whole p → length tape ≡ bytesOf p
+  bytes-of : ((i : ℕ) → getD bytes i 0 < 256) → {p : Progress} → parse tape (lentBy samples weights flow) ≡ whole p → length tape ≡ bytesOf p
   unfolding bytesOf
   bytes-of byte {p} h =
-      ap length (accepted-job tape (lentBy samples flow) (front-bytes (o + 1) bytes byte) refl p (passed-parse tape samples flow p h .0) .bytes)
+      ap length (accepted-job tape (lentBy samples weights flow) (front-bytes (o + 1) bytes byte) refl p (passed-parse tape samples weights flow p h .0) .bytes)
 
-  pub ended : ((i : ℕ) → getD bytes i 0 < 256) → (totals : Totals) (taken : Taken) → CountedAs (parse tape (lentBy samples flow)) (length tape) totals taken → TakenFrom bytes lent totals taken
+  pub ended : ((i : ℕ) → getD bytes i 0 < 256) → (totals : Totals) (taken : Taken) → CountedAs (parse tape (lentBy samples weights flow)) (length tape) totals taken → TakenFrom bytes lent totals taken
   ended byte totals (Taken.Short n q u i) h = absurd h
   ended byte totals (Taken.Refused n q) h = record { refused = λ behind. same behind ∙ h; faulty = faulty h }
   ended byte totals (Taken.Counted after n) h =

@@ -15,8 +15,8 @@ use Rattle.report.specs.Counted.{Bounded, withJob}
 use Rattle.stream.specs.declared.take.Taken.{Taken}
 
 -- what a season's reading is lent by tables of these lengths; more may follow a job
-abbrev pub lentIn : ℕ → ℕ → Lent
-lentIn samples flow = record { samples = samples; flow = flow; followed = true }
+abbrev pub lentIn : ℕ → ℕ → ℕ → Lent
+lentIn samples weights flow = record { samples = samples; weights = weights; flow = flow; followed = true }
 
 -- what taking a job asks of the totals and of the tables' lengths
 pub record Ready (totals : Totals) (samples flow image work : ℕ) : Type 0 where

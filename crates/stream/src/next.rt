@@ -30,12 +30,13 @@ pub fn next_of(
     before: Tally,
     totals: Totals,
     samples: &mut [u8],
+    weights: &mut [i32],
     flow: &mut [i32],
     image: &mut [i32],
     work: &mut [i32],
 ) -> Next
-    requires { ⌜ Reached (now bytes) (lentIn (length (now samples)) (length (now flow))) before at × (at ≤ 65536) × Ready totals (length (now samples)) (length (now flow)) (length (now image)) (length (now work)) ⌝ }
-    ensures { λ r. ⌜ NextOf (now (bytes .entry)) ended (lentIn (length (now (samples .entry))) (length (now (flow .entry)))) totals r ⌝ }
+    requires { ⌜ Reached (now bytes) (lentIn (length (now samples)) (length (now weights)) (length (now flow))) before at × (at ≤ 65536) × Ready totals (length (now samples)) (length (now flow)) (length (now image)) (length (now work)) ⌝ }
+    ensures { λ r. ⌜ NextOf (now (bytes .entry)) ended (lentIn (length (now (samples .entry))) (length (now (weights .entry))) (length (now (flow .entry)))) totals r ⌝ }
 {
     let len = bytes.len();
     let count = if 65536 < len { 65536 } else { len };
@@ -45,6 +46,7 @@ pub fn next_of(
         before,
         totals,
         samples,
+        weights,
         flow,
         image,
         work,

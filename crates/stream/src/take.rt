@@ -30,14 +30,15 @@ fn count_job(
     t: Tally,
     totals: Totals,
     samples: &mut [u8],
+    weights: &mut [i32],
     flow: &mut [i32],
     image: &mut [i32],
     work: &mut [i32],
 ) -> Taken
-    requires { ⌜ WholeRecords (now tape) (lentBy (now samples) (now flow)) t × Ready totals (length (now samples)) (length (now flow)) (length (now image)) (length (now work)) ⌝ }
-    ensures { λ r. ⌜ CountedAs (parse (now (tape .entry)) (lentBy (now (samples .entry)) (now (flow .entry)))) (length (now (tape .entry))) totals r ⌝ }
+    requires { ⌜ WholeRecords (now tape) (lentBy (now samples) (now weights) (now flow)) t × Ready totals (length (now samples)) (length (now flow)) (length (now image)) (length (now work)) ⌝ }
+    ensures { λ r. ⌜ CountedAs (parse (now (tape .entry)) (lentBy (now (samples .entry)) (now (weights .entry)) (now (flow .entry)))) (length (now (tape .entry))) totals r ⌝ }
 {
-    let a = answer_of(tape, t, samples, flow, image, work);
+    let a = answer_of(tape, t, samples, weights, flow, image, work);
     match a {
         Answered::Refused(number, place) => Taken::Refused(number, place),
         Answered::Job(answer, pixels) => Taken::Counted(
@@ -54,15 +55,17 @@ pub fn take_job(
     before: Tally,
     totals: Totals,
     samples: &mut [u8],
+    weights: &mut [i32],
     flow: &mut [i32],
     image: &mut [i32],
     work: &mut [i32],
 ) -> Taken
-    requires { ⌜ Reached (now bytes) (lentIn (length (now samples)) (length (now flow))) before at × Ready totals (length (now samples)) (length (now flow)) (length (now image)) (length (now work)) ⌝ }
-    ensures { λ r. ⌜ TakenFrom (now (bytes .entry)) (lentIn (length (now (samples .entry))) (length (now (flow .entry)))) totals r ⌝ }
+    requires { ⌜ Reached (now bytes) (lentIn (length (now samples)) (length (now weights)) (length (now flow))) before at × Ready totals (length (now samples)) (length (now flow)) (length (now image)) (length (now work)) ⌝ }
+    ensures { λ r. ⌜ TakenFrom (now (bytes .entry)) (lentIn (length (now (samples .entry))) (length (now (weights .entry))) (length (now (flow .entry)))) totals r ⌝ }
 {
     let lent = Lent {
         samples: samples.len(),
+        weights: weights.len(),
         flow: flow.len(),
         followed: true,
     };
@@ -77,7 +80,7 @@ pub fn take_job(
         }
         Scanned::Whole(t, end) => {
             let size = end + 1;
-            count_job(&bytes[..size], t, totals, samples, flow, image, work)
+            count_job(&bytes[..size], t, totals, samples, weights, flow, image, work)
         }
     }
 }

@@ -26,26 +26,27 @@ enum-known-got-2 : tie.Need-enum-known-got-2
 enum-known-got-2 c = search needs
 
 -- the bytes of the tape
-bytes : (c : tie.After-take-numbers) → (i : ℕ) → getD (c .before .before .before .before .before .args .tape .now) i 0 < 256
-bytes c i = omega (arith, c .before .before .before .before .shared-slice-known .given i)
+bytes : (c : tie.After-take-numbers) → (i : ℕ) → getD (c .before .before .before .before .before .before .args .tape .now) i 0 < 256
+bytes c i = omega (arith, c .before .before .before .before .before .shared-slice-known .given i)
 
 -- the job that was read
-job-read : (c : tie.After-got2) → let a = c .before .before .before .before .before .before .before .before .before .before .args in let v = c .got2 .given .0 in
-    Taken (a .tape .now) (a .samples .now) (a .flow .now) (bytes (c .before .before .before .before .before)) (v .0) (v .1 .0) (v .1 .1 .0)
+job-read : (c : tie.After-got2) → let a = c .before .before .before .before .before .before .before .before .before .before .before .before .args in let v = c .got2 .given .0 in
+    Taken (a .tape .now) (a .samples .now) (a .weights .now) (a .flow .now) (bytes (c .before .before .before .before .before .before)) (v .0) (v .1 .0) (v .1 .1 .0) (v .1 .1 .1 .0)
 job-read c =
-    let a = c .before .before .before .before .before .before .before .before .before .before .args in
+    let a = c .before .before .before .before .before .before .before .before .before .before .before .before .args in
     let v = c .got2 .given .0 in
-    taken (a .tape .now) (a .samples .now) (a .flow .now) (bytes (c .before .before .before .before .before)) (v .0) (v .1 .0) (v .1 .1 .0)
-    (ap readAnswerOf (sym (c .got2 .given .1)) ∙ c .before .before .before .before .before .take-numbers .ensures .0)
+    taken (a .tape .now) (a .samples .now) (a .weights .now) (a .flow .now) (bytes (c .before .before .before .before .before .before)) (v .0) (v .1 .0) (v .1 .1 .0) (v .1 .1 .1 .0)
+    (ap readAnswerOf (sym (c .got2 .given .1)) ∙ c .before .before .before .before .before .before .take-numbers .ensures .0)
 
 treat-requires : tie.Need-treat-requires
 treat-requires c κs =
-    let s = c .before .before .before .before .before in
-    let kept = s .before .before .before .before .before .take-numbers .kept in
-    tables (job-read s) (s .before .before .before .before .before .before .before .before .before .before .pre .1) (kept .1 .1 .0) (kept .1 .1 .1 .0)
+    let s = c .before .before .before .before .before .before in
+    let kept = s .before .before .before .before .before .before .take-numbers .kept in
+    tables (job-read s) (s .before .before .before .before .before .before .before .before .before .before .before .before .pre .1) (kept .1 .1 .0) (kept .1 .1 .1 .0)
+    (kept .1 .1 .1 .1 .0)
 
 pixels-requires : tie.Need-pixels-requires
-pixels-requires c κs = allowed (job-read (c .before .before .before .before .before .before .before .before .before))
+pixels-requires c κs = allowed (job-read (c .before .before .before .before .before .before .before .before .before .before))
 
 same-length : tie.Need-same-length
 same-length c = search needs
@@ -53,16 +54,16 @@ same-length c = search needs
 same-length-2 : tie.Need-same-length-2
 same-length-2 c = search needs
 
+same-length-3 : tie.Need-same-length-3
+same-length-3 c = search needs
+
 returns : tie.Need-returns
 returns c =
     let g = c .before in
-    let s = g .before .before .before .before .before in
-    let a = s .before .before .before .before .before .args in
-    turned-back (a .tape .now) (a .samples .now) (a .flow .now) (bytes s) (g .got .given .0 .0) (g .got .given .0 .1 .0)
+    let s = g .before .before .before .before .before .before in
+    let a = s .before .before .before .before .before .before .args in
+    turned-back (a .tape .now) (a .samples .now) (a .weights .now) (a .flow .now) (bytes s) (g .got .given .0 .0) (g .got .given .0 .1 .0)
     (ap readAnswerOf (sym (g .got .given .1)) ∙ s .take-numbers .ensures .0)
-
-same-length-3 : tie.Need-same-length-3
-same-length-3 c = search needs
 
 same-length-4 : tie.Need-same-length-4
 same-length-4 c = search needs
@@ -73,24 +74,34 @@ same-length-5 c = search needs
 same-length-6 : tie.Need-same-length-6
 same-length-6 c = search needs
 
+same-length-7 : tie.Need-same-length-7
+same-length-7 c = search needs
+
+same-length-8 : tie.Need-same-length-8
+same-length-8 c = search needs
+
 returns-2 : tie.Need-returns-2
 returns-2 c =
     let s = c .before .before .before .before in
-    let g = s .before .before .before .before .before .before in
-    let d = g .before .before .before .before .before in
-    let start = d .before .before .before .before .before in
+    let g = s .before .before .before .before .before .before .before in
+    let d = g .before .before .before .before .before .before in
+    let start = d .before .before .before .before .before .before in
     let a = start .args in
     let k = job-read g in
     let sampled = d .take-numbers .ensures .1 .0 in
-    let flows = d .take-numbers .ensures .1 .1 in
-    let given = read-answer k (a .image .now) (a .work .now) (start .pre .1) sampled flows (s .treat .ensures .0) in
+    let weighed = d .take-numbers .ensures .1 .1 .0 in
+    let flows = d .take-numbers .ensures .1 .1 .1 in
+    let given = read-answer k (a .image .now) (a .work .now) (start .pre .1) sampled weighed flows (s .treat .ensures .0) in
     let v = g .got2 .given .0 in
-    let small = slack-most (v .0) (v .1 .0) (v .1 .1 .0) (d .take-numbers .last .1 .1 .0) (d .take-numbers .last .1 .1 .1 .0) (a .image .now) (a .work .now) (omega (arith, s .before .before .before .before .before .known-told2 .given)) (λ i. omega (arith, g .before .before .before .slice-known2 .given i)) in (
+    let left = d .take-numbers .last in
+    let small =
+    slack-most (v .0) (v .1 .0) (v .1 .1 .0) (v .1 .1 .1 .0) (left .1 .1 .0) (left .1 .1 .1 .0) (left .1 .1 .1 .1 .0) (a .image .now)
+    (a .work .now) (omega (arith, s .before .before .before .before .before .before .known-told2 .given)) (λ i. omega (arith, g .before .before .before .before .slice-known2 .given i)) in (
       k .p,
       k .is,
       record {
         answer = given;
-        accepted = whole-accepted (a .tape .now) (a .samples .now) (a .flow .now) (bytes d) (k .p) (k .is);
+        accepted = whole-accepted (a .tape .now) (a .samples .now) (a .weights .now) (a .flow .now) (bytes d) (k .p) (k .is);
         pixels = c .pixels .ensures ∙ ap (λ (u : Terms). pixelsOf u) (k .terms);
         held = k .fits .samplesHold;
         slack =
@@ -110,9 +121,11 @@ answer-of-spec =
     pixels-requires
     same-length
     same-length-2
-    returns
     same-length-3
+    returns
     same-length-4
     same-length-5
     same-length-6
+    same-length-7
+    same-length-8
     returns-2)

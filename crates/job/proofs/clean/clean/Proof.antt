@@ -8,7 +8,8 @@ use Rattle.model.specs.Program.{answerText}
 use Rattle.calls.specs.Answers.{answerOf}
 use Rattle.output.proofs.Laid.{put-as}
 use Rattle.tape_read.specs.Answers.{readAnswerOf}
-use Rattle.job.proofs.Texts.{Taken, taken, refused-text, refused-keeps, refused-flow, allowed, tables, enough, read-text, flow-left, image-left, work-left}
+use Rattle.job.specs.Tables.{flowIn, imageIn, workIn}
+use Rattle.job.proofs.Texts.{Taken, taken, refused-text, refused-keeps, refused-flow, allowed, tables, enough, read-text, left-in}
 use borrow.Author.Needs.{needs}
 use Rattle.job.proofs.clean.clean.Statement.{statement}
 use Rattle.job.proofs.clean.clean.Tie as tie
@@ -26,32 +27,32 @@ enum-known-got-2 : tie.Need-enum-known-got-2
 enum-known-got-2 c = search needs
 
 -- the bytes of the tape
-bytes : (c : tie.After-read) → (i : ℕ) → getD (c .before .before .before .before .before .before .args .input .now) i 0 < 256
-bytes c i = omega (arith, c .before .before .before .before .before .shared-slice-known .given i)
+bytes : (c : tie.After-read) → (i : ℕ) → getD (c .before .before .before .before .before .before .before .args .input .now) i 0 < 256
+bytes c i = omega (arith, c .before .before .before .before .before .before .shared-slice-known .given i)
 
 -- the job that was read
-job-read : (c : tie.After-got2) → let a = c .before .before .before .before .before .before .before .before .before .before .before .args in let v = c .got2 .given .0 in
-    Taken (a .input .now) (a .samples .now) (a .flow .now) (bytes (c .before .before .before .before .before)) (v .0) (v .1 .0) (v .1 .1 .0)
+job-read : (c : tie.After-got2) → let a = c .before .before .before .before .before .before .before .before .before .before .before .before .before .args in let v = c .got2 .given .0 in
+    Taken (a .input .now) (a .samples .now) (a .weights .now) (a .flow .now) (bytes (c .before .before .before .before .before .before)) (v .0) (v .1 .0) (v .1 .1 .0) (v .1 .1 .1 .0)
 job-read c =
-    let a = c .before .before .before .before .before .before .before .before .before .before .before .args in
+    let a = c .before .before .before .before .before .before .before .before .before .before .before .before .before .args in
     let v = c .got2 .given .0 in
-    taken (a .input .now) (a .samples .now) (a .flow .now) (bytes (c .before .before .before .before .before)) (v .0) (v .1 .0) (v .1 .1 .0)
-    (ap readAnswerOf (sym (c .got2 .given .1)) ∙ c .before .before .before .before .before .read .ensures .0)
+    taken (a .input .now) (a .samples .now) (a .weights .now) (a .flow .now) (bytes (c .before .before .before .before .before .before)) (v .0) (v .1 .0) (v .1 .1 .0) (v .1 .1 .1 .0)
+    (ap readAnswerOf (sym (c .got2 .given .1)) ∙ c .before .before .before .before .before .before .read .ensures .0)
 
 treat-requires : tie.Need-treat-requires
 treat-requires c κs =
-    let s = c .before .before .before .before .before in
-    let kept = s .before .before .before .before .before .read .kept in
-    tables (job-read s) (s .before .before .before .before .before .before .before .before .before .before .before .pre .holds) (kept .1 .0) (kept .1 .1 .0)
+    let s = c .before .before .before .before .before .before in
+    let kept = s .before .before .before .before .before .before .read .kept in
+    tables (job-read s) (s .before .before .before .before .before .before .before .before .before .before .before .before .before .pre .holds) (kept .1 .0) (kept .1 .1 .0) (kept .1 .1 .1 .0)
 
 pixels-requires : tie.Need-pixels-requires
-pixels-requires c κs = allowed (job-read (c .before .before .before .before .before .before .before .before .before))
+pixels-requires c κs = allowed (job-read (c .before .before .before .before .before .before .before .before .before .before))
 
 -- the image table holds the job's image
-shown : (c : tie.After-treat) → let t = c .before .before .before .before .before .before .got2 .given .0 .0 in t .width * t .height ≤ length (c .treat .last .1 .1 .1 .1 .1 .0)
+shown : (c : tie.After-treat) → let t = c .before .before .before .before .before .before .before .got2 .given .0 .0 in t .width * t .height ≤ length (c .treat .last .1 .1 .1 .1 .1 .1 .1 .0)
 shown c =
-    let s = c .before .before .before .before .before .before in
-    omega (arith, c .treat .kept .1 .1 .1 .1 .1 .0, tables (job-read s) (s .before .before .before .before .before .before .before .before .before .before .before .pre .holds) refl refl .imageHolds)
+    let s = c .before .before .before .before .before .before .before in
+    omega (arith, c .treat .kept .1 .1 .1 .1 .1 .1 .1 .0, tables (job-read s) (s .before .before .before .before .before .before .before .before .before .before .before .before .before .pre .holds) refl refl refl .imageHolds)
 
 slice-reshare-prefix-put-answer : tie.Need-slice-reshare-prefix-put-answer
 slice-reshare-prefix-put-answer c = omega (arith, c .before .pixels .ensures, shown (c .before .before .before .before .before))
@@ -62,8 +63,8 @@ slice-aggregate-put-answer c = sym (length-take-le _ _ (omega (arith, c .before 
 put-answer-requires : tie.Need-put-answer-requires
 put-answer-requires c κs =
     let s = c .before .before .before .before .before .before in (
-      omega (arith, c .before .before .pixels .ensures, shown s, length-take-le (c .before .before .pixels .result) (s .treat .last .1 .1 .1 .1 .1 .0) (omega (arith, c .before .before .pixels .ensures, shown s))),
-      enough (job-read (s .before .before .before .before .before .before)) (s .before .before .before .before .before .before .before .before .before .before .before .before .before .before .before .before .before .pre .outputHolds),
+      omega (arith, c .before .before .pixels .ensures, shown s, length-take-le (c .before .before .pixels .result) (s .treat .last .1 .1 .1 .1 .1 .1 .1 .0) (omega (arith, c .before .before .pixels .ensures, shown s))),
+      enough (job-read (s .before .before .before .before .before .before .before)) (s .before .before .before .before .before .before .before .before .before .before .before .before .before .before .before .before .before .before .before .before .pre .outputHolds),
     )
 
 same-length : tie.Need-same-length
@@ -75,26 +76,32 @@ same-length-2 c = search needs
 same-length-3 : tie.Need-same-length-3
 same-length-3 c = search needs
 
+same-length-4 : tie.Need-same-length-4
+same-length-4 c = search needs
+
 returns : tie.Need-returns
 returns c =
-    let s = c .before .before .before .before .before .before .before .before .before .before in
+    let s = c .before .before .before .before .before .before .before .before .before .before .before in
     let g = c .before .before .before .before .before in
-    let a = s .before .before .before .before .before .before .args in
+    let a = s .before .before .before .before .before .before .before .args in
     let n : ℕ = g .got .given .0 .0 in
     let q : ℕ = g .got .given .0 .1 .0 in
     let e = ap readAnswerOf (sym (g .got .given .1)) ∙ s .read .ensures .0 in (
-      put-as (refused-text (a .input .now) (a .samples .now) (a .flow .now) (bytes s) n q e) (c .before .before .put-refusal .ensures),
+      put-as (refused-text (a .input .now) (a .samples .now) (a .weights .now) (a .flow .now) (bytes s) n q e) (c .before .before .put-refusal .ensures),
       (
         s .read .ensures .1 .0,
         (
-          refused-flow (a .input .now) (a .samples .now) (a .flow .now) (bytes s) n q e _ (s .read .ensures .1 .1 .0),
-          (refused-keeps (a .input .now) (a .samples .now) (a .flow .now) (bytes s) n q e _ _, refused-keeps (a .input .now) (a .samples .now) (a .flow .now) (bytes s) n q e _ _),
+          s .read .ensures .1 .1 .0,
+          (
+            refused-flow (a .input .now) (a .samples .now) (a .weights .now) (a .flow .now) (bytes s) n q e _ (s .read .ensures .1 .1 .1 .0),
+            (
+              refused-keeps (a .input .now) (a .samples .now) (a .weights .now) (a .flow .now) (bytes s) n q e _ _,
+              refused-keeps (a .input .now) (a .samples .now) (a .weights .now) (a .flow .now) (bytes s) n q e _ _,
+            ),
+          ),
         ),
       ),
     )
-
-same-length-4 : tie.Need-same-length-4
-same-length-4 c = search needs
 
 same-length-5 : tie.Need-same-length-5
 same-length-5 c = search needs
@@ -108,29 +115,39 @@ same-length-7 c = search needs
 same-length-8 : tie.Need-same-length-8
 same-length-8 c = search needs
 
+same-length-9 : tie.Need-same-length-9
+same-length-9 c = search needs
+
+same-length-10 : tie.Need-same-length-10
+same-length-10 c = search needs
+
 returns-2 : tie.Need-returns-2
 returns-2 c =
     let s = c .before .before .before .before .before .before .before .before .before in
-    let g = s .before .before .before .before .before .before in
-    let d = g .before .before .before .before .before in
-    let start = d .before .before .before .before .before .before in
+    let g = s .before .before .before .before .before .before .before in
+    let d = g .before .before .before .before .before .before in
+    let start = d .before .before .before .before .before .before .before in
     let a = start .args in
     let k = job-read g in
     let e = ap readAnswerOf (sym (g .got2 .given .1)) ∙ d .read .ensures .0 in
     let sampled = d .read .ensures .1 .0 in
-    let flows = d .read .ensures .1 .1 .0 in
+    let weighed = d .read .ensures .1 .1 .0 in
+    let flows = d .read .ensures .1 .1 .1 .0 in
     let left = s .treat .ensures in (
       put-as
-          (ap (λ (n : ℕ). answerText (answerOf (s .treat .result)) (g .got2 .given .0 .0) (take n (s .treat .last .1 .1 .1 .1 .1 .0))) (c .before .before .before .before .before .pixels .ensures)
-          ∙ read-text k (a .image .now) (a .work .now) (start .pre .holds) sampled flows (left .0) (left .1 .1 .0))
+          (ap (λ (n : ℕ). answerText (answerOf (s .treat .result)) (g .got2 .given .0 .0) (take n (s .treat .last .1 .1 .1 .1 .1 .1 .1 .0))) (c .before .before .before .before .before .pixels .ensures)
+          ∙ read-text k (a .image .now) (a .work .now) (start .pre .holds) sampled weighed flows (left .0) (left .1 .1 .0))
           (c .before .before .put-answer .ensures),
       (
         sampled,
         (
-          flow-left k (a .image .now) (a .work .now) (start .pre .holds) sampled flows e (left .1 .0),
+          weighed,
           (
-            image-left k (a .image .now) (a .work .now) (start .pre .holds) sampled flows e (left .1 .1 .0),
-            work-left k (a .image .now) (a .work .now) (start .pre .holds) sampled flows e (left .1 .1 .1),
+            left-in k (a .image .now) (a .work .now) (start .pre .holds) sampled weighed flows e flowIn _ (left .1 .0),
+            (
+              left-in k (a .image .now) (a .work .now) (start .pre .holds) sampled weighed flows e imageIn _ (left .1 .1 .0),
+              left-in k (a .image .now) (a .work .now) (start .pre .holds) sampled weighed flows e workIn _ (left .1 .1 .1),
+            ),
           ),
         ),
       ),
@@ -152,10 +169,12 @@ clean-spec =
     same-length
     same-length-2
     same-length-3
-    returns
     same-length-4
+    returns
     same-length-5
     same-length-6
     same-length-7
     same-length-8
+    same-length-9
+    same-length-10
     returns-2)

@@ -3,34 +3,44 @@ use native.Mathlib.Omega.{arith}
 use mathlib.Core.Path.{_≡_, sym}
 use mathlib.Core.Bool.{Bool, true, false}
 use mathlib.Core.List.{List, _++_}
-use Prim.Native.Nat.{ℕ, _*_}
+use Prim.Native.Nat.{ℕ, _*_, _≤_}
 use lib.IntN.{ℤ}
 use lib.ListN.{take, drop}
 use lib.Seq.{length-take-le}
 use Rattle.model.specs.declared.Terms.{Terms}
 use Rattle.model.specs.declared.Rounds.{Rounds}
 use Rattle.model.specs.Calls.{Answer, pixelsOf, pairsOf, checkAnswer, checkImage, runAnswer, runFlow, runImage, runWork}
-use Rattle.job.specs.Tables.{answerIn, flowIn, imageIn, workIn}
+use Rattle.job.specs.Tables.{weightsOf, answerIn, flowIn, imageIn, workIn}
 use borrow.Author.Needs.{needs}
 use Rattle.job.proofs.treat.treat.Statement.{statement}
 use Rattle.job.proofs.treat.treat.Tie as tie
 
 -- what check and run leave, by the counts and the branch
-module _ (t : Terms) (r : Rounds) (s : List ℕ) (f i w : List ℤ) {n m : ℕ} (pixels : n ≡ pixelsOf t) (pairs : m ≡ pairsOf t) {flowed : Bool} where
+module _ (t : Terms) (r : Rounds) (weighted : Bool) (s : List ℕ) (o f i w : List ℤ) {n m k : ℕ} (pixels : n ≡ pixelsOf t)
+    (pairs : m ≡ pairsOf t) (weighs : k ≡ weightsOf weighted m) {flowed : Bool} where
   checked-in : {a : Answer} {values : List ℤ} → flowed ≡ true →
-      a ≡ checkAnswer t (take n s) (take m f) (take n i) → values ≡ checkImage t (take n s) (take m f) (take n i) →
-      (a ≡ answerIn t r flowed s f i w) × ((f ≡ flowIn t r flowed s f i w) × ((values ++ drop n i ≡ imageIn t r flowed s f i w) × (w ≡ workIn t r flowed s f i w)))
+      a ≡ checkAnswer t (take n s) (take k o) (take m f) (take n i) →
+      values ≡ checkImage t (take n s) (take k o) (take m f) (take n i) →
+      (a ≡ answerIn t r weighted flowed s o f i w)
+      × ((f ≡ flowIn t r weighted flowed s o f i w)
+      × ((values ++ drop n i ≡ imageIn t r weighted flowed s o f i w) × (w ≡ workIn t r weighted flowed s o f i w)))
   checked-in b e g = (cc, (cc, (cc, cc)))
 
   run-in : {a : Answer} {flow values work : List ℤ} → flowed ≡ false →
-      a ≡ runAnswer t r (take n s) (take m f) (take n i) (take (2 * m) w) →
-      flow ≡ runFlow t r (take n s) (take m f) (take n i) (take (2 * m) w) →
-      values ≡ runImage t r (take n s) (take m f) (take n i) (take (2 * m) w) →
-      work ≡ runWork t r (take n s) (take m f) (take n i) (take (2 * m) w) →
-      (a ≡ answerIn t r flowed s f i w)
-      × ((flow ++ drop m f ≡ flowIn t r flowed s f i w)
-      × ((values ++ drop n i ≡ imageIn t r flowed s f i w) × (work ++ drop (2 * m) w ≡ workIn t r flowed s f i w)))
-  run-in b e g h k = (cc, (cc, (cc, cc)))
+      a ≡ runAnswer t r (take n s) (take k o) (take m f) (take n i) (take (2 * m) w) →
+      flow ≡ runFlow t r (take n s) (take k o) (take m f) (take n i) (take (2 * m) w) →
+      values ≡ runImage t r (take n s) (take k o) (take m f) (take n i) (take (2 * m) w) →
+      work ≡ runWork t r (take n s) (take k o) (take m f) (take n i) (take (2 * m) w) →
+      (a ≡ answerIn t r weighted flowed s o f i w)
+      × ((flow ++ drop m f ≡ flowIn t r weighted flowed s o f i w)
+      × ((values ++ drop n i ≡ imageIn t r weighted flowed s o f i w)
+      × (work ++ drop (2 * m) w ≡ workIn t r weighted flowed s o f i w)))
+  run-in b e g h l = (cc, (cc, (cc, cc)))
+
+-- no more weights than pairs
+weights-most : (weighted : Bool) (pairs : ℕ) → weightsOf weighted pairs ≤ pairs
+weights-most true pairs = omega arith
+weights-most false pairs = omega arith
 
 pixels-requires : tie.Need-pixels-requires
 pixels-requires c κs = search needs
@@ -41,17 +51,25 @@ pairs-requires c κs = search needs
 slice-aggregate-codes : tie.Need-slice-aggregate-codes
 slice-aggregate-codes c = sym (length-take-le _ _ (omega (arith, c .before .before .pixels .ensures, c .before .before .before .before .pre)))
 
+weights-of-requires : tie.Need-weights-of-requires
+weights-of-requires c κs = search needs
+
+slice-aggregate-own : tie.Need-slice-aggregate-own
+slice-aggregate-own c =
+    let k = c .before .weights-of in
+    sym (length-take-le _ _ (omega (arith, k .ensures, weights-most (c .before .before .before .before .before .before .args .weighted) (c .before .before .before .pairs .result), c .before .before .before .pairs .ensures, c .before .before .before .before .before .before .pre)))
+
 slice-reshare-prefix-check : tie.Need-slice-reshare-prefix-check
 slice-reshare-prefix-check c = search needs
 
 slice-aggregate-check : tie.Need-slice-aggregate-check
-slice-aggregate-check c = sym (length-take-le _ _ (omega (arith, c .before .before .before .pairs .ensures, c .before .before .before .before .before .before .pre)))
+slice-aggregate-check c = sym (length-take-le _ _ (omega (arith, c .before .before .before .before .before .pairs .ensures, c .before .before .before .before .before .before .before .before .pre)))
 
 slice-relend-prefix-check : tie.Need-slice-relend-prefix-check
 slice-relend-prefix-check c = search needs
 
 slice-aggregate-check-2 : tie.Need-slice-aggregate-check-2
-slice-aggregate-check-2 c = sym (length-take-le _ _ (omega (arith, c .before .before .before .before .before .pixels .ensures, c .before .before .before .before .before .before .before .pre)))
+slice-aggregate-check-2 c = sym (length-take-le _ _ (omega (arith, c .before .before .before .before .before .before .before .pixels .ensures, c .before .before .before .before .before .before .before .before .before .pre)))
 
 check-requires : tie.Need-check-requires
 check-requires c κs = search needs
@@ -60,13 +78,13 @@ slice-relend-prefix-run : tie.Need-slice-relend-prefix-run
 slice-relend-prefix-run c = search needs
 
 slice-aggregate-run : tie.Need-slice-aggregate-run
-slice-aggregate-run c = sym (length-take-le _ _ (omega (arith, c .before .before .before .pairs .ensures, c .before .before .before .before .before .before .pre)))
+slice-aggregate-run c = sym (length-take-le _ _ (omega (arith, c .before .before .before .before .before .pairs .ensures, c .before .before .before .before .before .before .before .before .pre)))
 
 slice-relend-prefix-run-2 : tie.Need-slice-relend-prefix-run-2
 slice-relend-prefix-run-2 c = search needs
 
 slice-aggregate-run-2 : tie.Need-slice-aggregate-run-2
-slice-aggregate-run-2 c = sym (length-take-le _ _ (omega (arith, c .before .before .before .before .before .pixels .ensures, c .before .before .before .before .before .before .before .pre)))
+slice-aggregate-run-2 c = sym (length-take-le _ _ (omega (arith, c .before .before .before .before .before .before .before .pixels .ensures, c .before .before .before .before .before .before .before .before .before .pre)))
 
 mul-run : tie.Need-mul-run
 mul-run c = search needs
@@ -75,7 +93,7 @@ slice-relend-prefix-run-3 : tie.Need-slice-relend-prefix-run-3
 slice-relend-prefix-run-3 c = search needs
 
 slice-aggregate-run-3 : tie.Need-slice-aggregate-run-3
-slice-aggregate-run-3 c = sym (length-take-le _ _ (omega (arith, c .before .before .before .before .before .pairs .ensures, c .before .before .before .before .before .before .before .before .pre)))
+slice-aggregate-run-3 c = sym (length-take-le _ _ (omega (arith, c .before .before .before .before .before .before .before .pairs .ensures, c .before .before .before .before .before .before .before .before .before .before .pre)))
 
 run-requires : tie.Need-run-requires
 run-requires c κs = search needs
@@ -88,11 +106,12 @@ same-length-2 c = search needs
 
 returns : tie.Need-returns
 returns c =
-    let start = c .before .before .before .before .before .before .before .before .before in
-    let p = c .before .before .before .before .before .before in
+    let start = c .before .before .before .before .before .before .before .before .before .before .before in
+    let p = c .before .before .before .before .before .before .before .before in
     let q = c .before .check .ensures in
-    checked-in (start .args .t) (start .args .r) (start .args .samples .now) (start .args .flow .now) (start .args .image .now) (start .args .work .now)
-    (p .before .pixels .ensures) (p .pairs .ensures) (c .before .before .before .before .if1 .taken) (q .0) (q .1 .0)
+    checked-in (start .args .t) (start .args .r) (start .args .weighted) (start .args .samples .now) (start .args .weights .now)
+    (start .args .flow .now) (start .args .image .now) (start .args .work .now) (p .before .pixels .ensures) (p .pairs .ensures)
+    (c .before .before .before .before .before .before .weights-of .ensures) (c .before .before .before .before .if1 .taken) (q .0) (q .1 .0)
 
 same-length-3 : tie.Need-same-length-3
 same-length-3 c = search needs
@@ -105,11 +124,12 @@ same-length-5 c = search needs
 
 returns-2 : tie.Need-returns-2
 returns-2 c =
-    let start = c .before .before .before .before .before .before .before .before .before .before .before .before in
-    let p = c .before .before .before .before .before .before .before .before .before in
+    let start = c .before .before .before .before .before .before .before .before .before .before .before .before .before .before in
+    let p = c .before .before .before .before .before .before .before .before .before .before .before in
     let q = c .before .before .before .run .ensures in
-    run-in (start .args .t) (start .args .r) (start .args .samples .now) (start .args .flow .now) (start .args .image .now) (start .args .work .now)
-    (p .before .pixels .ensures) (p .pairs .ensures) (c .before .before .before .before .before .before .before .if1 .left) (q .0) (q .1 .0) (q .1 .1 .0) (q .1 .1 .1 .0)
+    run-in (start .args .t) (start .args .r) (start .args .weighted) (start .args .samples .now) (start .args .weights .now)
+    (start .args .flow .now) (start .args .image .now) (start .args .work .now) (p .before .pixels .ensures) (p .pairs .ensures)
+    (c .before .before .before .before .before .before .before .before .before .weights-of .ensures) (c .before .before .before .before .before .before .before .if1 .left) (q .0) (q .1 .0) (q .1 .1 .0) (q .1 .1 .1 .0)
 
 pub treat-spec : {M : Type 1} → statement M
 treat-spec =
@@ -118,6 +138,8 @@ treat-spec =
     pixels-requires
     pairs-requires
     slice-aggregate-codes
+    weights-of-requires
+    slice-aggregate-own
     slice-reshare-prefix-check
     slice-aggregate-check
     slice-relend-prefix-check

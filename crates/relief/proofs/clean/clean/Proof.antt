@@ -26,14 +26,17 @@ slice-aggregate-clean-3 c = search needs
 slice-aggregate-clean-4 : tie.Need-slice-aggregate-clean-4
 slice-aggregate-clean-4 c = search needs
 
+slice-aggregate-clean-5 : tie.Need-slice-aggregate-clean-5
+slice-aggregate-clean-5 c = search needs
+
 clean-requires : tie.Need-clean-requires
 clean-requires c κs = search needs
 
 returns-2 : tie.Need-returns-2
 returns-2 c =
-    let s = c .before .before .before .before in
-    let start = s .before .before .before .before .before .before .before .before in
-    let f = put-front (put-as (not-too-long (start .args .input .now) (omega (arith, s .before .before .before .before .before .before .if1 .left))) (s .clean .ensures .0)) in
+    let s = c .before .before .before .before .before in
+    let start = s .before .before .before .before .before .before .before .before .before in
+    let f = put-front (put-as (not-too-long (start .args .input .now) (omega (arith, s .before .before .before .before .before .before .before .if1 .left))) (s .clean .ensures .0)) in
     (f .counted, (f .filled, (f .within, f .first)))
 
 pub clean-spec : {M : Type 1} → statement M
@@ -46,5 +49,6 @@ clean-spec =
     slice-aggregate-clean-2
     slice-aggregate-clean-3
     slice-aggregate-clean-4
+    slice-aggregate-clean-5
     clean-requires
     returns-2)

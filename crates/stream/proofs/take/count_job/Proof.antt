@@ -26,17 +26,17 @@ enum-known-a-2 : tie.Need-enum-known-a-2
 enum-known-a-2 c = search needs
 
 -- what the answer says of the tape, by its case
-answered : (c : tie.After-answer-of) {x : Answered} → c .answer-of .result ≡ x → let a = c .before .before .before .before .before .before .before .args in
-    AnswerTo (parse (a .tape .now) (lentBy (a .samples .now) (a .flow .now))) (length (a .samples .now)) x
+answered : (c : tie.After-answer-of) {x : Answered} → c .answer-of .result ≡ x → let a = c .before .before .before .before .before .before .before .before .args in
+    AnswerTo (parse (a .tape .now) (lentBy (a .samples .now) (a .weights .now) (a .flow .now))) (length (a .samples .now)) x
 answered c e =
-    let a = c .before .before .before .before .before .before .before .args in
-    subst (AnswerTo (parse (a .tape .now) (lentBy (a .samples .now) (a .flow .now))) (length (a .samples .now))) e (c .answer-of .ensures)
+    let a = c .before .before .before .before .before .before .before .before .args in
+    subst (AnswerTo (parse (a .tape .now) (lentBy (a .samples .now) (a .weights .now) (a .flow .now))) (length (a .samples .now))) e (c .answer-of .ensures)
 
 counted-requires : tie.Need-counted-requires
 counted-requires c κs =
     let g = c .before in
-    let d = g .before .before .before .before .before .before .before in
-    let s = d .before .before .before .before .before .before .before in
+    let d = g .before .before .before .before .before .before .before .before in
+    let s = d .before .before .before .before .before .before .before .before in
     let (p, is, given) = answered d (g .a2 .given .1) in
     let same = ap (λ (x : Answer). natAbs (x .slack)) (given .answer) in
     record {
@@ -58,13 +58,13 @@ same-length-3 c = search needs
 same-length-4 : tie.Need-same-length-4
 same-length-4 c = search needs
 
+same-length-5 : tie.Need-same-length-5
+same-length-5 c = search needs
+
 returns : tie.Need-returns
 returns c =
     let g = c .before in
-    answered (g .before .before .before .before .before .before .before) (g .a .given .1)
-
-same-length-5 : tie.Need-same-length-5
-same-length-5 c = search needs
+    answered (g .before .before .before .before .before .before .before .before) (g .a .given .1)
 
 same-length-6 : tie.Need-same-length-6
 same-length-6 c = search needs
@@ -75,11 +75,17 @@ same-length-7 c = search needs
 same-length-8 : tie.Need-same-length-8
 same-length-8 c = search needs
 
+same-length-9 : tie.Need-same-length-9
+same-length-9 c = search needs
+
+same-length-10 : tie.Need-same-length-10
+same-length-10 c = search needs
+
 returns-2 : tie.Need-returns-2
 returns-2 c =
     let g = c .before .before in
-    let d = g .before .before .before .before .before .before .before in
-    let s = d .before .before .before .before .before .before .before in
+    let d = g .before .before .before .before .before .before .before .before in
+    let s = d .before .before .before .before .before .before .before .before in
     let (p, is, given) = answered d (g .a2 .given .1) in
     let added = c .counted .ensures ∙ ap₂ (λ (n : ℕ) (x : Answer). withJob (s .args .totals) (record { pixels = n; answer = x })) (given .pixels) (given .answer) in (
       p,
@@ -103,9 +109,11 @@ count-job-spec =
     same-length-2
     same-length-3
     same-length-4
-    returns
     same-length-5
+    returns
     same-length-6
     same-length-7
     same-length-8
+    same-length-9
+    same-length-10
     returns-2)

@@ -26,20 +26,20 @@ enum-known-s-2 c = search needs
 
 -- where the scan stopped, by the case of its answer
 stopped : (c : tie.After-scan-tape) {x : Scanned} → c .scan-tape .result ≡ x → let a = c .before .before .before .args in
-    StopsAt (a .bytes .now) (lentIn (length (a .samples .now)) (length (a .flow .now))) x
+    StopsAt (a .bytes .now) (lentIn (length (a .samples .now)) (length (a .weights .now)) (length (a .flow .now))) x
 stopped c e =
     let a = c .before .before .before .args in
-    subst (StopsAt (a .bytes .now) (lentIn (length (a .samples .now)) (length (a .flow .now)))) e (c .scan-tape .ensures)
+    subst (StopsAt (a .bytes .now) (lentIn (length (a .samples .now)) (length (a .weights .now)) (length (a .flow .now)))) e (c .scan-tape .ensures)
 
 -- the end record, and that it lies inside
 here : (c : tie.After-s2) → let a = c .before .before .before .before .before .args in
-    StopsAt (a .bytes .now) (lentIn (length (a .samples .now)) (length (a .flow .now))) (Scanned.Whole (c .s2 .given .0 .0) (c .s2 .given .0 .1 .0))
+    StopsAt (a .bytes .now) (lentIn (length (a .samples .now)) (length (a .weights .now)) (length (a .flow .now))) (Scanned.Whole (c .s2 .given .0 .0) (c .s2 .given .0 .1 .0))
 here c = stopped (c .before .before) (c .s2 .given .1)
 
 long : (c : tie.After-s2) → let a = c .before .before .before .before .before .args in c .s2 .given .0 .1 .0 < length (a .bytes .now)
 long c =
     let a = c .before .before .before .before .before .args in
-    omega (arith, inside (a .bytes .now) (a .samples .now) (a .flow .now) (here c .0) (here c .1))
+    omega (arith, inside (a .bytes .now) (a .samples .now) (a .weights .now) (a .flow .now) (here c .0) (here c .1))
 
 add-size : tie.Need-add-size
 add-size c = omega (arith, long (c .before), c .before .before .before .before .before .before .good)
@@ -49,9 +49,9 @@ slice-aggregate-count-job c = sym (length-take-le _ _ (omega (arith, long (c .be
 
 count-job-requires : tie.Need-count-job-requires
 count-job-requires c κs =
-    let g = c .before .before .before .before .before .before in
+    let g = c .before .before .before .before .before .before .before in
     let s = g .before .before .before .before .before in
-    (records (s .args .bytes .now) (s .args .samples .now) (s .args .flow .now) (here g .0) (here g .1), s .pre .1)
+    (records (s .args .bytes .now) (s .args .samples .now) (s .args .weights .now) (s .args .flow .now) (here g .0) (here g .1), s .pre .1)
 
 returns : tie.Need-returns
 returns c =
@@ -77,12 +77,15 @@ same-length-3 c = search needs
 same-length-4 : tie.Need-same-length-4
 same-length-4 c = search needs
 
+same-length-5 : tie.Need-same-length-5
+same-length-5 c = search needs
+
 returns-3 : tie.Need-returns-3
 returns-3 c =
-    let k = c .before .before .before .before .before in
-    let g = k .before .before .before .before .before .before .before in
+    let k = c .before .before .before .before .before .before in
+    let g = k .before .before .before .before .before .before .before .before in
     let s = g .before .before .before .before .before in
-    ended (s .args .bytes .now) (s .args .samples .now) (s .args .flow .now) (here g .0) (here g .1)
+    ended (s .args .bytes .now) (s .args .samples .now) (s .args .weights .now) (s .args .flow .now) (here g .0) (here g .1)
     (λ i. omega (arith, g .before .before .before .before .shared-slice-known .given i)) (s .args .totals) (k .count-job .result) (k .count-job .ensures)
 
 pub take-job-spec : {M : Type 1} → statement M
@@ -102,4 +105,5 @@ take-job-spec =
     same-length-2
     same-length-3
     same-length-4
+    same-length-5
     returns-3)
