@@ -31,14 +31,13 @@ fn judge_contents(t: Terms, weights: &[i32], flow: &[i32], size: usize, room: us
     requires { ⌜ (0 < length (now weights) → length (now flow) ≤ length (now weights)) ⌝ }
     ensures { λ r. ⌜ r ≡ firstRefusal (contentRows t (now (weights .entry)) (now (flow .entry)) size room) ⌝ }
 {
-    let over = first_over(weights);
-    let short = room < size;
-    if short {
+    if room < size {
         return Verdict::Refuse {
             number: 16,
             place: 0,
         };
     }
+    let over = first_over(weights);
     if over < weights.len() {
         return Verdict::Refuse {
             number: 2,
