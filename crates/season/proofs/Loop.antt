@@ -34,7 +34,8 @@ pub record SameLengths (buffer₀ samples₀ : List ℕ) (weights₀ flow₀ ima
   pub workLength : length work ≡ length work₀
 
 -- .. so what a reading is lent stays the same
-pub same-lent : {buffer₀ samples₀ : List ℕ} {weights₀ flow₀ image₀ work₀ : List ℤ} {buffer samples : List ℕ} {weights flow image work : List ℤ} →
+pub same-lent : {buffer₀ samples₀ : List ℕ} {weights₀ flow₀ image₀ work₀ : List ℤ} {buffer samples : List ℕ}
+    {weights flow image work : List ℤ} →
     SameLengths buffer₀ samples₀ weights₀ flow₀ image₀ work₀ buffer samples weights flow image work →
     lentIn (length samples) (length weights) (length flow) ≡ lentIn (length samples₀) (length weights₀) (length flow₀)
 same-lent k i = lentIn (k .samplesLength i) (k .weightsLength i) (k .flowLength i)

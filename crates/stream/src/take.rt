@@ -80,7 +80,16 @@ pub fn take_job(
         }
         Scanned::Whole(t, end) => {
             let size = end + 1;
-            count_job(&bytes[..size], t, totals, samples, weights, flow, image, work)
+            count_job(
+                &bytes[..size],
+                t,
+                totals,
+                samples,
+                weights,
+                flow,
+                image,
+                work,
+            )
         }
     }
 }

@@ -36,11 +36,14 @@ enum-known-n-2 : tie.Need-enum-known-n-2
 enum-known-n-2 c = search needs
 
 -- what the bytes at hand come to, by its case
-said : (c : tie.After-next-of) {x : Next} → c .next-of .result ≡ x → let a = c .before .before .before .before .before .before .before .before .before .before .before .before .args in
-    NextOf (atHand (a .buffer .now) (a .s .window)) (a .s .window .ended) (lentIn (length (a .samples .now)) (length (a .weights .now)) (length (a .flow .now))) (a .s .totals) x
+said : (c : tie.After-next-of) {x : Next} → c .next-of .result ≡ x →
+    let a = c .before .before .before .before .before .before .before .before .before .before .before .before .args in
+    NextOf (atHand (a .buffer .now) (a .s .window)) (a .s .window .ended)
+    (lentIn (length (a .samples .now)) (length (a .weights .now)) (length (a .flow .now))) (a .s .totals) x
 said c e =
     let a = c .before .before .before .before .before .before .before .before .before .before .before .before .args in
-    subst (NextOf (atHand (a .buffer .now) (a .s .window)) (a .s .window .ended) (lentIn (length (a .samples .now)) (length (a .weights .now)) (length (a .flow .now))) (a .s .totals)) e
+    subst (NextOf (atHand (a .buffer .now) (a .s .window)) (a .s .window .ended)
+    (lentIn (length (a .samples .now)) (length (a .weights .now)) (length (a .flow .now))) (a .s .totals)) e
     (c .next-of .ensures)
 
 add-t40 : tie.Need-add-t40
@@ -155,10 +158,18 @@ returns-4 c =
     let a = s .args in
     subst⁻¹
     (λ (t : Tally).
-    Goes (lentIn (length (a .samples .now)) (length (a .weights .now)) (length (a .flow .now))) (a .buffer .now) (a .s) (a .buffer .now)
-    (record { window = record { start = a .s .window .start + g .n2 .given .0 .1 .0; end = a .s .window .end; ended = a .s .window .ended }; at = 0; tally = t; totals = g .n2 .given .0 .0 }))
+    Goes (lentIn (length (a .samples .now)) (length (a .weights .now)) (length (a .flow .now))) (a .buffer .now) (a .s)
+    (a .buffer .now)
+    (record {
+      window =
+          record { start = a .s .window .start + g .n2 .given .0 .1 .0; end = a .s .window .end; ended = a .s .window .ended };
+      at = 0;
+      tally = t;
+      totals = g .n2 .given .0 .0;
+    }))
     (c .fresh .ensures)
-    (counted-goes (lentIn (length (a .samples .now)) (length (a .weights .now)) (length (a .flow .now))) (a .buffer .now) (a .s) (s .pre .0) (said k (g .n2 .given .1)) (s .pre .1))
+    (counted-goes (lentIn (length (a .samples .now)) (length (a .weights .now)) (length (a .flow .now))) (a .buffer .now) (a .s)
+    (s .pre .0) (said k (g .n2 .given .1)) (s .pre .1))
 
 same-length-25 : tie.Need-same-length-25
 same-length-25 c = search needs
@@ -185,7 +196,8 @@ returns-5 c =
     let k = g .before .before .before .before .before .before .before .before in
     let s = k .before .before .before .before .before .before .before .before .before .before .before .before in
     let a = s .args in
-    more-goes (lentIn (length (a .samples .now)) (length (a .weights .now)) (length (a .flow .now))) (a .buffer .now) (a .s) (s .pre .0) (said k (g .n3 .given .1)) (m .more-bytes .ensures)
+    more-goes (lentIn (length (a .samples .now)) (length (a .weights .now)) (length (a .flow .now))) (a .buffer .now) (a .s)
+    (s .pre .0) (said k (g .n3 .given .1)) (m .more-bytes .ensures)
 
 pub advance-spec : {M : Type 1} → statement M
 advance-spec =

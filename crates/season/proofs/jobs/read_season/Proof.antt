@@ -36,7 +36,14 @@ loop-holds c =
     let lent = lentIn (length (a .samples .now)) (length (a .weights .now)) (length (a .flow .now)) in (
       subst₂ (λ (t : Tally) (n : Totals). Kept lent (a .buffer .now) (record { window = record { start = 0; end = 0; ended = false }; at = 0; tally = t; totals = n }))
           (sym (c .before .fresh .ensures)) (sym (c .none .ensures)) (begins lent (a .buffer .now)),
-      record { bufferLength = refl; samplesLength = refl; weightsLength = refl; flowLength = refl; imageLength = refl; workLength = refl },
+      record {
+        bufferLength = refl;
+        samplesLength = refl;
+        weightsLength = refl;
+        flowLength = refl;
+        imageLength = refl;
+        workLength = refl;
+      },
     )
 
 advance-requires : tie.Need-advance-requires Inv-loop μ-loop
@@ -65,7 +72,8 @@ enum-known-n c = search needs
 stepped : (c : tie.After-advance Inv-loop μ-loop) {x : Step} → c .advance .result ≡ x →
     let l = c .before .before .before .before .before .before .before .before .before in
     let a = l .before .before .before .before .before .args in
-    StepOf (lentIn (length (a .samples .now)) (length (a .weights .now)) (length (a .flow .now))) (l .loop .buffer) (l .loop .s) (c .advance .last .0) x
+    StepOf (lentIn (length (a .samples .now)) (length (a .weights .now)) (length (a .flow .now))) (l .loop .buffer) (l .loop .s)
+    (c .advance .last .0) x
 stepped c {x} e =
     let l = c .before .before .before .before .before .before .before .before .before in
     let same = l .loop .inv .1 in
@@ -77,7 +85,8 @@ lengths : (c : tie.After-advance Inv-loop μ-loop) →
     let l = c .before .before .before .before .before .before .before .before .before in
     let a = l .before .before .before .before .before .args in
     let b = c .advance .last in
-    SameLengths (a .buffer .now) (a .samples .now) (a .weights .now) (a .flow .now) (a .image .now) (a .work .now) (b .0) (b .1 .1 .0) (b .1 .1 .1 .0) (b .1 .1 .1 .1 .0) (b .1 .1 .1 .1 .1 .0) (b .1 .1 .1 .1 .1 .1 .0)
+    SameLengths (a .buffer .now) (a .samples .now) (a .weights .now) (a .flow .now) (a .image .now) (a .work .now) (b .0)
+    (b .1 .1 .0) (b .1 .1 .1 .0) (b .1 .1 .1 .1 .0) (b .1 .1 .1 .1 .1 .0) (b .1 .1 .1 .1 .1 .1 .0)
 lengths c =
     let l = c .before .before .before .before .before .before .before .before .before in
     let same = l .loop .inv .1 in
@@ -110,22 +119,28 @@ end-of-requires : tie.Need-end-of-requires Inv-loop μ-loop
 end-of-requires c κs = search needs
 
 same-length : tie.Need-same-length Inv-loop μ-loop
-same-length c = lengths (c .before .before .before .before .before .before .before .before .before .before .before .before) .bufferLength
+same-length c =
+    lengths (c .before .before .before .before .before .before .before .before .before .before .before .before) .bufferLength
 
 same-length-2 : tie.Need-same-length-2 Inv-loop μ-loop
-same-length-2 c = lengths (c .before .before .before .before .before .before .before .before .before .before .before .before) .samplesLength
+same-length-2 c =
+    lengths (c .before .before .before .before .before .before .before .before .before .before .before .before) .samplesLength
 
 same-length-3 : tie.Need-same-length-3 Inv-loop μ-loop
-same-length-3 c = lengths (c .before .before .before .before .before .before .before .before .before .before .before .before) .weightsLength
+same-length-3 c =
+    lengths (c .before .before .before .before .before .before .before .before .before .before .before .before) .weightsLength
 
 same-length-4 : tie.Need-same-length-4 Inv-loop μ-loop
-same-length-4 c = lengths (c .before .before .before .before .before .before .before .before .before .before .before .before) .flowLength
+same-length-4 c =
+    lengths (c .before .before .before .before .before .before .before .before .before .before .before .before) .flowLength
 
 same-length-5 : tie.Need-same-length-5 Inv-loop μ-loop
-same-length-5 c = lengths (c .before .before .before .before .before .before .before .before .before .before .before .before) .imageLength
+same-length-5 c =
+    lengths (c .before .before .before .before .before .before .before .before .before .before .before .before) .imageLength
 
 same-length-6 : tie.Need-same-length-6 Inv-loop μ-loop
-same-length-6 c = lengths (c .before .before .before .before .before .before .before .before .before .before .before .before) .workLength
+same-length-6 c =
+    lengths (c .before .before .before .before .before .before .before .before .before .before .before .before) .workLength
 
 returns : tie.Need-returns Inv-loop μ-loop
 returns c =
