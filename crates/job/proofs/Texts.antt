@@ -148,7 +148,8 @@ module _ {X : Type 0} (shown : Answer → List ℤ → X) (shows : Shows shown) 
       (front-length ∙ sym (zeros-length (pixelsOf t))) (length-take-le _ work workHolds ∙ sym (zeros-length (2 * pairsOf t)))
 
   pub job-shown : shown (answerIn (p .terms) (p .rounds) weighted flowed S W F image work)
-      (take (pixelsOf (p .terms)) (imageIn (p .terms) (p .rounds) weighted flowed S W F image work)) ≡ shown (jobAnswer p) (jobImage p)
+      (take (pixelsOf (p .terms)) (imageIn (p .terms) (p .rounds) weighted flowed S W F image work))
+      ≡ shown (jobAnswer p) (jobImage p)
   unfolding jobAnswer jobImage
   job-shown =
       ap (shown (answerIn (p .terms) (p .rounds) weighted flowed S W F image work))
@@ -325,7 +326,8 @@ module _ {input samples : List ℕ} {weights flow : List ℤ} {byte : (i : ℕ) 
 
     -- what the job leaves in a table
     pub left-in : readAnswerOf (ReadResult.Job t r weighted flowed) ≡ readAnswer input samples weights flow →
-        (leaves : Terms → Rounds → Bool → Bool → List ℕ → List ℤ → List ℤ → List ℤ → List ℤ → List ℤ) (former : List ℤ) {values : List ℤ} →
+        (leaves : Terms → Rounds → Bool → Bool → List ℕ → List ℤ → List ℤ → List ℤ → List ℤ → List ℤ) (former : List ℤ)
+        {values : List ℤ} →
         values ≡ leaves t r weighted flowed S W F image work → values ≡ after input samples weights flow image work leaves former
     left-in e leaves former {values} g =
         g

@@ -15,6 +15,7 @@ use Rattle.records.specs.Tally.{tallyOf}
 use Rattle.tape_read.proofs.Reached as scan
 use Rattle.report.proofs.Season.{bounded-none}
 use Rattle.stream.specs.Report.{reportFrom}
+use Rattle.stream.specs.Taken.{lentIn}
 use Rattle.stream.specs.AtHand.{Reports}
 use Rattle.stream.proofs.Reports.{full-report}
 use Rattle.season.specs.declared.jobs.State.{State}
@@ -23,12 +24,21 @@ use Rattle.season.specs.Window.{atHand}
 use Rattle.season.specs.Stream.{Stands, Goes, ReportOf}
 
 -- the buffers keep their lengths
-pub record SameLengths (buffer₀ samples₀ : List ℕ) (flow₀ image₀ work₀ : List ℤ) (buffer samples : List ℕ) (flow image work : List ℤ) : Type 0 where
+pub record SameLengths (buffer₀ samples₀ : List ℕ) (weights₀ flow₀ image₀ work₀ : List ℤ) (buffer samples : List ℕ)
+    (weights flow image work : List ℤ) : Type 0 where
   pub bufferLength : length buffer ≡ length buffer₀
   pub samplesLength : length samples ≡ length samples₀
+  pub weightsLength : length weights ≡ length weights₀
   pub flowLength : length flow ≡ length flow₀
   pub imageLength : length image ≡ length image₀
   pub workLength : length work ≡ length work₀
+
+-- .. so what a reading is lent stays the same
+pub same-lent : {buffer₀ samples₀ : List ℕ} {weights₀ flow₀ image₀ work₀ : List ℤ} {buffer samples : List ℕ}
+    {weights flow image work : List ℤ} →
+    SameLengths buffer₀ samples₀ weights₀ flow₀ image₀ work₀ buffer samples weights flow image work →
+    lentIn (length samples) (length weights) (length flow) ≡ lentIn (length samples₀) (length weights₀) (length flow₀)
+same-lent k i = lentIn (k .samplesLength i) (k .weightsLength i) (k .flowLength i)
 
 pub record Kept (lent : Lent) (buffer : List ℕ) (s : State) : Type 0 where
   pub input : List ℕ

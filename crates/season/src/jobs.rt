@@ -45,12 +45,13 @@ fn advance(
     buffer: &mut [u8],
     s: State,
     samples: &mut [u8],
+    weights: &mut [i32],
     flow: &mut [i32],
     image: &mut [i32],
     work: &mut [i32],
 ) -> Step
-    requires { ⌜ Stands (lentIn (length (now samples)) (length (now flow))) (now buffer) s × (s .totals .jobs < 65535) × Tables (length (now buffer)) (length (now samples)) (length (now flow)) (length (now image)) (length (now work)) ⌝ }
-    ensures { λ r. ⌜ StepOf (lentIn (length (now (samples .entry))) (length (now (flow .entry)))) (now (buffer .entry)) s (now (buffer .exit)) r ⌝ }
+    requires { ⌜ Stands (lentIn (length (now samples)) (length (now weights)) (length (now flow))) (now buffer) s × (s .totals .jobs < 65535) × Tables (length (now buffer)) (length (now samples)) (length (now flow)) (length (now image)) (length (now work)) ⌝ }
+    ensures { λ r. ⌜ StepOf (lentIn (length (now (samples .entry))) (length (now (weights .entry))) (length (now (flow .entry)))) (now (buffer .entry)) s (now (buffer .exit)) r ⌝ }
 {
     let w = s.window;
     let start = w.start;
@@ -63,6 +64,7 @@ fn advance(
         s.tally,
         totals,
         samples,
+        weights,
         flow,
         image,
         work,
@@ -117,12 +119,13 @@ fn end_of(s: State, ending: Verdict, failed: bool) -> Ended
 pub fn read_season(
     buffer: &mut [u8],
     samples: &mut [u8],
+    weights: &mut [i32],
     flow: &mut [i32],
     image: &mut [i32],
     work: &mut [i32],
 ) -> Ended
     requires { ⌜ Tables (length (now buffer)) (length (now samples)) (length (now flow)) (length (now image)) (length (now work)) ⌝ }
-    ensures { λ r. ⌜ ReportOf (lentIn (length (now (samples .entry))) (length (now (flow .entry)))) r ⌝ }
+    ensures { λ r. ⌜ ReportOf (lentIn (length (now (samples .entry))) (length (now (weights .entry))) (length (now (flow .entry)))) r ⌝ }
 {
     let window = Window {
         start: 0,
@@ -136,7 +139,7 @@ pub fn read_season(
         totals: none(),
     };
     while s.totals.jobs < 65535 {
-        let n = advance(buffer, s, samples, flow, image, work);
+        let n = advance(buffer, s, samples, weights, flow, image, work);
         match n {
             Step::Go(r) => {
                 s = r;

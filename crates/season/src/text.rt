@@ -15,16 +15,24 @@ pub struct Printed {
     pub failed: bool,
 }
 
-// The tables hold 4,096 samples and 8,064 flow values, whatever the input.
+// The tables hold 4,096 samples, 8,064 pair weights and 8,064 flow values, whatever the input.
 fn read_input() -> Ended
     ensures { λ r. ⌜ ReportOf (tables true) r ⌝ }
 {
     let mut buffer = [0u8; 262144];
     let mut samples = [0u8; 4096];
+    let mut weights = [0i32; 8064];
     let mut flow = [0i32; 8064];
     let mut image = [0i32; 4096];
     let mut work = [0i32; 16128];
-    read_season(&mut buffer, &mut samples, &mut flow, &mut image, &mut work)
+    read_season(
+        &mut buffer,
+        &mut samples,
+        &mut weights,
+        &mut flow,
+        &mut image,
+        &mut work,
+    )
 }
 
 // The text stands at the front of the output.

@@ -34,6 +34,8 @@ module _ (bytes : List ℕ) (lent : Lent) (t : Totals) (few : t .jobs < 65535) w
   pub next-counted : {after : Totals} {size : ℕ} → Counted front lent t after size → GoesOn bytes lent t after size
   unfolding bytesOf
   next-counted {after} {size} c =
+      let j = c .job in
+      let some = tape-length (j .terms) (j .rounds) (j .samples) (j .weights) (j .flow) in
       let long : size ≤ length bytes = omega (arith, c .inside, length-take 65536 bytes) in
       record {
         inside = long;
@@ -42,8 +44,7 @@ module _ (bytes : List ℕ) (lent : Lent) (t : Totals) (few : t .jobs < 65535) w
         report =
             λ rest.
             counted-report lent t few (bytes ++ rest)
-            (λ z.
-            omega (arith, z, length-append bytes rest, c .size, tape-length (c .job .terms) (c .job .rounds) (c .job .samples) (c .job .weights) (c .job .flow)))
+            (λ z. omega (arith, z, length-append bytes rest, c .size, some))
             (first-whole lent bytes rest (c .read))
             ∙ ap₂ (λ (x : Totals) (n : ℕ). reportFrom lent x (drop n (bytes ++ rest))) (sym (c .added .totals)) (sym (c .size))
             ∙ ap (reportFrom lent after) (drop-append-le size bytes rest long);

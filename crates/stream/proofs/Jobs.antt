@@ -85,7 +85,8 @@ module _ (bytes samples : List ℕ) (weights flow : List ℤ) {t : Tally} {o : �
       eight true x e = cc
       eight false x e = cc
 
-      go : (v : Verdict) → firstRefusal (flowRow weight (r .progress .flow) ∷ []) ≡ v → unless v (whole (r .progress)) ≡ turned n q → tooShort n ≡ false
+      go : (v : Verdict) → firstRefusal (flowRow weight (r .progress .flow) ∷ []) ≡ v →
+          unless v (whole (r .progress)) ≡ turned n q → tooShort n ≡ false
       go Verdict.Accept e h = cc
       go (Verdict.Refuse m l) e h =
           let is : n ≡ m = cc in
@@ -94,12 +95,15 @@ module _ (bytes samples : List ℕ) (weights flow : List ℤ) {t : Tally} {o : �
           ap tooShort (is ∙ eight (ltb first (length flow)) first e)
 
   -- a job's bytes are its tape's
-  bytes-of : ((i : ℕ) → getD bytes i 0 < 256) → {p : Progress} → parse tape (lentBy samples weights flow) ≡ whole p → length tape ≡ bytesOf p
+  bytes-of : ((i : ℕ) → getD bytes i 0 < 256) → {p : Progress} → parse tape (lentBy samples weights flow) ≡ whole p →
+      length tape ≡ bytesOf p
   unfolding bytesOf
   bytes-of byte {p} h =
-      ap length (accepted-job tape (lentBy samples weights flow) (front-bytes (o + 1) bytes byte) refl p (passed-parse tape samples weights flow p h .0) .bytes)
+      ap length (accepted-job tape (lentBy samples weights flow) (front-bytes (o + 1) bytes byte) refl p
+      (passed-parse tape samples weights flow p h .0) .bytes)
 
-  pub ended : ((i : ℕ) → getD bytes i 0 < 256) → (totals : Totals) (taken : Taken) → CountedAs (parse tape (lentBy samples weights flow)) (length tape) totals taken → TakenFrom bytes lent totals taken
+  pub ended : ((i : ℕ) → getD bytes i 0 < 256) → (totals : Totals) (taken : Taken) →
+      CountedAs (parse tape (lentBy samples weights flow)) (length tape) totals taken → TakenFrom bytes lent totals taken
   ended byte totals (Taken.Short n q u i) h = absurd h
   ended byte totals (Taken.Refused n q) h = record { refused = λ behind. same behind ∙ h; faulty = faulty h }
   ended byte totals (Taken.Counted after n) h =

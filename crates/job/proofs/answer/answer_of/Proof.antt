@@ -30,20 +30,24 @@ bytes : (c : tie.After-take-numbers) → (i : ℕ) → getD (c .before .before .
 bytes c i = omega (arith, c .before .before .before .before .before .shared-slice-known .given i)
 
 -- the job that was read
-job-read : (c : tie.After-got2) → let a = c .before .before .before .before .before .before .before .before .before .before .before .before .args in let v = c .got2 .given .0 in
-    Taken (a .tape .now) (a .samples .now) (a .weights .now) (a .flow .now) (bytes (c .before .before .before .before .before .before)) (v .0) (v .1 .0) (v .1 .1 .0) (v .1 .1 .1 .0)
+job-read : (c : tie.After-got2) →
+    let a = c .before .before .before .before .before .before .before .before .before .before .before .before .args in
+    let v = c .got2 .given .0 in
+    Taken (a .tape .now) (a .samples .now) (a .weights .now) (a .flow .now)
+    (bytes (c .before .before .before .before .before .before)) (v .0) (v .1 .0) (v .1 .1 .0) (v .1 .1 .1 .0)
 job-read c =
     let a = c .before .before .before .before .before .before .before .before .before .before .before .before .args in
     let v = c .got2 .given .0 in
-    taken (a .tape .now) (a .samples .now) (a .weights .now) (a .flow .now) (bytes (c .before .before .before .before .before .before)) (v .0) (v .1 .0) (v .1 .1 .0) (v .1 .1 .1 .0)
+    taken (a .tape .now) (a .samples .now) (a .weights .now) (a .flow .now)
+    (bytes (c .before .before .before .before .before .before)) (v .0) (v .1 .0) (v .1 .1 .0) (v .1 .1 .1 .0)
     (ap readAnswerOf (sym (c .got2 .given .1)) ∙ c .before .before .before .before .before .before .take-numbers .ensures .0)
 
 treat-requires : tie.Need-treat-requires
 treat-requires c κs =
     let s = c .before .before .before .before .before .before in
     let kept = s .before .before .before .before .before .before .take-numbers .kept in
-    tables (job-read s) (s .before .before .before .before .before .before .before .before .before .before .before .before .pre .1) (kept .1 .1 .0) (kept .1 .1 .1 .0)
-    (kept .1 .1 .1 .1 .0)
+    tables (job-read s) (s .before .before .before .before .before .before .before .before .before .before .before .before .pre .1)
+    (kept .1 .1 .0) (kept .1 .1 .1 .0) (kept .1 .1 .1 .1 .0)
 
 pixels-requires : tie.Need-pixels-requires
 pixels-requires c κs = allowed (job-read (c .before .before .before .before .before .before .before .before .before .before))
@@ -62,7 +66,8 @@ returns c =
     let g = c .before in
     let s = g .before .before .before .before .before .before in
     let a = s .before .before .before .before .before .before .args in
-    turned-back (a .tape .now) (a .samples .now) (a .weights .now) (a .flow .now) (bytes s) (g .got .given .0 .0) (g .got .given .0 .1 .0)
+    turned-back (a .tape .now) (a .samples .now) (a .weights .now) (a .flow .now) (bytes s) (g .got .given .0 .0)
+    (g .got .given .0 .1 .0)
     (ap readAnswerOf (sym (g .got .given .1)) ∙ s .take-numbers .ensures .0)
 
 same-length-4 : tie.Need-same-length-4
@@ -95,8 +100,9 @@ returns-2 c =
     let v = g .got2 .given .0 in
     let left = d .take-numbers .last in
     let small =
-    slack-most (v .0) (v .1 .0) (v .1 .1 .0) (v .1 .1 .1 .0) (left .1 .1 .0) (left .1 .1 .1 .0) (left .1 .1 .1 .1 .0) (a .image .now)
-    (a .work .now) (omega (arith, s .before .before .before .before .before .before .known-told2 .given)) (λ i. omega (arith, g .before .before .before .before .slice-known2 .given i)) in (
+    slack-most (v .0) (v .1 .0) (v .1 .1 .0) (v .1 .1 .1 .0) (left .1 .1 .0) (left .1 .1 .1 .0) (left .1 .1 .1 .1 .0)
+    (a .image .now) (a .work .now) (omega (arith, s .before .before .before .before .before .before .known-told2 .given))
+    (λ i. omega (arith, g .before .before .before .before .slice-known2 .given i)) in (
       k .p,
       k .is,
       record {

@@ -1,7 +1,9 @@
 -- `job::clean::clean` meets its contract. Assumes nothing.
 use native.Mathlib.Omega.{arith}
 use mathlib.Core.Path.{refl, sym, ap, _∙_}
+use mathlib.Core.List.{List}
 use Prim.Native.Nat.{ℕ, _*_, _≤_, _<_}
+use lib.IntN.{ℤ}
 use lib.ListN.{length, getD, take}
 use lib.Seq.{length-take-le}
 use Rattle.model.specs.Program.{answerText}
@@ -27,32 +29,42 @@ enum-known-got-2 : tie.Need-enum-known-got-2
 enum-known-got-2 c = search needs
 
 -- the bytes of the tape
-bytes : (c : tie.After-read) → (i : ℕ) → getD (c .before .before .before .before .before .before .before .args .input .now) i 0 < 256
+bytes : (c : tie.After-read) → (i : ℕ) →
+    getD (c .before .before .before .before .before .before .before .args .input .now) i 0 < 256
 bytes c i = omega (arith, c .before .before .before .before .before .before .shared-slice-known .given i)
 
 -- the job that was read
-job-read : (c : tie.After-got2) → let a = c .before .before .before .before .before .before .before .before .before .before .before .before .before .args in let v = c .got2 .given .0 in
-    Taken (a .input .now) (a .samples .now) (a .weights .now) (a .flow .now) (bytes (c .before .before .before .before .before .before)) (v .0) (v .1 .0) (v .1 .1 .0) (v .1 .1 .1 .0)
+job-read : (c : tie.After-got2) →
+    let a = c .before .before .before .before .before .before .before .before .before .before .before .before .before .args in
+    let v = c .got2 .given .0 in
+    Taken (a .input .now) (a .samples .now) (a .weights .now) (a .flow .now)
+    (bytes (c .before .before .before .before .before .before)) (v .0) (v .1 .0) (v .1 .1 .0) (v .1 .1 .1 .0)
 job-read c =
     let a = c .before .before .before .before .before .before .before .before .before .before .before .before .before .args in
     let v = c .got2 .given .0 in
-    taken (a .input .now) (a .samples .now) (a .weights .now) (a .flow .now) (bytes (c .before .before .before .before .before .before)) (v .0) (v .1 .0) (v .1 .1 .0) (v .1 .1 .1 .0)
+    taken (a .input .now) (a .samples .now) (a .weights .now) (a .flow .now)
+    (bytes (c .before .before .before .before .before .before)) (v .0) (v .1 .0) (v .1 .1 .0) (v .1 .1 .1 .0)
     (ap readAnswerOf (sym (c .got2 .given .1)) ∙ c .before .before .before .before .before .before .read .ensures .0)
 
 treat-requires : tie.Need-treat-requires
 treat-requires c κs =
     let s = c .before .before .before .before .before .before in
     let kept = s .before .before .before .before .before .before .read .kept in
-    tables (job-read s) (s .before .before .before .before .before .before .before .before .before .before .before .before .before .pre .holds) (kept .1 .0) (kept .1 .1 .0) (kept .1 .1 .1 .0)
+    tables (job-read s)
+    (s .before .before .before .before .before .before .before .before .before .before .before .before .before .pre .holds)
+    (kept .1 .0) (kept .1 .1 .0) (kept .1 .1 .1 .0)
 
 pixels-requires : tie.Need-pixels-requires
 pixels-requires c κs = allowed (job-read (c .before .before .before .before .before .before .before .before .before .before))
 
 -- the image table holds the job's image
-shown : (c : tie.After-treat) → let t = c .before .before .before .before .before .before .before .got2 .given .0 .0 in t .width * t .height ≤ length (c .treat .last .1 .1 .1 .1 .1 .1 .1 .0)
+shown : (c : tie.After-treat) →
+    let t = c .before .before .before .before .before .before .before .got2 .given .0 .0 in
+    t .width * t .height ≤ length (c .treat .last .1 .1 .1 .1 .1 .1 .1 .0)
 shown c =
     let s = c .before .before .before .before .before .before .before in
-    omega (arith, c .treat .kept .1 .1 .1 .1 .1 .1 .1 .0, tables (job-read s) (s .before .before .before .before .before .before .before .before .before .before .before .before .before .pre .holds) refl refl refl .imageHolds)
+    let start = s .before .before .before .before .before .before .before .before .before .before .before .before .before in
+    omega (arith, c .treat .kept .1 .1 .1 .1 .1 .1 .1 .0, tables (job-read s) (start .pre .holds) refl refl refl .imageHolds)
 
 slice-reshare-prefix-put-answer : tie.Need-slice-reshare-prefix-put-answer
 slice-reshare-prefix-put-answer c = omega (arith, c .before .pixels .ensures, shown (c .before .before .before .before .before))
@@ -62,9 +74,13 @@ slice-aggregate-put-answer c = sym (length-take-le _ _ (omega (arith, c .before 
 
 put-answer-requires : tie.Need-put-answer-requires
 put-answer-requires c κs =
-    let s = c .before .before .before .before .before .before in (
-      omega (arith, c .before .before .pixels .ensures, shown s, length-take-le (c .before .before .pixels .result) (s .treat .last .1 .1 .1 .1 .1 .1 .1 .0) (omega (arith, c .before .before .pixels .ensures, shown s))),
-      enough (job-read (s .before .before .before .before .before .before .before)) (s .before .before .before .before .before .before .before .before .before .before .before .before .before .before .before .before .before .before .before .before .pre .outputHolds),
+    let s = c .before .before .before .before .before .before in
+    let g = s .before .before .before .before .before .before .before in
+    let start = g .before .before .before .before .before .before .before .before .before .before .before .before .before in
+    let n = c .before .before .pixels in
+    let front = length-take-le (n .result) (s .treat .last .1 .1 .1 .1 .1 .1 .1 .0) (omega (arith, n .ensures, shown s)) in (
+      omega (arith, n .ensures, front),
+      enough (job-read g) (start .pre .outputHolds),
     )
 
 same-length : tie.Need-same-length
@@ -87,13 +103,15 @@ returns c =
     let n : ℕ = g .got .given .0 .0 in
     let q : ℕ = g .got .given .0 .1 .0 in
     let e = ap readAnswerOf (sym (g .got .given .1)) ∙ s .read .ensures .0 in (
-      put-as (refused-text (a .input .now) (a .samples .now) (a .weights .now) (a .flow .now) (bytes s) n q e) (c .before .before .put-refusal .ensures),
+      put-as (refused-text (a .input .now) (a .samples .now) (a .weights .now) (a .flow .now) (bytes s) n q e)
+          (c .before .before .put-refusal .ensures),
       (
         s .read .ensures .1 .0,
         (
           s .read .ensures .1 .1 .0,
           (
-            refused-flow (a .input .now) (a .samples .now) (a .weights .now) (a .flow .now) (bytes s) n q e _ (s .read .ensures .1 .1 .1 .0),
+            refused-flow (a .input .now) (a .samples .now) (a .weights .now) (a .flow .now) (bytes s) n q e _
+                (s .read .ensures .1 .1 .1 .0),
             (
               refused-keeps (a .input .now) (a .samples .now) (a .weights .now) (a .flow .now) (bytes s) n q e _ _,
               refused-keeps (a .input .now) (a .samples .now) (a .weights .now) (a .flow .now) (bytes s) n q e _ _,
@@ -133,9 +151,11 @@ returns-2 c =
     let sampled = d .read .ensures .1 .0 in
     let weighed = d .read .ensures .1 .1 .0 in
     let flows = d .read .ensures .1 .1 .1 .0 in
+    let image : List ℤ = s .treat .last .1 .1 .1 .1 .1 .1 .1 .0 in
     let left = s .treat .ensures in (
       put-as
-          (ap (λ (n : ℕ). answerText (answerOf (s .treat .result)) (g .got2 .given .0 .0) (take n (s .treat .last .1 .1 .1 .1 .1 .1 .1 .0))) (c .before .before .before .before .before .pixels .ensures)
+          (ap (λ (n : ℕ). answerText (answerOf (s .treat .result)) (g .got2 .given .0 .0) (take n image))
+          (c .before .before .before .before .before .pixels .ensures)
           ∙ read-text k (a .image .now) (a .work .now) (start .pre .holds) sampled weighed flows (left .0) (left .1 .1 .0))
           (c .before .before .put-answer .ensures),
       (

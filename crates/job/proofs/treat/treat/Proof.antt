@@ -1,11 +1,11 @@
 -- `job::treat::treat` meets its contract. Assumes nothing.
 use native.Mathlib.Omega.{arith}
-use mathlib.Core.Path.{_≡_, sym}
+use mathlib.Core.Path.{_≡_, sym, ap}
 use mathlib.Core.Bool.{Bool, true, false}
 use mathlib.Core.List.{List, _++_}
 use Prim.Native.Nat.{ℕ, _*_, _≤_}
 use lib.IntN.{ℤ}
-use lib.ListN.{take, drop}
+use lib.ListN.{length, take, drop}
 use lib.Seq.{length-take-le}
 use Rattle.model.specs.declared.Terms.{Terms}
 use Rattle.model.specs.declared.Rounds.{Rounds}
@@ -37,6 +37,10 @@ module _ (t : Terms) (r : Rounds) (weighted : Bool) (s : List ℕ) (o f i w : Li
       × (work ++ drop (2 * m) w ≡ workIn t r weighted flowed s o f i w)))
   run-in b e g h l = (cc, (cc, (cc, cc)))
 
+-- the length of a front that a table holds
+lent : {A : Type 0} {n m : ℕ} (l : List A) → n ≡ m → m ≤ length l → n ≡ length (take n l)
+lent l e h = sym (length-take-le _ l (omega arith))
+
 -- no more weights than pairs
 weights-most : (weighted : Bool) (pairs : ℕ) → weightsOf weighted pairs ≤ pairs
 weights-most true pairs = omega arith
@@ -49,7 +53,7 @@ pairs-requires : tie.Need-pairs-requires
 pairs-requires c κs = search needs
 
 slice-aggregate-codes : tie.Need-slice-aggregate-codes
-slice-aggregate-codes c = sym (length-take-le _ _ (omega (arith, c .before .before .pixels .ensures, c .before .before .before .before .pre)))
+slice-aggregate-codes c = lent _ (c .before .before .pixels .ensures) (c .before .before .before .before .pre .samplesHold)
 
 weights-of-requires : tie.Need-weights-of-requires
 weights-of-requires c κs = search needs
@@ -57,19 +61,25 @@ weights-of-requires c κs = search needs
 slice-aggregate-own : tie.Need-slice-aggregate-own
 slice-aggregate-own c =
     let k = c .before .weights-of in
-    sym (length-take-le _ _ (omega (arith, k .ensures, weights-most (c .before .before .before .before .before .before .args .weighted) (c .before .before .before .pairs .result), c .before .before .before .pairs .ensures, c .before .before .before .before .before .before .pre)))
+    let m = c .before .before .before .pairs in
+    let s = c .before .before .before .before .before .before in
+    lent _ (k .ensures) (omega (arith, weights-most (s .args .weighted) (m .result), m .ensures, s .pre .weightsHold))
 
 slice-reshare-prefix-check : tie.Need-slice-reshare-prefix-check
 slice-reshare-prefix-check c = search needs
 
 slice-aggregate-check : tie.Need-slice-aggregate-check
-slice-aggregate-check c = sym (length-take-le _ _ (omega (arith, c .before .before .before .before .before .pairs .ensures, c .before .before .before .before .before .before .before .before .pre)))
+slice-aggregate-check c =
+    let p = c .before .before .before .before .before in
+    lent _ (p .pairs .ensures) (p .before .before .before .pre .flowHolds)
 
 slice-relend-prefix-check : tie.Need-slice-relend-prefix-check
 slice-relend-prefix-check c = search needs
 
 slice-aggregate-check-2 : tie.Need-slice-aggregate-check-2
-slice-aggregate-check-2 c = sym (length-take-le _ _ (omega (arith, c .before .before .before .before .before .before .before .pixels .ensures, c .before .before .before .before .before .before .before .before .before .pre)))
+slice-aggregate-check-2 c =
+    let p = c .before .before .before .before .before .before .before in
+    lent _ (p .pixels .ensures) (p .before .before .pre .imageHolds)
 
 check-requires : tie.Need-check-requires
 check-requires c κs = search needs
@@ -78,13 +88,17 @@ slice-relend-prefix-run : tie.Need-slice-relend-prefix-run
 slice-relend-prefix-run c = search needs
 
 slice-aggregate-run : tie.Need-slice-aggregate-run
-slice-aggregate-run c = sym (length-take-le _ _ (omega (arith, c .before .before .before .before .before .pairs .ensures, c .before .before .before .before .before .before .before .before .pre)))
+slice-aggregate-run c =
+    let p = c .before .before .before .before .before in
+    lent _ (p .pairs .ensures) (p .before .before .before .pre .flowHolds)
 
 slice-relend-prefix-run-2 : tie.Need-slice-relend-prefix-run-2
 slice-relend-prefix-run-2 c = search needs
 
 slice-aggregate-run-2 : tie.Need-slice-aggregate-run-2
-slice-aggregate-run-2 c = sym (length-take-le _ _ (omega (arith, c .before .before .before .before .before .before .before .pixels .ensures, c .before .before .before .before .before .before .before .before .before .pre)))
+slice-aggregate-run-2 c =
+    let p = c .before .before .before .before .before .before .before in
+    lent _ (p .pixels .ensures) (p .before .before .pre .imageHolds)
 
 mul-run : tie.Need-mul-run
 mul-run c = search needs
@@ -93,7 +107,9 @@ slice-relend-prefix-run-3 : tie.Need-slice-relend-prefix-run-3
 slice-relend-prefix-run-3 c = search needs
 
 slice-aggregate-run-3 : tie.Need-slice-aggregate-run-3
-slice-aggregate-run-3 c = sym (length-take-le _ _ (omega (arith, c .before .before .before .before .before .before .before .pairs .ensures, c .before .before .before .before .before .before .before .before .before .before .pre)))
+slice-aggregate-run-3 c =
+    let p = c .before .before .before .before .before .before .before in
+    lent _ (ap (λ (n : ℕ). 2 * n) (p .pairs .ensures)) (p .before .before .before .pre .workHolds)
 
 run-requires : tie.Need-run-requires
 run-requires c κs = search needs
@@ -111,7 +127,8 @@ returns c =
     let q = c .before .check .ensures in
     checked-in (start .args .t) (start .args .r) (start .args .weighted) (start .args .samples .now) (start .args .weights .now)
     (start .args .flow .now) (start .args .image .now) (start .args .work .now) (p .before .pixels .ensures) (p .pairs .ensures)
-    (c .before .before .before .before .before .before .weights-of .ensures) (c .before .before .before .before .if1 .taken) (q .0) (q .1 .0)
+    (c .before .before .before .before .before .before .weights-of .ensures) (c .before .before .before .before .if1 .taken)
+    (q .0) (q .1 .0)
 
 same-length-3 : tie.Need-same-length-3
 same-length-3 c = search needs
@@ -129,7 +146,8 @@ returns-2 c =
     let q = c .before .before .before .run .ensures in
     run-in (start .args .t) (start .args .r) (start .args .weighted) (start .args .samples .now) (start .args .weights .now)
     (start .args .flow .now) (start .args .image .now) (start .args .work .now) (p .before .pixels .ensures) (p .pairs .ensures)
-    (c .before .before .before .before .before .before .before .before .before .weights-of .ensures) (c .before .before .before .before .before .before .before .if1 .left) (q .0) (q .1 .0) (q .1 .1 .0) (q .1 .1 .1 .0)
+    (c .before .before .before .before .before .before .before .before .before .weights-of .ensures)
+    (c .before .before .before .before .before .before .before .if1 .left) (q .0) (q .1 .0) (q .1 .1 .0) (q .1 .1 .1 .0)
 
 pub treat-spec : {M : Type 1} → statement M
 treat-spec =

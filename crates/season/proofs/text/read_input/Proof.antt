@@ -23,6 +23,9 @@ slice-aggregate-read-season-4 c = search needs
 slice-aggregate-read-season-5 : tie.Need-slice-aggregate-read-season-5
 slice-aggregate-read-season-5 c = search needs
 
+slice-aggregate-read-season-6 : tie.Need-slice-aggregate-read-season-6
+slice-aggregate-read-season-6 c = search needs
+
 read-season-requires : tie.Need-read-season-requires
 read-season-requires c κs =
     record {
@@ -43,5 +46,6 @@ read-input-spec =
     slice-aggregate-read-season-3
     slice-aggregate-read-season-4
     slice-aggregate-read-season-5
+    slice-aggregate-read-season-6
     read-season-requires
     returns)

@@ -51,8 +51,10 @@ take-job-requires c κs =
     )
 
 -- what was taken, by its case
-got : (c : tie.After-take-job) {x : Taken} → c .take-job .result ≡ x → let s = c .before .before .before .before .before .before .before .before .before .before in
-    TakenFrom (take 65536 (s .args .bytes .now)) (lentIn (length (s .args .samples .now)) (length (s .args .weights .now)) (length (s .args .flow .now))) (s .args .totals) x
+got : (c : tie.After-take-job) {x : Taken} → c .take-job .result ≡ x →
+    let s = c .before .before .before .before .before .before .before .before .before .before in
+    TakenFrom (take 65536 (s .args .bytes .now))
+    (lentIn (length (s .args .samples .now)) (length (s .args .weights .now)) (length (s .args .flow .now))) (s .args .totals) x
 got c {x} e =
     let j = c .before .before .before .before .before .before .before in
     let s = j .before .before .before in
@@ -88,7 +90,8 @@ returns c =
     let g = c .before .before in
     let k = g .before .before .before .before .before .before .before .before in
     let s = k .before .before .before .before .before .before .before .before .before .before in
-    next-past (s .args .bytes .now) _ (s .args .totals) (s .pre .2 .notLast) (got k (g .s3 .given .1)) (past (k .before .before .before .before .before .before .before) .0 (c .if2 .taken))
+    next-past (s .args .bytes .now) _ (s .args .totals) (s .pre .2 .notLast) (got k (g .s3 .given .1))
+    (past (k .before .before .before .before .before .before .before) .0 (c .if2 .taken))
 
 same-length-6 : tie.Need-same-length-6
 same-length-6 c = search needs
@@ -110,7 +113,8 @@ returns-2 c =
     let g = c .before .before .before in
     let k = g .before .before .before .before .before .before .before .before in
     let s = k .before .before .before .before .before .before .before .before .before .before in
-    next-more (s .args .bytes .now) _ (s .args .totals) (s .pre .2 .notLast) (got k (g .s3 .given .1)) (past (k .before .before .before .before .before .before .before) .1 (c .before .if2 .left)) (not-true _ (c .if3 .taken))
+    next-more (s .args .bytes .now) _ (s .args .totals) (s .pre .2 .notLast) (got k (g .s3 .given .1))
+    (past (k .before .before .before .before .before .before .before) .1 (c .before .if2 .left)) (not-true _ (c .if3 .taken))
 
 same-length-11 : tie.Need-same-length-11
 same-length-11 c = search needs
@@ -198,7 +202,9 @@ returns-6 c =
     let g = c .before .before .before .before in
     let k = g .before .before .before .before .before .before .before .before in
     let s = k .before .before .before .before .before .before .before .before .before .before in
-    next-ended (s .args .bytes .now) _ (s .args .totals) (s .pre .2 .notLast) (got k (g .s3 .given .1)) (past (k .before .before .before .before .before .before .before) .1 (c .before .before .if2 .left)) (not-false _ (c .before .if3 .left)) (c .if4 .left)
+    next-ended (s .args .bytes .now) _ (s .args .totals) (s .pre .2 .notLast) (got k (g .s3 .given .1))
+    (past (k .before .before .before .before .before .before .before) .1 (c .before .before .if2 .left))
+    (not-false _ (c .before .if3 .left)) (c .if4 .left)
 
 pub next-of-spec : {M : Type 1} → statement M
 next-of-spec =

@@ -26,11 +26,13 @@ enum-known-a-2 : tie.Need-enum-known-a-2
 enum-known-a-2 c = search needs
 
 -- what the answer says of the tape, by its case
-answered : (c : tie.After-answer-of) {x : Answered} → c .answer-of .result ≡ x → let a = c .before .before .before .before .before .before .before .before .args in
+answered : (c : tie.After-answer-of) {x : Answered} → c .answer-of .result ≡ x →
+    let a = c .before .before .before .before .before .before .before .before .args in
     AnswerTo (parse (a .tape .now) (lentBy (a .samples .now) (a .weights .now) (a .flow .now))) (length (a .samples .now)) x
 answered c e =
     let a = c .before .before .before .before .before .before .before .before .args in
-    subst (AnswerTo (parse (a .tape .now) (lentBy (a .samples .now) (a .weights .now) (a .flow .now))) (length (a .samples .now))) e (c .answer-of .ensures)
+    subst (AnswerTo (parse (a .tape .now) (lentBy (a .samples .now) (a .weights .now) (a .flow .now))) (length (a .samples .now)))
+    e (c .answer-of .ensures)
 
 counted-requires : tie.Need-counted-requires
 counted-requires c κs =

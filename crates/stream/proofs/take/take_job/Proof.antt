@@ -29,11 +29,13 @@ stopped : (c : tie.After-scan-tape) {x : Scanned} → c .scan-tape .result ≡ x
     StopsAt (a .bytes .now) (lentIn (length (a .samples .now)) (length (a .weights .now)) (length (a .flow .now))) x
 stopped c e =
     let a = c .before .before .before .args in
-    subst (StopsAt (a .bytes .now) (lentIn (length (a .samples .now)) (length (a .weights .now)) (length (a .flow .now)))) e (c .scan-tape .ensures)
+    subst (StopsAt (a .bytes .now) (lentIn (length (a .samples .now)) (length (a .weights .now)) (length (a .flow .now)))) e
+    (c .scan-tape .ensures)
 
 -- the end record, and that it lies inside
 here : (c : tie.After-s2) → let a = c .before .before .before .before .before .args in
-    StopsAt (a .bytes .now) (lentIn (length (a .samples .now)) (length (a .weights .now)) (length (a .flow .now))) (Scanned.Whole (c .s2 .given .0 .0) (c .s2 .given .0 .1 .0))
+    StopsAt (a .bytes .now) (lentIn (length (a .samples .now)) (length (a .weights .now)) (length (a .flow .now)))
+    (Scanned.Whole (c .s2 .given .0 .0) (c .s2 .given .0 .1 .0))
 here c = stopped (c .before .before) (c .s2 .given .1)
 
 long : (c : tie.After-s2) → let a = c .before .before .before .before .before .args in c .s2 .given .0 .1 .0 < length (a .bytes .now)
@@ -50,8 +52,10 @@ slice-aggregate-count-job c = sym (length-take-le _ _ (omega (arith, long (c .be
 count-job-requires : tie.Need-count-job-requires
 count-job-requires c κs =
     let g = c .before .before .before .before .before .before .before in
-    let s = g .before .before .before .before .before in
-    (records (s .args .bytes .now) (s .args .samples .now) (s .args .weights .now) (s .args .flow .now) (here g .0) (here g .1), s .pre .1)
+    let s = g .before .before .before .before .before in (
+      records (s .args .bytes .now) (s .args .samples .now) (s .args .weights .now) (s .args .flow .now) (here g .0) (here g .1),
+      s .pre .1,
+    )
 
 returns : tie.Need-returns
 returns c =
