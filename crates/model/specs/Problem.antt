@@ -47,7 +47,7 @@ misfit p x = total (p .pixels) (λ i. square (x i -ℤ p .reading i))
 unfoldable pub price : Problem → (ℕ → ℤ) → ℤ
 price p x = misfit p x +ℤ pos 2 *ℤ total (pairCount p) (λ j. pos (p .weight j) *ℤ abs (fall p x j))
 
--- Sum of the weights over pairs, which bounds a settled slack (SPECIFICATION 8.8)
+-- Sum of the weights over pairs, which bounds a settled slack (SPECIFICATION 8.7)
 unfoldable pub weightSum : Problem → ℤ
 weightSum p = total (pairCount p) (λ j. pos (p .weight j))
 

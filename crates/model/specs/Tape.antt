@@ -75,8 +75,8 @@ decoded kind b =
 abbrev pub sized : ℕ → ℕ → Terms
 sized w h = record { width = w; height = h; weight = 0; low = 0; high = 0 }
 
-abbrev pub weighted : Terms → ℕ → ℕ → ℕ → Terms
-weighted t weight low high =
+abbrev pub withBox : Terms → ℕ → ℕ → ℕ → Terms
+withBox t weight low high =
     record { width = t .width; height = t .height; weight = weight; low = low; high = high }
 
 -- What has been read so far: how many of the records 1, 2, 3 (the header), their numbers, the samples, the pair weights, the
@@ -142,7 +142,7 @@ absorbed p (Size w h) =
 absorbed p (WeightBox weight low high) =
     record {
       header = 2;
-      terms = weighted (p .terms) weight low high;
+      terms = withBox (p .terms) weight low high;
       rounds = p .rounds;
       samples = p .samples;
       weights = p .weights;
@@ -209,8 +209,8 @@ recordRows followed tape o may =
 abbrev pub tooShort : ℕ → Bool
 tooShort number = eqb number 13 || eqb number 18
 
--- Terms and a pair's weight are judged at their record, whose offset is the place; 16 right after 1, for all samples and, in
--- both buffers, all pairs, at place 0
+-- Terms and a pair's weight are judged at their record, whose offset is the place; 16 right after 1, at place 0, for all
+-- samples and, in the weight and in the flow buffer, all pairs
 abbrev pub entryRows : ℕ → Lent → Entry → List Row
 entryRows o lent End = []
 entryRows o lent (Size w h) =
@@ -223,7 +223,7 @@ entryRows o lent (Size w h) =
     0
     ∷ []
 entryRows o lent (WeightBox weight low high) =
-    weightRow weight o ∷ boxRow (weighted (sized 0 0) weight low high) o ∷ []
+    weightRow weight o ∷ boxRow (withBox (sized 0 0) weight low high) o ∷ []
 entryRows o lent (RoundLimits q a) = roundsRow (record { quick = q; allowance = a }) o ∷ []
 entryRows o lent (Sample s) = []
 entryRows o lent (Flow f) = []
