@@ -5,7 +5,7 @@ use Rattle.model.specs.declared.Entry.{Entry}
 use Rattle.model.specs.declared.Entry.the-variants.{End, Size, WeightBox, RoundLimits, Sample, Flow, PairWeight}
 use Rattle.model.specs.Verdict.{firstRefusal, decided}
 use Rattle.model.specs.Calls.{pixelsOf, pairsOf}
-use Rattle.model.specs.Tape.{sized, weighted, entryRows}
+use Rattle.model.specs.Tape.{sized, withBox, entryRows}
 use Rattle.records.specs.declared.tally.Tally.{Tally}
 use Rattle.records.specs.declared.record.Cursor.{Cursor}
 use Rattle.records.specs.declared.record.Got.{Got}
@@ -37,7 +37,7 @@ tallied t (Size w h) =
 tallied t (WeightBox weight low high) =
     record {
       header = 2;
-      terms = weighted (t .terms) weight low high;
+      terms = withBox (t .terms) weight low high;
       rounds = t .rounds;
       pixels = t .pixels;
       pairs = t .pairs;
