@@ -12,19 +12,37 @@ import pathlib
 import random
 import subprocess
 import sys
+import types
 
 TOP = pathlib.Path(__file__).resolve().parent.parent
 sys.path.insert(0, str(TOP / "examples"))
 import make_facade  # noqa: E402: the surface without noise is known there
+import pgm2tape  # noqa: E402: the records of a tape
 
 PROGRAM = os.environ.get("RELIEF_BIN", TOP / "target/bin/relief")
 WIDTH, HEIGHT = make_facade.WIDTH, make_facade.HEIGHT
 CODES = [make_facade.facade(x, y) for y in range(HEIGHT) for x in range(WIDTH)]
+PAIRS = [(i, i + WIDTH) for i in range(WIDTH * (HEIGHT - 1))]
+PAIRS += [(i, i + 1) for i in range(WIDTH * HEIGHT) if (i + 1) % WIDTH]
 
 
 def centred(codes):
     """Codes as depths in levels: each is read at the centre of its level."""
     return [code + 0.5 for code in codes]
+
+
+def answer(tape):
+    """The slack and the image, as depths in levels, that the program gives for a tape."""
+    words = subprocess.run([PROGRAM], input=tape, stdout=subprocess.PIPE, check=True).stdout.split()
+    return int(words[9]), [int(value) / 256 for value in words[10:]]
+
+
+def clean_across(samples, weight, low, high, joints):
+    """The same for samples, with weight 0 at the pairs of a pixel in a joint and one beside it alone."""
+    terms = types.SimpleNamespace(weight=weight, low=low, high=high, quick=100, allowance=1000)
+    weights = [weight if (i in joints) == (j in joints) else 0 for i, j in PAIRS]
+    rows = [samples[i:i + WIDTH] for i in range(0, len(samples), WIDTH)]
+    return answer(pgm2tape.tape(rows, weights, terms))
 
 
 def clean(samples, weight, low=0, high=255, *words):
@@ -33,8 +51,7 @@ def clean(samples, weight, low=0, high=255, *words):
     terms = ["--weight", str(weight), "--low", str(low), "--high", str(high), *words]
     tape = subprocess.run([sys.executable, TOP / "examples/pgm2tape.py", *terms],
                           input=picture, stdout=subprocess.PIPE, check=True).stdout
-    words = subprocess.run([PROGRAM], input=tape, stdout=subprocess.PIPE, check=True).stdout.split()
-    return int(words[9]), [int(value) / 256 for value in words[10:]]
+    return answer(tape)
 
 
 def rms(one, other):
@@ -44,26 +61,24 @@ def rms(one, other):
 
 def solve(readings, weight, low, high, rounds=500):
     """The best raster of depths in levels, by FGP in floating point, and a bound on its own distance (root mean square)."""
-    pairs = [(i, i + WIDTH) for i in range(WIDTH * (HEIGHT - 1))]
-    pairs += [(i, i + 1) for i in range(WIDTH * HEIGHT) if (i + 1) % WIDTH]
     most = weight / 256
 
     def image(flow):
         values = list(readings)
-        for (i, j), number in zip(pairs, flow):
+        for (i, j), number in zip(PAIRS, flow):
             values[i] -= number
             values[j] += number
         return [min(max(value, low), high + 255 / 256) for value in values]
 
-    flow, ahead, momentum = [0.0] * len(pairs), [0.0] * len(pairs), 1.0
+    flow, ahead, momentum = [0.0] * len(PAIRS), [0.0] * len(PAIRS), 1.0
     for _ in range(rounds):
         at = image(ahead)
-        step = [min(max(r + (at[i] - at[j]) / 8, -most), most) for (i, j), r in zip(pairs, ahead)]
+        step = [min(max(r + (at[i] - at[j]) / 8, -most), most) for (i, j), r in zip(PAIRS, ahead)]
         longer = (1 + math.sqrt(1 + 4 * momentum ** 2)) / 2
         ahead = [p + (momentum - 1) / longer * (p - q) for p, q in zip(step, flow)]
         flow, momentum = step, longer
     best = image(flow)
-    slack = sum(2 * (most * abs(best[i] - best[j]) - p * (best[i] - best[j])) for (i, j), p in zip(pairs, flow))
+    slack = sum(2 * (most * abs(best[i] - best[j]) - p * (best[i] - best[j])) for (i, j), p in zip(PAIRS, flow))
     return best, math.sqrt(max(slack, 0) / len(best))
 
 
@@ -82,8 +97,9 @@ def main():
     weights = TOP / "examples/facade-weights.pgm"
     slack, kept = clean(scan, weight, low, high, "--weights", weights)
     print(f"the same with a weight for each pair, by {weights.name}: slack {slack}")
-    rasters = {"scan": centred(scan), "cleaned": cleaned, "with weights": kept}
     joints = [i for i, code in enumerate(CODES) if code == make_facade.JOINT]
+    _, across = clean_across(scan, weight, low, high, set(joints))
+    rasters = {"scan": centred(scan), "cleaned": cleaned, "with weights": kept, "0 across edges only": across}
     print("mean depth of the joints:", *(f"{name} {sum(raster[i] for i in joints) / len(joints):.1f}"
                                          for name, raster in rasters.items()))
     print("distance (root mean square) to the surface without noise:")
