@@ -2,9 +2,11 @@
 """Makes a PNG picture from a plain PGM one (P2, without comments), each pixel as a square of 8 by 8.
 
     python3 docs/pictures/pgm2png.py < examples/facade.pgm > docs/pictures/facade.png
+    python3 docs/pictures/pgm2png.py < examples/facade-weights.pgm > docs/pictures/facade-weights.png
     python3 docs/pictures/pgm2png.py < target/examples/facade-cleaned.pgm > docs/pictures/facade-cleaned.png
+    python3 docs/pictures/pgm2png.py < target/examples/facade-joints-cleaned.pgm > docs/pictures/facade-joints-cleaned.png
 
-The second picture is there after `bash tools/clean-sample.sh`.
+The last two pictures are there after `bash tools/clean-sample.sh`.
 """
 
 import struct
