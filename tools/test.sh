@@ -49,7 +49,10 @@ python3 tests/scripts.py
 # the sample season is these tapes, one behind the other
 cat examples/two-by-one.tape examples/facade.tape examples/two-by-one-flow.tape | cmp - examples/season.tape
 "$RELIEF_SEASON" < examples/season.tape | cmp - examples/season.txt
-# a cut tape and an unfinished one, as the README shows them
+# the answers that the README shows: of the samples, of a cut tape and of an unfinished one
+for sample in two-by-one two-by-one-flow facade facade-joints; do
+    grep -qxF "    $("$RELIEF_BIN" < "examples/$sample.tape" | sed -n 2p)" README.md
+done
 head -c 6 examples/two-by-one.tape | "$RELIEF_BIN" | cmp - <(echo refused 13 at 5)
 head -c 5 examples/two-by-one.tape | "$RELIEF_BIN" | cmp - <(echo refused 18 at 5)
 # the first command of the README, as it stands there: the program is proved already

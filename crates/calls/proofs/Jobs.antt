@@ -3,7 +3,7 @@ use mathlib.Core.Path.{_≡_, sym, ap, _∙_, subst}
 use mathlib.Core.List.{List, []}
 use Prim.Native.Nat.{ℕ, _^_, _≤_, _<_}
 use native.Mathlib.Omega.{arith}
-use lib.IntN.{ℤ, pos, natAbs}
+use lib.IntN.{ℤ}
 use lib.ListN.{length, getD}
 use lib.Signed.{_≤ℤ_}
 use Rattle.integers.proofs.Absolute.{natAbs-upto}
@@ -19,7 +19,7 @@ use Rattle.model.proofs.Range.{widest-fits}
 use Rattle.model.proofs.Bounds as Bounds
 use Rattle.model.proofs.Bounds.{value-least, value-most, image-inside}
 use Rattle.runs.specs.Limits.{Within, MisfitLimits}
-use Rattle.raster.specs.Whole.{RasterLimits, FallLimits, WorkLimits}
+use Rattle.raster.specs.Whole.{RasterLimits, WeightedLimits, WorkLimits}
 use Rattle.raster.proofs.Model.{weight-limits}
 use Rattle.runs.proofs.Elements.{within-below}
 use Rattle.model.proofs.Answers.{held-image}
@@ -53,7 +53,7 @@ module _ (t : Terms) (samples : List ℕ) (weights : List ℤ) where
             image-most = image-most;
           }
 
-      pub fall-limits : FallLimits (t .width) (t .height) (pairsOf t) values weights
+      pub fall-limits : WeightedLimits (t .width) (t .height) (pairsOf t) values weights
       fall-limits = record { raster = raster-limits; weights-limits = weight-limits t weights (ok .pair-weights) }
 
       pub misfit-limits : length samples ≡ pixelsOf t → MisfitLimits values samples

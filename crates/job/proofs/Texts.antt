@@ -27,7 +27,8 @@ use Rattle.terms.proofs.Size.{allowed-size}
 use Rattle.roundtrip.proofs.Accepted.{accepted-job}
 use Rattle.roundtrip.proofs.Judged.{accepted-parse, passed-parse, answer-by, samples-by, weights-by, flow-by}
 use Rattle.roundtrip.proofs.RoundTrip.{counted}
-use Rattle.job.specs.Tables.{Tables, Holds, weightsOf, answerIn, imageFront, imageIn}
+use Rattle.roundtrip.specs.RoundTrip.{allOf}
+use Rattle.job.specs.Tables.{Tables, Holds, answerIn, imageFront, imageIn}
 use Rattle.job.specs.Cleaned.{after}
 use Rattle.job.proofs.Formers.{Shows, ofCheck, same-check, ofRun, same-run}
 
@@ -105,7 +106,7 @@ module _ {X : Type 0} (shown : Answer → List ℤ → X) (shows : Shows shown) 
   codes : take (pixelsOf (p .terms)) S ≡ p .samples
   codes = front-read (p .samples) samples (pixelsOf (p .terms)) (f .sampled)
 
-  own : take (weightsOf weighted (pairsOf (p .terms))) W ≡ p .weights
+  own : take (allOf weighted (pairsOf (p .terms))) W ≡ p .weights
   own = front-read (p .weights) weights _ (sym (counted (length (p .weights)) (pairsOf (p .terms)) (f .weighs)))
 
   front-length : length (take (pixelsOf (p .terms)) image) ≡ pixelsOf (p .terms)

@@ -8,6 +8,7 @@ use lib.ListN.{take, drop}
 use Rattle.model.specs.declared.Terms.{Terms}
 use Rattle.model.specs.declared.Rounds.{Rounds}
 use Rattle.model.specs.Grid.{sizeAllowed}
+use Rattle.roundtrip.specs.RoundTrip.{allOf}
 use Rattle.model.specs.Calls.{Answer, pixelsOf, pairsOf, checkAnswer, checkImage, runAnswer, runFlow, runImage, runWork}
 
 -- an allowed size, and tables that are long enough
@@ -24,17 +25,13 @@ pub record Holds (samples flow image work : ℕ) : Type 0 where
   pub imageHolds : samples ≤ image
   pub workHolds : 2 * flow ≤ work
 
--- how many weights a job has: one for each pair where they were there, else none
-abbrev pub weightsOf : Bool → ℕ → ℕ
-weightsOf weighted pairs = cond weighted pairs 0
-
 module _ (t : Terms) (r : Rounds) (weighted flowed : Bool) (samples : List ℕ) (weights flow image work : List ℤ) where
   -- what the calls are lent: the tables' fronts
   abbrev samplesLent : List ℕ
   samplesLent = take (pixelsOf t) samples
 
   abbrev weightsLent : List ℤ
-  weightsLent = take (weightsOf weighted (pairsOf t)) weights
+  weightsLent = take (allOf weighted (pairsOf t)) weights
 
   abbrev flowLent : List ℤ
   flowLent = take (pairsOf t) flow

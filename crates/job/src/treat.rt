@@ -8,11 +8,12 @@ use model::Terms;
 ghost use mathlib.Core.Path.{_≡_};
 ghost use lib.ListN.{length};
 ghost use Rattle.calls.specs.Answers.{answerOf};
-ghost use Rattle.job.specs.Tables.{Tables, weightsOf, answerIn, flowIn, imageIn, workIn};
+ghost use Rattle.roundtrip.specs.RoundTrip.{allOf};
+ghost use Rattle.job.specs.Tables.{Tables, answerIn, flowIn, imageIn, workIn};
 
 // How many weights of pairs are lent: all or none.
 fn weights_of(weighted: bool, pairs: usize) -> usize
-    ensures { λ r. ⌜ r ≡ weightsOf weighted pairs ⌝ }
+    ensures { λ r. ⌜ r ≡ allOf weighted pairs ⌝ }
 {
     if weighted { pairs } else { 0 }
 }

@@ -7,7 +7,6 @@ use Prim.Native.Nat.{ℕ, _≤_}
 use native.Mathlib.Omega.{arith}
 use lib.Dec.{ltb}
 use lib.IntN.{ℤ}
-use lib.ListN.{length}
 use Rattle.model.specs.declared.Terms.{Terms}
 use Rattle.model.specs.declared.Verdict.{Verdict}
 use Rattle.model.specs.Grid.{sizeAllowed}

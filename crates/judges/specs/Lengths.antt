@@ -1,21 +1,12 @@
--- The rows of lent lengths, by numbers; and the lengths that the buffers of a job have to have, as the code counts them: 0 where
--- the size is refused.
-use mathlib.Core.Bool.{not, _&&_, cond}
+-- The lengths that the buffers of a job have to have, as the code counts them: 0 where the size is refused; and the rows of lent
+-- lengths.
+use mathlib.Core.Bool.{cond}
 use mathlib.Core.List.{List, [], _∷_}
 use Prim.Native.Nat.{ℕ}
-use lib.Dec.{eqb}
 use Rattle.model.specs.declared.Terms.{Terms}
 use Rattle.model.specs.Grid.{sizeAllowed}
-use Rattle.model.specs.Verdict.{Row, row}
-use Rattle.model.specs.Calls.{pixelsOf, pairsOf}
-
--- A length that has to be exact
-abbrev pub exactRow : ℕ → ℕ → ℕ → Row
-exactRow number lent due = row (not (eqb lent due)) number 0
-
--- .. or, of a buffer that need not be lent, exact or 0
-abbrev pub exactOrNoneRow : ℕ → ℕ → ℕ → Row
-exactOrNoneRow number lent due = row (not (eqb lent 0) && not (eqb lent due)) number 0
+use Rattle.model.specs.Verdict.{Row}
+use Rattle.model.specs.Calls.{pixelsOf, pairsOf, exactRow, exactOrNoneRow}
 
 abbrev pub pixelsDue : Terms → ℕ
 pixelsDue t = cond (sizeAllowed (t .width) (t .height)) (pixelsOf t) 0

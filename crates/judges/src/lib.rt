@@ -10,8 +10,8 @@ ghost use lib.Dec.{ltb};
 ghost use lib.ListN.{length};
 ghost use Rattle.model.specs.Verdict.{row, firstRefusal, decided};
 ghost use Rattle.model.specs.Grid.{weightOf};
-ghost use Rattle.model.specs.Calls.{pixelsOf, pairsOf, sizeRow, weightRow, boxRow, lengthRow, optionalRow, pairWeightsRow, flowRow};
-ghost use Rattle.judges.specs.Lengths.{exactRow, exactOrNoneRow, pixelsDue, pairsDue, lengthRows};
+ghost use Rattle.model.specs.Calls.{exactRow, exactOrNoneRow, pixelsOf, pairsOf, sizeRow, weightRow, boxRow, lengthRow, optionalRow, pairWeightsRow, flowRow};
+ghost use Rattle.judges.specs.Lengths.{pixelsDue, pairsDue, lengthRows};
 ghost use Rattle.judges.specs.Outside.{outsideRow};
 
 // The first of two verdicts that refuses.
@@ -39,10 +39,10 @@ fn exact(lent: usize, due: usize, number: u32) -> Verdict
 fn exact_or_none(lent: usize, due: usize, number: u32) -> Verdict
     ensures { λ r. ⌜ r ≡ firstRefusal (exactOrNoneRow number lent due ∷ []) ⌝ }
 {
-    if lent == 0 {
-        Verdict::Accept
+    if terms::wrong_length(lent, due) {
+        Verdict::Refuse { number, place: 0 }
     } else {
-        exact(lent, due, number)
+        Verdict::Accept
     }
 }
 

@@ -195,7 +195,7 @@ number-allowed rows numbered a zero {A} asked = go (firstRefusal rows) refl
               absurd (omega arith),
         )
 
--- Check: allowed terms and lengths, and no value of the flow exceeds the weight in size
+-- Check: allowed terms, weights and lengths, and no value of the flow exceeds its pair's weight in size
 module _ (t : Terms) (samples : List ℕ) (weights flow values : List ℤ) where
   pub check-accepted : (checkVerdict t samples weights flow values ≡ Accept) ↔ CheckAllowed t samples weights flow values
   unfolding checkVerdict
@@ -233,7 +233,7 @@ module _ (t : Terms) (samples : List ℕ) (weights flow values : List ℤ) where
   pub check-feasible : CheckAllowed t samples weights flow values → Feasible (grid t samples weights) (at flow)
   check-feasible a j l = a .contents j (rw (a .flow-length) l)
 
--- Price: allowed terms and lengths, and every value of the image lies within the box
+-- Price: allowed terms, weights and lengths, and every value of the image lies within the box
 module _ (t : Terms) (samples : List ℕ) (weights values : List ℤ) where
   pub price-accepted : (priceVerdict t samples weights values ≡ Accept) ↔ PriceAllowed t samples weights values
   unfolding priceVerdict
@@ -269,7 +269,7 @@ module _ (t : Terms) (samples : List ℕ) (weights values : List ℤ) where
   pub price-inside : PriceAllowed t samples weights values → InBox (grid t samples weights) (at values)
   price-inside a i l = a .contents i (rw (a .image-length) l)
 
--- Run: allowed terms, number of quick rounds and lengths
+-- Run: allowed terms, weights, number of quick rounds and lengths
 module _ (t : Terms) (r : Rounds) (samples : List ℕ) (weights flow values work : List ℤ) where
   pub run-accepted : (runVerdict t r samples weights flow values work ≡ Accept) ↔ RunAllowed t r samples weights flow values work
   unfolding runVerdict

@@ -1,5 +1,5 @@
 -- Sizes within limits never overflow 64 bits: on an allowed job every price of an image of the box, and every floor of a
--- flow within the weight, is at most `perPixel` for each pixel in size, so at most `largest`, and three times that is
+-- flow within the weights, is at most `perPixel` for each pixel in size, so at most `largest`, and three times that is
 -- below 2⁶³. Assumes nothing.
 use mathlib.Core.Path.{_≡_, refl, sym, subst}
 use mathlib.Core.Bool.{Bool, true, false, _&&_, true≢false}

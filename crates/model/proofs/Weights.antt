@@ -2,15 +2,14 @@
 -- 65,280. Assumes nothing.
 use mathlib.Core.Path.{_≡_, ap, _∙_}
 use mathlib.Core.List.{List, []}
-use Prim.Native.Nat.{ℕ, zero, suc, _*_, _≤_, _<_}
+use Prim.Native.Nat.{ℕ, zero, suc, _*_, _≤_}
 use native.Mathlib.Omega.{arith}
 use lib.IntN.{ℤ, pos, natAbs, _+ℤ_}
-use lib.ListN.{length, getD}
+use lib.ListN.{getD}
 use lib.Signed.{_≤ℤ_}
 use Rattle.integers.specs.Sum.{total}
 use Rattle.integers.proofs.Order.{0≤pos, pos-natAbs-nonneg}
 use Rattle.integers.proofs.Absolute.{natAbs-upto}
-use Rattle.model.specs.Lists.{at}
 use Rattle.model.specs.Problem.{weightSum}
 use Rattle.model.specs.Grid.{Terms, weightOf, grid}
 use Rattle.model.specs.Calls.{pairsOf}

@@ -1,7 +1,7 @@
 -- The calls check, price and run: where each turns back, its answer, and what it leaves in each lent buffer. `Rounds`,
 -- declared in src/lib.rt, are the other numbers of a job: quick rounds and the allowance of steady rounds
 -- (docs/SPECIFICATION.md, sections 4 and 6).
-use mathlib.Core.Bool.{not, _&&_, _||_, cond}
+use mathlib.Core.Bool.{Bool, not, _&&_, _||_, cond}
 use mathlib.Core.List.{List, [], _∷_}
 use Prim.Native.Nat.{ℕ, _*_}
 use lib.Dec.{eqb, ltb}
@@ -59,12 +59,21 @@ abbrev pub roundsRow : Rounds → ℕ → Row
 roundsRow r place = row (ltb 4096 (r .quick)) 10 place
 
 -- Lent lengths, which must be exact: 4 samples; 5 flow; 6 image; 7 work (SPECIFICATION 6.2)
+abbrev pub exactRow : ℕ → ℕ → ℕ → Row
+exactRow number lent due = row (not (eqb lent due)) number 0
+
 abbrev pub lengthRow : {A : Type 0} → ℕ → List A → ℕ → Row
-lengthRow number buffer due = row (not (eqb (length buffer) due)) number 0
+lengthRow number buffer due = exactRow number (length buffer) due
 
 -- .. or, of a buffer that need not be lent, exact or 0: 19 weights; 5 the flow to be written
+abbrev pub wrongLength : ℕ → ℕ → Bool
+wrongLength lent due = not (eqb lent 0) && not (eqb lent due)
+
+abbrev pub exactOrNoneRow : ℕ → ℕ → ℕ → Row
+exactOrNoneRow number lent due = row (wrongLength lent due) number 0
+
 abbrev pub optionalRow : {A : Type 0} → ℕ → List A → ℕ → Row
-optionalRow number buffer due = row (not (eqb (length buffer) 0) && not (eqb (length buffer) due)) number 0
+optionalRow number buffer due = exactOrNoneRow number (length buffer) due
 
 -- Contents: 2 pair weight over the limit, 8 flow number beyond ± its pair's weight, 9 image value outside the box; the place
 -- is the first index (SPECIFICATION 6.2, 6.3)

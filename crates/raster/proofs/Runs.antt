@@ -7,9 +7,9 @@ use native.Mathlib.Nat.{le-of-eq, mul-le-mul-right}
 use native.Mathlib.Omega.{arith}
 use lib.IntN.{ℤ, pos}
 use lib.ListN.{length, take, drop, length-drop}
-use lib.Seq.{length-take-le, getD-take, getD-drop}
+use lib.Seq.{length-take-le, getD-drop}
 use Rattle.model.specs.Lists.{at}
-use Rattle.runs.specs.Limits.{Within, WeightLimits, StepLimits, VariationLimits, FallLimits}
+use Rattle.runs.specs.Limits.{Within, StepLimits, VariationLimits, FallLimits}
 use Rattle.raster.specs.Whole.{firstPixel, secondPixel, rowPixel, AcrossLimits, GridLimits, GridSize, RasterLimits, WorkLimits}
 use Rattle.model.specs.Grid.{gridPairs}
 use Rattle.model.proofs.Pairs.{grid-count}

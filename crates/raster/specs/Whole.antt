@@ -90,7 +90,7 @@ pub record RasterLimits (w h : ℕ) (image : List ℤ) : Type 0 where
   pub image-most : Within (2 ^ 20) image
 
 -- and the weights of n of its pairs, or their numbers
-pub record FallLimits (w h n : ℕ) (image weights : List ℤ) : Type 0 where
+pub record WeightedLimits (w h n : ℕ) (image weights : List ℤ) : Type 0 where
   pub raster : RasterLimits w h image
   pub weights-limits : WeightLimits n weights
 

@@ -14,7 +14,7 @@ ghost use Rattle.model.specs.Lists.{at, table, firstWhere};
 ghost use Rattle.model.specs.Grid.{gridPairs};
 ghost use Rattle.model.specs.Rounds.{nearestEighth};
 ghost use Rattle.runs.specs.Run.{weightAt, movingOf};
-ghost use Rattle.raster.specs.Whole.{AcrossLimits, rowStep, rowMoves, GridLimits, gridStep, gridMoves, rowFall, gridFall, rowVariation, gridVariation, FallLimits, WorkLimits};
+ghost use Rattle.raster.specs.Whole.{AcrossLimits, rowStep, rowMoves, GridLimits, gridStep, gridMoves, rowFall, gridFall, rowVariation, gridVariation, WeightedLimits, WorkLimits};
 
 // The horizontal pairs of all rows, a run for each.
 fn step_rows(
@@ -132,7 +132,7 @@ pub fn first_moving_grid(
 // The sum of the horizontal pairs' weights times the sizes of their falls; without weights, each
 // counts once.
 fn total_variation_rows(image: &[i32], width: usize, height: usize, weights: &[i32]) -> u64
-    requires { ⌜ FallLimits width height (height * (width - 1)) (now image) (now weights) ⌝ }
+    requires { ⌜ WeightedLimits width height (height * (width - 1)) (now image) (now weights) ⌝ }
     ensures { λ r. ⌜ pos r ≡ total (height * (width - 1)) (rowVariation width (weightAt (pos 1) (now (weights .entry))) (now (image .entry))) ⌝ }
 {
     let across = width - 1;
@@ -152,7 +152,7 @@ fn total_variation_rows(image: &[i32], width: usize, height: usize, weights: &[i
 
 // The sum of all pairs' weights times the sizes of their falls; without weights, each counts once.
 pub fn total_variation_grid(image: &[i32], width: usize, height: usize, weights: &[i32]) -> u64
-    requires { ⌜ FallLimits width height (length (gridPairs width height)) (now image) (now weights) ⌝ }
+    requires { ⌜ WeightedLimits width height (length (gridPairs width height)) (now image) (now weights) ⌝ }
     ensures { λ r. ⌜ pos r ≡ total (length (gridPairs width height)) (gridVariation width height (weightAt (pos 1) (now (weights .entry))) (now (image .entry))) ⌝ }
 {
     let vertical = width * (height - 1);

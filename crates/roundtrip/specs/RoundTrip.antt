@@ -1,6 +1,6 @@
 -- The round trip, as the contracts of read and write cite it: given long enough buffers, a job written to tape reads back as
 -- that job, and an accepted tape written again gives its own bytes (SPECIFICATION 8.9).
-use mathlib.Core.Bool.{not, cond}
+use mathlib.Core.Bool.{Bool, not, cond}
 use mathlib.Core.List.{List}
 use mathlib.Core.Path.{_≡_}
 use Prim.Native.Nat.{ℕ, _≤_}
@@ -47,8 +47,11 @@ WritesBack t r samples weights numbers tape =
     (output : List ℕ) → length tape ≤ length output → Writes t r samples weights numbers tape output
 
 -- how many weights and how many flow numbers read left: all pairs' where they were there, else none
+abbrev pub allOf : Bool → ℕ → ℕ
+allOf there pairs = cond there pairs 0
+
 abbrev pub weightCount : ReadAnswer → ℕ
-weightCount a = cond (a .weighted) (pairsOf (a .terms)) 0
+weightCount a = allOf (a .weighted) (pairsOf (a .terms))
 
 abbrev pub flowCount : ReadAnswer → ℕ
-flowCount a = cond (a .flowed) (pairsOf (a .terms)) 0
+flowCount a = allOf (a .flowed) (pairsOf (a .terms))

@@ -26,7 +26,8 @@ pub enum Step {
     More(Tally, Cursor),
 }
 
-// 1 size, at the record; 16 right after it, for all samples and, in both buffers, all pairs.
+// 1 size, at the record; 16 right after it, for all samples, and for all pairs in the weight and in
+// the flow buffer.
 fn take_size(t: Tally, width: u32, height: u32, next: Cursor, at: usize, lent: Lent) -> Step
     ensures { λ r. ⌜ r ≡ judgedEntry t (Entry.Size width height) next at lent ⌝ }
 {

@@ -22,7 +22,7 @@ use Rattle.model.proofs.Lists.{length-table, getD-table, getD-inside, firstWher
 use Rattle.model.specs.declared.Lent.{Lent}
 use Rattle.records.specs.declared.tally.Tally.{Tally}
 use Rattle.records.specs.Tally.{tallyOf}
-use Rattle.tape_read.specs.Places.{weightAt, numberAt, ownWeight, beyondOwn}
+use Rattle.tape_read.specs.Places.{pairWeightAt, numberAt, ownWeight, beyondOwn}
 use Rattle.roundtrip.proofs.Entries.{Ranged, kindOf, kind-here, entry-here}
 use Rattle.roundtrip.proofs.Offsets.{tape-length, sample-here, weight-here, flow-here}
 use Rattle.roundtrip.proofs.Accepted.{Job}
@@ -32,7 +32,7 @@ abbrev pub codeOn : List ℕ → ℕ → ℕ
 codeOn tape i = getD tape (15 + 2 * i + 1) 0
 
 abbrev pub weightOn : List ℕ → ℕ → ℕ → ℕ
-weightOn tape samples j = weightAt tape (15 + 2 * samples + 3 * j)
+weightOn tape samples j = pairWeightAt tape (15 + 2 * samples + 3 * j)
 
 abbrev pub numberOn : List ℕ → ℕ → ℕ → ℕ → ℤ
 numberOn tape samples weights j = numberAt tape (15 + 2 * samples + 3 * weights + 5 * j)

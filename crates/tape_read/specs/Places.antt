@@ -8,8 +8,8 @@ use lib.ListN.{getD}
 use Rattle.model.specs.Tape.{fromTwo, fromFour}
 
 -- the weight of the pair whose record stands at offset o
-abbrev pub weightAt : List ℕ → ℕ → ℕ
-weightAt tape o = fromTwo (getD tape (o + 1) 0) (getD tape (o + 1 + 1) 0)
+abbrev pub pairWeightAt : List ℕ → ℕ → ℕ
+pairWeightAt tape o = fromTwo (getD tape (o + 1) 0) (getD tape (o + 1 + 1) 0)
 
 -- the number of the flow record at offset o
 abbrev pub numberAt : List ℕ → ℕ → ℤ
@@ -18,7 +18,7 @@ numberAt tape o =
 
 -- the weight of pair j, of so many weight records from an offset on: its own, or, where there are none, the terms' weight
 abbrev pub ownWeight : List ℕ → ℕ → ℕ → ℕ → ℕ → ℕ
-ownWeight tape start count weight j = cond (eqb count 0) weight (weightAt tape (start + 3 * j))
+ownWeight tape start count weight j = cond (eqb count 0) weight (pairWeightAt tape (start + 3 * j))
 
 -- whether the number of pair j, of flow records from `start` on, is beyond ± that weight, of so many weight records from `own` on
 abbrev pub beyondOwn : List ℕ → ℕ → ℕ → ℕ → ℕ → ℕ → Bool

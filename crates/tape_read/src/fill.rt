@@ -8,7 +8,7 @@ ghost use Prim.Native.Nat.{_+_, _*_, _≤_};
 ghost use lib.IntN.{pos};
 ghost use lib.ListN.{length, getD};
 ghost use Rattle.model.specs.Lists.{table, firstWhere, overwritten};
-ghost use Rattle.tape_read.specs.Places.{weightAt, numberAt, ownWeight, beyondOwn};
+ghost use Rattle.tape_read.specs.Places.{pairWeightAt, numberAt, ownWeight, beyondOwn};
 
 // The weight of pair j, of so many weight records from an offset on: its own, or, where there are
 // none, the terms' weight.
@@ -62,7 +62,7 @@ pub fn fill_samples(tape: &[u8], start: usize, count: usize, samples: &mut [u8])
 // So many weight records, from an offset on, into the front of a buffer.
 pub fn fill_weights(tape: &[u8], start: usize, count: usize, weights: &mut [i32])
     requires { ⌜ (start + 3 * count ≤ length (now tape)) × (count ≤ length (now weights)) ⌝ }
-    ensures { λ _. ⌜ now (weights .exit) ≡ overwritten (table count (λ j. pos (weightAt (now (tape .entry)) (start + 3 * j)))) (now (weights .entry)) ⌝ }
+    ensures { λ _. ⌜ now (weights .exit) ≡ overwritten (table count (λ j. pos (pairWeightAt (now (tape .entry)) (start + 3 * j)))) (now (weights .entry)) ⌝ }
 {
     let mut j = 0;
     while j < count {

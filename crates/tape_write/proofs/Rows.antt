@@ -1,12 +1,12 @@
 -- The rows of write: those of the terms, then the lower ones; and what tests that the code has made say of a row. Assumes
 -- nothing.
 use mathlib.Core.Path.{_≡_, sym, ap, _∙_}
-use mathlib.Core.Bool.{Bool, false, not, _&&_}
+use mathlib.Core.Bool.{Bool, false, not}
 use mathlib.Core.List.{List, [], _∷_, _++_}
 use mathlib.Core.Logic.{_⊎_, ⊎-elim}
 use Prim.Native.Nat.{ℕ, _≤_, _<_}
 use native.Mathlib.Omega.{arith}
-use lib.Dec.{eqb, ltb}
+use lib.Dec.{ltb}
 use lib.IntN.{ℤ}
 use lib.ListN.{length}
 use borrow.Author.Tests.{lt-ltb, le-ltb}
@@ -14,7 +14,7 @@ use Rattle.model.specs.declared.Terms.{Terms}
 use Rattle.model.specs.declared.Rounds.{Rounds}
 use Rattle.model.specs.declared.Verdict.{Verdict}
 use Rattle.model.specs.Verdict.{Row, row, firstRefusal, decided}
-use Rattle.model.specs.Calls.{sizeRow, weightRow, boxRow}
+use Rattle.model.specs.Calls.{sizeRow, weightRow, boxRow, wrongLength}
 use Rattle.model.specs.Tape.{writeRows}
 use Rattle.model.proofs.Refusals.{refused, passed, firstRefusal-append}
 use Rattle.model.proofs.Accepted.{optional-passes}
@@ -47,14 +47,11 @@ module _ {place first : ℕ} (e : place ≡ first) (n number : ℕ) (rows : List
   none-found h = passed _ _ (ap (λ (m : ℕ). ltb m n) (sym e) ∙ le-ltb place n h)
 
 -- the test of a length that has to be 0 or the one that is due
-abbrev pub wrong : ℕ → ℕ → Bool
-wrong n due = not (eqb n 0) && not (eqb n due)
-
-pub tested : (n : ℕ) {due pairs : ℕ} {b : Bool} → due ≡ pairs → b ≡ wrong n due → wrong n pairs ≡ b
-tested n e h = ap (wrong n) (sym e) ∙ sym h
+pub tested : (n : ℕ) {due pairs : ℕ} {b : Bool} → due ≡ pairs → b ≡ wrongLength n due → wrongLength n pairs ≡ b
+tested n e h = ap (wrongLength n) (sym e) ∙ sym h
 
 -- such a length, once it has passed (the row's number does not count); what it is to what is due, and to another
-pub none-or-due : {A : Type 0} (buffer : List A) {pairs : ℕ} → wrong (length buffer) pairs ≡ false →
+pub none-or-due : {A : Type 0} (buffer : List A) {pairs : ℕ} → wrongLength (length buffer) pairs ≡ false →
     (length buffer ≡ 0) ⊎ (length buffer ≡ pairs)
 none-or-due buffer {pairs} = optional-passes 0 buffer pairs .0
 

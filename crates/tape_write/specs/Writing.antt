@@ -22,11 +22,11 @@ contentRows t weights numbers size room =
     row (ltb room size) 16 0 ∷ pairWeightsRow weights ∷ flowRow (weightOf t weights) numbers ∷ []
 
 -- 5 and 19 above them
-abbrev pub lengthRows : Terms → List ℤ → List ℤ → ℕ → ℕ → List Row
-lengthRows t weights numbers size room =
+abbrev pub countRows : Terms → List ℤ → List ℤ → ℕ → ℕ → List Row
+countRows t weights numbers size room =
     optionalRow 5 numbers (pairsOf t) ∷ optionalRow 19 weights (pairsOf t) ∷ contentRows t weights numbers size room
 
 -- 10 and 4 above them, for so many samples
 abbrev pub lowerRows : Terms → Rounds → ℕ → List ℤ → List ℤ → ℕ → ℕ → List Row
 lowerRows t r samples weights numbers size room =
-    roundsRow r 0 ∷ row (not (eqb samples (pixelsOf t))) 4 0 ∷ lengthRows t weights numbers size room
+    roundsRow r 0 ∷ row (not (eqb samples (pixelsOf t))) 4 0 ∷ countRows t weights numbers size room

@@ -10,11 +10,11 @@ use terms::judge_terms;
 use terms::pairs;
 use terms::pixels;
 use terms::quick_allowed;
+use terms::wrong_length;
 ghost use mathlib.Core.Path.{_≡_};
 ghost use mathlib.Core.Logic.{_↔_};
-ghost use mathlib.Core.Bool.{true, not, _&&_};
+ghost use mathlib.Core.Bool.{true};
 ghost use Prim.Native.Nat.{_≤_, _<_};
-ghost use lib.Dec.{eqb};
 ghost use Rattle.model.specs.Grid.{sizeAllowed};
 ghost use Rattle.model.specs.Verdict.{firstRefusal};
 ghost use Rattle.model.specs.Calls.{pixelsOf};
@@ -22,11 +22,11 @@ ghost use Rattle.model.specs.Tape.{writeRows, writeAnswer, writeOutput};
 ghost use lib.ListN.{length, take};
 ghost use Rattle.model.specs.Accepted.{WriteAllowed};
 ghost use Rattle.roundtrip.specs.RoundTrip.{ReadsBack};
-ghost use Rattle.tape_write.specs.Writing.{tapeSize, contentRows, lengthRows, lowerRows};
+ghost use Rattle.tape_write.specs.Writing.{tapeSize, contentRows, countRows, lowerRows};
 ghost use Rattle.tape_write.specs.Answers.{writeAnswerOf};
 
-// 16 the output's length, for a tape of so many bytes; 2 a pair's weight over the limit; 8 a number
-// beyond ± its pair's weight.
+// 16 the output's length, for a tape of so many bytes; 2 a pair's weight that is not allowed; 8 a
+// number beyond ± its pair's weight.
 fn judge_contents(t: Terms, weights: &[i32], flow: &[i32], size: usize, room: usize) -> Verdict
     requires { ⌜ (0 < length (now weights) → length (now flow) ≤ length (now weights)) ⌝ }
     ensures { λ r. ⌜ r ≡ firstRefusal (contentRows t (now (weights .entry)) (now (flow .entry)) size room) ⌝ }
@@ -51,28 +51,21 @@ fn judge_contents(t: Terms, weights: &[i32], flow: &[i32], size: usize, room: us
     Verdict::Accept
 }
 
-// Whether numbers that come for every pair or for none are neither.
-fn wrong_count(count: usize, due: usize) -> bool
-    ensures { λ r. ⌜ r ≡ (not (eqb count 0) && not (eqb count due)) ⌝ }
-{
-    (count != 0) & (count != due)
-}
-
 // 5 flow; 19 weights; of each, length 0 is none.
 fn judge_lengths(t: Terms, samples: usize, weights: &[i32], flow: &[i32], room: usize) -> Verdict
     requires { ⌜ (sizeAllowed (t .width) (t .height) ≡ true) × (samples ≡ pixelsOf t) ⌝ }
-    ensures { λ r. ⌜ r ≡ firstRefusal (lengthRows t (now (weights .entry)) (now (flow .entry)) (tapeSize samples (now (weights .entry)) (now (flow .entry))) room) ⌝ }
+    ensures { λ r. ⌜ r ≡ firstRefusal (countRows t (now (weights .entry)) (now (flow .entry)) (tapeSize samples (now (weights .entry)) (now (flow .entry))) room) ⌝ }
 {
     let due = pairs(t.width, t.height);
     let own = weights.len();
     let count = flow.len();
-    if wrong_count(count, due) {
+    if wrong_length(count, due) {
         return Verdict::Refuse {
             number: 5,
             place: 0,
         };
     }
-    if wrong_count(own, due) {
+    if wrong_length(own, due) {
         return Verdict::Refuse {
             number: 19,
             place: 0,

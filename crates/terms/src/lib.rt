@@ -14,6 +14,7 @@ pub use limits::box_allowed;
 pub use limits::quick_allowed;
 pub use limits::size_allowed;
 pub use limits::weight_allowed;
+pub use limits::wrong_length;
 pub use verdict::judge_terms;
 pub use weights::first_over;
 pub use weights::pair_weight;

@@ -4,6 +4,7 @@ ghost use mathlib.Core.Path.{_≡_};
 ghost use mathlib.Core.Bool.{not, _&&_};
 ghost use lib.Dec.{leb, ltb};
 ghost use Rattle.model.specs.Grid.{sizeAllowed, weightAllowed, boxAllowed};
+ghost use Rattle.model.specs.Calls.{wrongLength};
 
 fn side_allowed(side: u32) -> bool
     ensures { λ r. ⌜ r ≡ (leb 1 side && leb side 4096) ⌝ }
@@ -40,4 +41,11 @@ pub fn quick_allowed(quick: u32) -> bool
     ensures { λ r. ⌜ r ≡ not (ltb 4096 quick) ⌝ }
 {
     !(4096 < quick)
+}
+
+// Whether a lent length is neither 0, which is none, nor the one that is due.
+pub fn wrong_length(lent: usize, due: usize) -> bool
+    ensures { λ r. ⌜ r ≡ wrongLength lent due ⌝ }
+{
+    (lent != 0) & (lent != due)
 }

@@ -3,8 +3,8 @@
 //! Price, check and run test all of their input. The rounds expect accepted terms and weights, and
 //! buffers of the exact lengths.
 //!
-//! 32 bits are enough: T never falls, so an extrapolated flow stays within three
-//! times the weight, and readings up to 65,408 less four such numbers stay below 2^20.
+//! 32 bits are enough: T never falls, so an extrapolated flow number stays within three
+//! times its pair's weight, and readings up to 65,408 less four such numbers stay below 2^20.
 
 use std::iter;
 use std::ops::Range;

@@ -1,6 +1,6 @@
 -- `judges::judge_lengths` meets its contract. Assumes nothing.
 use Rattle.model.proofs.Refusals.{joined}
-use Rattle.judges.specs.Lengths.{exactRow, exactOrNoneRow}
+use Rattle.model.specs.Calls.{exactRow, exactOrNoneRow}
 use Rattle.judges.proofs.Rows.{row-by}
 use borrow.Author.Needs.{needs}
 use Rattle.judges.proofs.judge_lengths.Statement.{statement}

@@ -10,7 +10,7 @@ use Rattle.model.specs.declared.Terms.{Terms}
 use Rattle.model.specs.Verdict.{Row, firstRefusal}
 use Rattle.model.specs.Calls.{pixelsOf, pairsOf}
 use Rattle.model.proofs.Refusals.{joined, stopped, went-on}
-use Rattle.judges.specs.Lengths.{exactRow, exactOrNoneRow}
+use Rattle.model.specs.Calls.{exactRow, exactOrNoneRow}
 use Rattle.judges.specs.Outside.{outsideRow}
 use Rattle.judges.proofs.Rows.{row-by, termsRows, pixels-due, pairs-due, under-terms}
 use borrow.Author.Needs.{needs}

@@ -9,7 +9,8 @@ use Rattle.model.specs.declared.Terms.{Terms}
 use Rattle.model.specs.Verdict.{Row, row, firstRefusal}
 use Rattle.model.specs.Calls.{pixelsOf, pairsOf}
 use Rattle.model.proofs.Refusals.{joined, stopped, went-on}
-use Rattle.judges.specs.Lengths.{exactRow, lengthRows}
+use Rattle.model.specs.Calls.{exactRow}
+use Rattle.judges.specs.Lengths.{lengthRows}
 use Rattle.judges.proofs.Rows.{row-by, termsRows, pairs-due, lengths-due, pairs-few, under-terms}
 use borrow.Author.Needs.{needs}
 use Rattle.judges.proofs.judge_run.Statement.{statement}

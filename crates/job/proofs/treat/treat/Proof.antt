@@ -10,14 +10,15 @@ use lib.Seq.{length-take-le}
 use Rattle.model.specs.declared.Terms.{Terms}
 use Rattle.model.specs.declared.Rounds.{Rounds}
 use Rattle.model.specs.Calls.{Answer, pixelsOf, pairsOf, checkAnswer, checkImage, runAnswer, runFlow, runImage, runWork}
-use Rattle.job.specs.Tables.{weightsOf, answerIn, flowIn, imageIn, workIn}
+use Rattle.roundtrip.specs.RoundTrip.{allOf}
+use Rattle.job.specs.Tables.{answerIn, flowIn, imageIn, workIn}
 use borrow.Author.Needs.{needs}
 use Rattle.job.proofs.treat.treat.Statement.{statement}
 use Rattle.job.proofs.treat.treat.Tie as tie
 
 -- what check and run leave, by the counts and the branch
 module _ (t : Terms) (r : Rounds) (weighted : Bool) (s : List ℕ) (o f i w : List ℤ) {n m k : ℕ} (pixels : n ≡ pixelsOf t)
-    (pairs : m ≡ pairsOf t) (weighs : k ≡ weightsOf weighted m) {flowed : Bool} where
+    (pairs : m ≡ pairsOf t) (weighs : k ≡ allOf weighted m) {flowed : Bool} where
   checked-in : {a : Answer} {values : List ℤ} → flowed ≡ true →
       a ≡ checkAnswer t (take n s) (take k o) (take m f) (take n i) →
       values ≡ checkImage t (take n s) (take k o) (take m f) (take n i) →
@@ -42,7 +43,7 @@ lent : {A : Type 0} {n m : ℕ} (l : List A) → n ≡ m → m ≤ length l → 
 lent l e h = sym (length-take-le _ l (omega arith))
 
 -- no more weights than pairs
-weights-most : (weighted : Bool) (pairs : ℕ) → weightsOf weighted pairs ≤ pairs
+weights-most : (weighted : Bool) (pairs : ℕ) → allOf weighted pairs ≤ pairs
 weights-most true pairs = omega arith
 weights-most false pairs = omega arith
 

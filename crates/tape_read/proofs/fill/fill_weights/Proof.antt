@@ -8,13 +8,13 @@ use lib.IntN.{ℤ, pos}
 use lib.ListN.{length}
 use mir.Syntax.{w32}
 use mir.ValLaws.{toZ-pos}
-use Rattle.tape_read.specs.Places.{weightAt}
+use Rattle.tape_read.specs.Places.{pairWeightAt}
 use Rattle.tape_read.proofs.Filling.{Filled, fill-start, fill-on, fill-length, fill-end}
 use Rattle.tape_read.proofs.fill.fill_weights.Statement.{statement}
 use Rattle.tape_read.proofs.fill.fill_weights.Tie as tie
 
 abbrev numbers : List ℕ → ℕ → ℕ → ℤ
-numbers tape start j = pos (weightAt tape (start + 3 * j))
+numbers tape start j = pos (pairWeightAt tape (start + 3 * j))
 
 abbrev Inv-loop : tie.InvT-loop
 Inv-loop tape start count weights₀ j₀ weights j = Filled weights₀ count (numbers tape start) j weights

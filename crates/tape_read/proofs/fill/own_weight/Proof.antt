@@ -5,7 +5,7 @@ use Prim.Native.Nat.{_+_, _*_}
 use borrow.Author.Needs.{needs}
 use lib.Dec.{eqb}
 use borrow.Author.Tests.{eq-eqb, ne-eqb}
-use Rattle.tape_read.specs.Places.{weightAt, ownWeight}
+use Rattle.tape_read.specs.Places.{pairWeightAt, ownWeight}
 use Rattle.tape_read.proofs.fill.own_weight.Statement.{statement}
 use Rattle.tape_read.proofs.fill.own_weight.Tie as tie
 
@@ -23,9 +23,9 @@ two-at-requires c κs = search needs
 
 -- the weight by whether there are weight records
 by-count : (c : tie.Start) {b : Bool} → let a = c .args in eqb (a .count) 0 ≡ b →
-    cond b (a .weight) (weightAt (a .tape .now) (a .start + 3 * a .j))
+    cond b (a .weight) (pairWeightAt (a .tape .now) (a .start + 3 * a .j))
     ≡ ownWeight (a .tape .now) (a .start) (a .count) (a .weight) (a .j)
-by-count c e = let a = c .args in ap (λ (b : Bool). cond b (a .weight) (weightAt (a .tape .now) (a .start + 3 * a .j))) (sym e)
+by-count c e = let a = c .args in ap (λ (b : Bool). cond b (a .weight) (pairWeightAt (a .tape .now) (a .start + 3 * a .j))) (sym e)
 
 returns : tie.Need-returns
 returns c = by-count (c .before .before) (eq-eqb _ 0 (c .if1 .taken))

@@ -4,24 +4,24 @@ use mathlib.Core.Logic.{_⊎_}
 use Prim.Native.Nat.{_≤_}
 use native.Mathlib.Omega.{arith}
 use lib.ListN.{length}
-use Rattle.model.specs.Calls.{pairsOf}
+use Rattle.model.specs.Calls.{pairsOf, wrongLength}
 use Rattle.model.proofs.Refusals.{refused, passed}
 use Rattle.terms.proofs.Size.{allowed-size}
-use Rattle.tape_write.proofs.Rows.{wrong, tested, none-or-due, at-most, no-longer}
+use Rattle.tape_write.proofs.Rows.{tested, none-or-due, at-most, no-longer}
 use borrow.Author.Needs.{needs}
 use Rattle.tape_write.proofs.write.judge_lengths.Statement.{statement}
 use Rattle.tape_write.proofs.write.judge_lengths.Tie as tie
 
 -- the tests of the flow's and the weights' lengths are those of their rows
-flow-tested : (c : tie.After-wrong-count) → let a = c .before .before .args in
-    wrong (length (a .flow .now)) (pairsOf (a .t)) ≡ c .wrong-count .result
-flow-tested c = tested (length (c .before .before .args .flow .now)) (c .before .pairs .ensures) (c .wrong-count .ensures)
+flow-tested : (c : tie.After-wrong-length) → let a = c .before .before .args in
+    wrongLength (length (a .flow .now)) (pairsOf (a .t)) ≡ c .wrong-length .result
+flow-tested c = tested (length (c .before .before .args .flow .now)) (c .before .pairs .ensures) (c .wrong-length .ensures)
 
-weights-tested : (c : tie.After-wrong-count2) → let a = c .before .before .before .before .args in
-    wrong (length (a .weights .now)) (pairsOf (a .t)) ≡ c .wrong-count2 .result
+weights-tested : (c : tie.After-wrong-length2) → let a = c .before .before .before .before .args in
+    wrongLength (length (a .weights .now)) (pairsOf (a .t)) ≡ c .wrong-length2 .result
 weights-tested c =
     tested (length (c .before .before .before .before .args .weights .now)) (c .before .before .before .pairs .ensures)
-    (c .wrong-count2 .ensures)
+    (c .wrong-length2 .ensures)
 
 -- .. so where both have passed, each has a number for every pair or none
 flow-due : (c : tie.Else1) → let a = c .before .before .before .args in
@@ -46,14 +46,14 @@ few c =
 pairs-requires : tie.Need-pairs-requires
 pairs-requires c κs = search needs
 
-wrong-count-requires : tie.Need-wrong-count-requires
-wrong-count-requires c κs = search needs
+wrong-length-requires : tie.Need-wrong-length-requires
+wrong-length-requires c κs = search needs
 
 returns : tie.Need-returns
 returns c = sym (refused _ _ (flow-tested (c .before) ∙ c .if1 .taken))
 
-wrong-count-requires-2 : tie.Need-wrong-count-requires-2
-wrong-count-requires-2 c κs = search needs
+wrong-length-requires-2 : tie.Need-wrong-length-requires-2
+wrong-length-requires-2 c κs = search needs
 
 returns-2 : tie.Need-returns-2
 returns-2 c =
@@ -94,9 +94,9 @@ judge-lengths-spec =
     tie.close
     (tie.spec
     pairs-requires
-    wrong-count-requires
+    wrong-length-requires
     returns
-    wrong-count-requires-2
+    wrong-length-requires-2
     returns-2
     mul-size
     add-size

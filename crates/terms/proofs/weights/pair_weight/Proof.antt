@@ -1,9 +1,9 @@
 -- `terms::weights::pair_weight` meets its contract. Assumes nothing.
-use mathlib.Core.Path.{_≡_, sym, ap, _∙_}
+use mathlib.Core.Path.{sym, ap, _∙_}
 use Prim.Native.Nat.{_<_}
 use native.Mathlib.Omega.{arith}
 use borrow.Author.Needs.{needs}
-use lib.IntN.{ℤ, pos, natAbs}
+use lib.IntN.{pos, natAbs}
 use lib.ListN.{length, List·getD-eq-default}
 use mir.Syntax.{w32}
 use Rattle.integers.proofs.Machine.{read}
