@@ -1,7 +1,5 @@
 // The season report: tapes that follow one another from standard input, their totals to standard output.
-mod jobs;
 mod text;
-mod window;
 
 use text::season_text;
 

@@ -1,12 +1,12 @@
 // What the program prints for standard input.
 
-use crate::jobs::Ended;
-use crate::jobs::read_season;
 use report::whole::put_report;
+use season_read::Ended;
+use season_read::read_season;
 ghost use mathlib.Core.Bool.{true};
 ghost use Rattle.io.specs.Counts.{Counts};
 ghost use Rattle.model.specs.Program.{tables};
-ghost use Rattle.season.specs.Stream.{ReportOf};
+ghost use Rattle.season_read.specs.Stream.{ReportOf};
 ghost use Rattle.season.specs.Printed.{Prints};
 
 // How many bytes the text has, and whether a read failed.

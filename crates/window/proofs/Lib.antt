@@ -1,0 +1,2 @@
+-- The laws of a window's bytes.
+pub mod Buffers

@@ -1,0 +1,2 @@
+-- What the contracts cite: the bytes at hand in a buffer.
+pub mod Window
