@@ -1,9 +1,9 @@
 // What is printed for a tape: the text of its job's answer, or of its refusal.
 
 use crate::treat::treat;
+use answer_text::answer::put_answer;
 use tape_read::read::ReadResult;
 use tape_read::read::read;
-use text::answer::put_answer;
 use text::line::put_refusal;
 ghost use mathlib.Core.Path.{_≡_};
 ghost use lib.ListN.{length};

@@ -1,7 +1,5 @@
-// The report of a season.
-//     totals   its numbers, job after job
+// The report of a season, laid into a lent buffer in ASCII.
 //     lines    a line of the report
 //     whole    the whole text
 mod lines;
-pub mod totals;
 pub mod whole;

@@ -13,7 +13,7 @@ use Rattle.model.specs.Tape.{nothing}
 use Rattle.model.specs.Season.{totalsOf}
 use Rattle.records.specs.Tally.{tallyOf}
 use Rattle.tape_read.proofs.Reached as scan
-use Rattle.report.proofs.Season.{bounded-none}
+use Rattle.totals.proofs.Season.{bounded-none}
 use Rattle.stream.specs.Report.{reportFrom}
 use Rattle.stream.specs.Taken.{lentIn}
 use Rattle.stream.specs.AtHand.{Reports}

@@ -7,7 +7,7 @@ use Rattle.model.specs.declared.Lent.{Lent}
 use Rattle.model.specs.Season.{totalsOf}
 use Rattle.tape_read.specs.Scan.{Reached}
 use Rattle.job.specs.Tables.{Holds}
-use Rattle.report.specs.Counted.{Bounded}
+use Rattle.totals.specs.Counted.{Bounded}
 use Rattle.stream.specs.Report.{reportFrom}
 use Rattle.stream.specs.AtHand.{Reports}
 use Rattle.season_read.specs.declared.State.{State}

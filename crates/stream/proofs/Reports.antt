@@ -12,8 +12,8 @@ use Rattle.model.specs.declared.Verdict.{Verdict}
 use Rattle.model.specs.Tape.{Progress, turned, whole}
 use Rattle.model.specs.Season.{firstJob, bytesOf, Treated, treated, Season, ended, followedBy, seasonFrom, totalsOf, reportText, seasonText}
 use Rattle.model.specs.Program.{tables}
-use Rattle.report.specs.Counted.{withJob}
-use Rattle.report.proofs.Season.{counted-more}
+use Rattle.totals.specs.Counted.{withJob}
+use Rattle.totals.proofs.Season.{counted-more}
 use Rattle.stream.specs.Report.{withJobs, Report, reportFrom}
 
 abbrev ends : Totals → Verdict → Report

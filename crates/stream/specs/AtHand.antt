@@ -9,7 +9,7 @@ use Rattle.model.specs.declared.Totals.{Totals}
 use Rattle.model.specs.declared.Verdict.{Verdict}
 use Rattle.records.specs.declared.tally.Tally.{Tally}
 use Rattle.tape_read.specs.Scan.{Reached}
-use Rattle.report.specs.Counted.{Bounded}
+use Rattle.totals.specs.Counted.{Bounded}
 use Rattle.stream.specs.declared.next.Next.{Next}
 use Rattle.stream.specs.Report.{Report, reportFrom}
 

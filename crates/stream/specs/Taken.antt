@@ -11,7 +11,7 @@ use Rattle.model.specs.Season.{bytesOf, treated}
 use Rattle.records.specs.declared.tally.Tally.{Tally}
 use Rattle.tape_read.specs.Scan.{Reached}
 use Rattle.job.specs.Tables.{Holds}
-use Rattle.report.specs.Counted.{Bounded, withJob}
+use Rattle.totals.specs.Counted.{Bounded, withJob}
 use Rattle.stream.specs.declared.take.Taken.{Taken}
 
 -- what a season's reading is lent by tables of these lengths; more may follow a job

@@ -1,5 +1,2 @@
--- The laws of the text.
---     Digits    the digits that `io` gives are the number's
---     Answers   the text of an accepted answer
+-- The laws of the text: the digits that `io` gives are the number's.
 pub mod Digits
-pub mod Answers

@@ -1,9 +1,5 @@
-// The text of an answer, laid into a lent buffer in ASCII.
+// Numbers and lines as text, laid into a lent buffer in ASCII.
 //     number   a number in decimal digits
 //     line     a refusal's line, and the line of numbers
-//     image    one line of values for each row
-//     answer   the whole text of an answer
-pub mod answer;
-mod image;
 pub mod line;
 pub mod number;

@@ -10,8 +10,8 @@ use Rattle.model.specs.Season.{treated}
 use Rattle.calls.specs.Slack.{mostSlack}
 use Rattle.job.specs.declared.answer.Answered.{Answered}
 use Rattle.job.specs.Answered.{AnswerTo}
-use Rattle.report.specs.Counted.{withJob, Bounded}
-use Rattle.report.proofs.Season.{countable-more}
+use Rattle.totals.specs.Counted.{withJob, Bounded}
+use Rattle.totals.proofs.Season.{countable-more}
 use borrow.Author.Needs.{needs}
 use Rattle.stream.proofs.take.count_job.Statement.{statement}
 use Rattle.stream.proofs.take.count_job.Tie as tie

@@ -1,2 +1,0 @@
--- What the contracts cite beside the model's definitions.
-pub mod Counted

@@ -1,0 +1,98 @@
+-- `totals::counted` meets its contract. Assumes nothing.
+use native.Mathlib.Omega.{arith}
+use mathlib.Core.Path.{_≡_, ap, ap₂, _∙_}
+use Prim.Native.Nat.{ℕ, _+_, _*_, _^_, _≤_, _<_}
+use native.Mathlib.Nat.{mul-le-mul}
+use Rattle.model.specs.declared.Totals.{Totals}
+use Rattle.calls.specs.Answers.{answerOf}
+use Rattle.calls.proofs.Sizes.{most-slack-fits}
+use Rattle.totals.specs.declared.Share.{Share}
+use Rattle.totals.specs.declared.Peak.{Peak}
+use Rattle.totals.specs.Counted.{peakOf}
+use Rattle.totals.proofs.Season.{one-way}
+use borrow.Author.Needs.{needs}
+use Rattle.totals.proofs.counted.Statement.{statement}
+use Rattle.totals.proofs.counted.Tie as tie
+
+-- the totals by a share and a peak, and by an equal share
+abbrev summed : Totals → ℕ → Share → Peak → Totals
+summed t pixels s p =
+    record {
+      jobs = t .jobs + 1;
+      pixels = t .pixels + pixels;
+      settled = t .settled + s .settled;
+      spent = t .spent + s .spent;
+      checked = t .checked + s .checked;
+      total = t .total + s .slack;
+      largest = p .largest;
+      first = p .first;
+    }
+
+by-share : (t : Totals) (pixels : ℕ) {s other : Share} {p : Peak} → s ≡ other → p ≡ peakOf (t .jobs) (t .largest) (t .first) (s .slack) →
+    summed t pixels s p ≡ summed t pixels other (peakOf (t .jobs) (t .largest) (t .first) (other .slack))
+by-share t pixels {s} {other} e g =
+    ap₂ (summed t pixels) e (g ∙ ap (λ (x : Share). peakOf (t .jobs) (t .largest) (t .first) (x .slack)) e)
+
+share-of-requires : tie.Need-share-of-requires
+share-of-requires c κs = search needs
+
+peak-with-requires : tie.Need-peak-with-requires
+peak-with-requires c κs = search needs
+
+add-t6 : tie.Need-add-t6
+add-t6 c = search needs
+
+add-t8 : tie.Need-add-t8
+add-t8 c = search needs
+
+-- each way of ending adds at most 1, and the slack leaves the total below 2 ^ 64
+fit : (c : tie.After-share-of) → let t = c .before .args .t in let s = c .share-of .result in
+    (t .settled + s .settled < 65536)
+    × ((t .spent + s .spent < 65536) × ((t .checked + s .checked < 65536) × (t .total + s .slack < 2 ^ 64)))
+fit c =
+    let e = c .share-of .ensures in
+    let p = c .before .pre in
+    let t = c .before .args .t in
+    let few : t .pixels + c .before .args .pixels ≤ 4096 * 65535 = omega (arith, p .bounded, p .notLast, p .pixelsAllowed) in
+    let once = one-way (answerOf (c .before .args .answer) .outcome) in (
+      omega (arith, ap (λ (s : Share). s .settled) e, once, p .bounded, p .notLast),
+      (
+        omega (arith, ap (λ (s : Share). s .spent) e, once, p .bounded, p .notLast),
+        (
+          omega (arith, ap (λ (s : Share). s .checked) e, once, p .bounded, p .notLast),
+          omega (arith, ap (λ (s : Share). s .slack) e, p .bounded .totalWithin, p .slackAllowed, mul-le-mul most-slack-fits few),
+        ),
+      ),
+    )
+
+add-t9 : tie.Need-add-t9
+add-t9 c = omega (arith, fit (c .before .before .before .before .before) .0)
+
+add-t10 : tie.Need-add-t10
+add-t10 c = omega (arith, fit (c .before .before .before .before .before .before .before) .1 .0)
+
+add-t11 : tie.Need-add-t11
+add-t11 c = omega (arith, fit (c .before .before .before .before .before .before .before .before .before) .1 .1 .0)
+
+add-t12 : tie.Need-add-t12
+add-t12 c = omega (arith, fit (c .before .before .before .before .before .before .before .before .before .before .before) .1 .1 .1)
+
+returns : tie.Need-returns
+returns c =
+    let p = c .before .before .before .before .before .before .before .before .before .before in
+    let a = p .before .before .args in
+    by-share (a .t) (a .pixels) (p .before .share-of .ensures) (p .peak-with .ensures)
+
+pub counted-spec : {M : Type 1} → statement M
+counted-spec =
+    tie.close
+    (tie.spec
+    share-of-requires
+    peak-with-requires
+    add-t6
+    add-t8
+    add-t9
+    add-t10
+    add-t11
+    add-t12
+    returns)

@@ -1,0 +1,49 @@
+-- `totals::share_of` meets its contract. Assumes nothing.
+use mathlib.Core.Path.{sym, ap}
+use Rattle.calls.specs.declared.answer.Answer.{Answer}
+use Rattle.calls.specs.Answers.{answerOf}
+use Rattle.totals.specs.declared.Share.{Share}
+use Rattle.totals.specs.Counted.{shareOf}
+use borrow.Author.Needs.{needs}
+use Rattle.totals.proofs.share_of.Statement.{statement}
+use Rattle.totals.proofs.share_of.Tie as tie
+
+abbrev added : Answer → Share
+added a = shareOf (answerOf a)
+
+enum-told : tie.Need-enum-told
+enum-told c = search needs
+
+enum-known-answer : tie.Need-enum-known-answer
+enum-known-answer c = search needs
+
+enum-known-answer-2 : tie.Need-enum-known-answer-2
+enum-known-answer-2 c = search needs
+
+enum-known-answer-3 : tie.Need-enum-known-answer-3
+enum-known-answer-3 c = search needs
+
+returns : tie.Need-returns
+returns c = ap added (sym (c .enum-told .given .1))
+
+returns-2 : tie.Need-returns-2
+returns-2 c = ap added (sym (c .before .answer .given .1))
+
+returns-3 : tie.Need-returns-3
+returns-3 c = ap added (sym (c .before .answer2 .given .1))
+
+returns-4 : tie.Need-returns-4
+returns-4 c = ap added (sym (c .before .answer3 .given .1))
+
+pub share-of-spec : {M : Type 1} → statement M
+share-of-spec =
+    tie.close
+    (tie.spec
+    enum-told
+    enum-known-answer
+    enum-known-answer-2
+    enum-known-answer-3
+    returns
+    returns-2
+    returns-3
+    returns-4)
