@@ -38,7 +38,8 @@ def arguments():
         parser.add_argument(f"--{name}", type=script.number(0, largest), default=default, metavar="N",
                             help=f"{meaning}, 0 to {largest} (else {default})")
     parser.add_argument("--weights", metavar="PICTURE",
-                        help="a picture of how strongly to smooth, from black (not at all) to white")
+                        help="PGM picture of the scan's size: a pair's weight is that of --weight times the darker of its"
+                        " two pixels / maxval, rounded down; a black pixel keeps its reading")
     parser.add_files("picture", "tape")
     options = parser.parse_args()
     if options.low > options.high:

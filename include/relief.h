@@ -17,7 +17,9 @@
  * - image value: in sub-units. It becomes a code again as value / 256 in whole numbers, the code
  *   whose level it lies in; value / 256.0 is its depth in levels (the reading of s has s + 0.5).
  * - pairs: neighbours. First every (pixel, pixel below) in row order of the upper pixel, then every
- *   (pixel, pixel to its right) in row order of the left one.
+ *   (pixel, pixel to its right) in row order of the left one. So with the pixel in column x of row
+ *   y, both from 0, the pixel below makes pair y * width + x, and that to its right
+ *   width * (height - 1) + y * (width - 1) + x.
  * - weights: a weight for each pair, in the order of pairs, each 0 to 65,280 sub-units. Length 0 is
  *   none lent: each pair's own weight is then weight. With weights lent, weight must be allowed all
  *   the same, but nothing except a tape's record depends on it.
@@ -52,8 +54,10 @@
  *
  * A WEIGHT FOR EACH PAIR
  *
- * The larger a pair's weight, the more its two pixels are drawn together; with 0 they are not at
- * all, so that a joint between them stays.
+ * The larger a pair's weight, the more it draws its two pixels together. With 0 it does not at all,
+ * so that a joint between them stays; other pairs still may, round the end of the joint. A pixel
+ * all of whose pairs have weight 0 keeps its reading, clamped to the box. examples/facade.c sets 0
+ * across the edges of joints.
  *
  * Example: samples 0, 2 and 100, width 3, height 1, weight 256, low 0, high 255, no quick rounds,
  * allowance 100. Without weights a run leaves the image 384 640 25472. With the weights 256 and 0
@@ -65,8 +69,8 @@
  * relief_read and for relief_write's output; weights, and relief_write's flow, may have length 0.
  * - Alignment: every pointer, to a buffer or to a number, has the natural alignment of its type.
  * - Null: no pointer is ever null, also where the length is 0, as that of weights which are none.
- *   Any aligned pointer does there, such as the address of a variable of that type; malloc(0) may
- *   give null.
+ *   Any aligned pointer does there, such as the address of a variable of that type (so, for no
+ *   weights, not NULL, 0 but &none, 0 with int32_t none = 0); malloc(0) may give null.
  * - Overlap: what a call writes to, buffers and numbers, overlaps nothing else that it is lent.
  *   Buffers that are const may overlap each other.
  *

@@ -38,7 +38,7 @@ def answer(tape):
 
 
 def clean_across(samples, weight, low, high, joints):
-    """The same for samples, with weight 0 at the pairs of a pixel in a joint and one beside it alone."""
+    """The same for samples, with weight 0 at the pairs of a pixel in a joint and one outside it alone."""
     terms = types.SimpleNamespace(weight=weight, low=low, high=high, quick=100, allowance=1000)
     weights = [weight if (i in joints) == (j in joints) else 0 for i, j in PAIRS]
     rows = [samples[i:i + WIDTH] for i in range(0, len(samples), WIDTH)]

@@ -51,7 +51,11 @@ cat examples/two-by-one.tape examples/facade.tape examples/two-by-one-flow.tape 
 "$RELIEF_SEASON" < examples/season.tape | cmp - examples/season.txt
 # the answers that the README shows: of the samples, of a cut tape and of an unfinished one
 for sample in two-by-one two-by-one-flow facade facade-joints; do
-    grep -qxF "    $("$RELIEF_BIN" < "examples/$sample.tape" | sed -n 2p)" README.md
+    figures=$("$RELIEF_BIN" < "examples/$sample.tape" | sed -n 2p)
+    if ! grep -qxF "    $figures" README.md; then
+        echo "README.md does not show the answer of examples/$sample.tape: $figures" >&2
+        exit 1
+    fi
 done
 head -c 6 examples/two-by-one.tape | "$RELIEF_BIN" | cmp - <(echo refused 13 at 5)
 head -c 5 examples/two-by-one.tape | "$RELIEF_BIN" | cmp - <(echo refused 18 at 5)

@@ -28,7 +28,7 @@ pub struct Lent {
 
 impl Lent {
     /// A noisy job whose steady rounds go on for long, with a flow that a check accepts and an
-    /// image that a price accepts. With weights, these are that of the terms on an average.
+    /// image that a price accepts. With weights, their mean is about the terms' weight.
     pub fn new(side: u32, weighted: bool) -> Lent {
         let mut random = Random::new(0xBE2C4);
         let (width, height) = (side, side);

@@ -12,7 +12,8 @@ pub enum Reason {
     /// [`MAX_PIXELS`](crate::MAX_PIXELS) pixels.
     Size = 1,
     /// The terms' weight is over [`MAX_WEIGHT`](crate::MAX_WEIGHT); or one of `weights` is not 0
-    /// to that. The place of the second is the first one's index, in a tape its record's offset.
+    /// to that. The place of the second is the first one's index, in a tape its record's offset;
+    /// so place 0 of a call is the terms' weight where that is over, else that of `weights[0]`.
     Weight = 2,
     /// The low end of the box is above the high one.
     Box = 3,
