@@ -11,17 +11,18 @@ use lib.ListN.{take}
 use Rattle.model.specs.Lists.{zeros, chain}
 use Rattle.model.specs.Grid.{Terms, grid}
 use Rattle.model.specs.Rounds.{eighth, nearestEighth, quickRounds}
-use Rattle.model.specs.Calls.{Rounds, checked, settled, spent, Answer, refusal, figures, pixelsOf, pairsOf, checkAnswer, checkImage, runAnswer, runFlow, runImage}
+use Rattle.model.specs.Calls.{Rounds, checked, settled, spent, Answer, refusal, figures, pixelsOf, pairsOf, checkAnswer, checkImage, priceAnswer, runAnswer, runFlow, runImage}
 use Rattle.model.specs.Tape.{tapeOf}
 use Rattle.model.specs.Text.{ascii}
 use Rattle.model.specs.Program.{programText}
 use Rattle.model.specs.Season.{seasonText}
 
--- A check of a flow; a run with these rounds; the T that k quick rounds leave, Tₖ₊₁; the program's text for the job's tape
+-- A check of a flow; the price of an image; a run with these rounds; the T that k quick rounds leave, Tₖ₊₁; the program's text for the job's tape
 -- with these rounds and no flow; its text for so many bytes of that tape and others behind them; the season report's text
 -- for so many such tapes and more bytes behind them; or what a quick and a steady round's step add for a fall
 pub data Asked : Type 0 where
   checking : List ℤ → Asked
+  pricing : List ℤ → Asked
   running : ℕ → ℕ → Asked
   momentum : ℕ → Asked
   printing : ℕ → ℕ → Asked
@@ -29,7 +30,7 @@ pub data Asked : Type 0 where
   reporting : ℕ → ℕ → ℕ → List ℕ → Asked
   sharing : ℤ → Asked
 
--- What is given: the answer, the flow and the image that are left; a T; bytes of text; or the two shares
+-- What is given: the answer, the flow and the image that are left (no flow in a price); a T; bytes of text; or the two shares
 pub data Given : Type 0 where
   call : Answer → List ℤ → List ℤ → Given
   number : ℕ → Given
@@ -48,6 +49,7 @@ unfoldable pub ask : Terms → List ℕ → List ℤ → Asked → Given
 ask t samples weights (checking flow) =
     let image : List ℤ = zeros (pixelsOf t) in
     call (checkAnswer t samples weights flow image) flow (checkImage t samples weights flow image)
+ask t samples weights (pricing image) = call (priceAnswer t samples weights image) [] image
 ask t samples weights (running quick allowance) =
     let r : Rounds = record { quick = quick; allowance = allowance } in
     let flow : List ℤ = zeros (pairsOf t) in
@@ -182,6 +184,9 @@ cases =
     ∷ threeByOne (pair 0 512) (checking (pair 0 513)) (call (refusal 8 1) (pair 0 513) (triple 0 0 0))
     ∷ threeByOne (pair 0 65281) (checking (pair 1 0)) (call (refusal 2 1) (pair 1 0) (triple 0 0 0))
     ∷ threeByOne (one (pos 0)) (checking (pair 0 0)) (call (refusal 19 0) (pair 0 0) (triple 0 0 0))
+    ∷ threeByOne (pair 0 512) (pricing (triple 128 640 2688))
+    (call (figures checked 0 (pos 2097152) (pos 0) (pos 0)) [] (triple 128 640 2688))
+    ∷ threeByOne (pair 0 65281) (pricing (triple 65536 640 2688)) (call (refusal 2 1) [] (triple 65536 640 2688))
     ∷ threeByOne (pair 0 512) (running 0 100)
     (call (figures settled 3 (pos 1572864) (pos 1572864) (pos 0)) (pos 0 ∷ negℤ (pos 512) ∷ []) (triple 128 1152 2176))
     ∷ threeByOne (pair 0 512) (printing 0 100)
