@@ -270,13 +270,17 @@ fn limits_of_the_pair_weights() {
 /// A buffer of one weight too few, too many, or of any other number but 0.
 #[test]
 fn lengths_of_the_weight_buffer() {
+    let refused = Err(refusal(19, 0));
     for call in [Lent::price, Lent::check, Lent::run, Lent::write] {
         for length in 0..10 {
             let mut lent = Lent::accepted();
             lent.weights.resize(length, 256);
             lent.flow = SQUARE_FLOW.to_vec();
-            let taken = length == 0 || length == 4;
-            assert_eq!(call(&mut lent).is_ok(), taken);
+            let expected = match length {
+                0 | 4 => Ok(()),
+                _ => refused,
+            };
+            assert_eq!(call(&mut lent), expected);
         }
     }
     // Without pairs there are no weights.
@@ -286,7 +290,6 @@ fn lengths_of_the_weight_buffer() {
         samples,
         ..
     } = flat(1, 1);
-    let refused = Err(refusal(19, 0));
     for weights in [&[][..], &[256]] {
         let expected = if weights.is_empty() { Ok(()) } else { refused };
         let price = price(&terms, &samples, weights, &[0]);
