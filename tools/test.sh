@@ -2,8 +2,8 @@
 # All tests. First the layout, the header and the second implementation's own tests; then every proof from nothing, with
 # the must-fail edits and the programs' stored answers (`rt ci`); then what was proved there is compared with the second
 # implementation on a part of the inputs, called with guard pages behind its buffers, and called through the Rust
-# wrapper; the picture scripts are tested and the examples run. Any step that fails ends it. The last line is the last
-# line of `rt ci`: `N passed, 0 failed`.
+# wrapper; the picture scripts are tested, and the examples run and compared with what is stored. Any step that fails ends
+# it. The last line is the last line of `rt ci`: `N passed, 0 failed`.
 set -euo pipefail
 cd "$(dirname "$0")/.."
 # what is tested is built here, not another library or program that the caller names
@@ -61,7 +61,12 @@ head -c 6 examples/two-by-one.tape | "$RELIEF_BIN" | cmp - <(echo refused 13 at 
 head -c 5 examples/two-by-one.tape | "$RELIEF_BIN" | cmp - <(echo refused 18 at 5)
 # the first command of the README, as it stands there: the program is proved already
 env -u RELIEF_BIN bash tools/clean-sample.sh
-bash tools/example.sh
+# the worked example in C: its figures, and an excerpt in which its joints are kept
+bash tools/example.sh | tee target/examples/facade-c.txt
+if ! cmp target/examples/facade-c.txt examples/facade-c.txt; then
+    echo "tools/example.sh does not print examples/facade-c.txt" >&2
+    exit 1
+fi
 
 echo "== all steps passed"
 tail -n 1 "$proofs"

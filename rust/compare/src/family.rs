@@ -76,10 +76,35 @@ impl<I: Input, T: Debug + PartialEq> Call<I, T> {
         numbers: &[u32],
         values: impl Iterator<Item = (I, Answer<()>)>,
     ) -> Result<(), Difference> {
+        self.compare_due(title, numbers, values, |_| ())
+    }
+
+    /// Compares the call on inputs that come with the documents' whole answer.
+    #[cfg(feature = "judge")]
+    pub fn compare_answers(
+        &self,
+        title: &str,
+        numbers: &[u32],
+        values: impl Iterator<Item = (I, Answer<T>)>,
+    ) -> Result<(), Difference>
+    where
+        T: Copy,
+    {
+        self.compare_due(title, numbers, values, |accepted| *accepted)
+    }
+
+    /// Compares the call on inputs that come with what the documents `tell` of its answer.
+    fn compare_due<D: Debug + PartialEq>(
+        &self,
+        title: &str,
+        numbers: &[u32],
+        values: impl Iterator<Item = (I, Answer<D>)>,
+        tell: fn(&T) -> D,
+    ) -> Result<(), Difference> {
         let title = format!("{}, {title}", self.name);
         compare_family(&title, values, |(input, expected)| {
             let (answer, _) = self.compare(input)?;
-            if answer.as_ref().map(drop) != expected.as_ref().copied() {
+            if answer.as_ref().map(tell).map_err(|refusal| *refusal) != *expected {
                 let differs = format!("both answer {answer:?}, the documents {expected:?}");
                 return Err(self.difference(&differs, input));
             }

@@ -1,11 +1,11 @@
 //! Price and check.
 
 use relief_inputs::{
-    beside_the_bound, chessboard, chessboard_flow, compare_family, two_by_one, Answer, Difference,
-    Random,
+    beside_the_bound, chessboard, chessboard_flow, compare_family, jointed, two_by_one, Answer,
+    Difference, Random,
 };
 use relief_reference::terms::{reading, WEIGHT_LIMIT};
-use relief_reference::{Figures, Refusal, Terms};
+use relief_reference::{Figures, Outcome, Refusal, Terms};
 
 use crate::convert::{figures, refusal, terms};
 use crate::family::Call;
@@ -62,6 +62,9 @@ pub fn compare(step: usize) -> Result<(), Difference> {
         limits().chain(ends_of_boxes()),
     )?;
     CHECK.compare_values("the documents' limits", &[1, 2, 19], limits())?;
+    let title = "the documents' values";
+    PRICE.compare_answers(title, &[], [joint_price()].into_iter())?;
+    CHECK.compare_answers(title, &[2, 8, 19], joint_checks())?;
     let price_numbers = [1, 2, 3, 4, 6, 9, 19];
     let check_numbers = [1, 2, 3, 4, 5, 6, 8, 19];
     let title = "two faults";
@@ -74,6 +77,55 @@ pub fn compare(step: usize) -> Result<(), Difference> {
     PRICE.compare_family(title, &[], large(step))?;
     CHECK.compare_family(title, &[], large(step))?;
     compare_two_flows(step)
+}
+
+/// The documents' job with a joint, with these weights.
+fn joint(weights: &[i32]) -> JobInput {
+    let job = jointed();
+    JobInput {
+        samples: job.samples,
+        weights: weights.to_vec(),
+        ..JobInput::blank(job.terms)
+    }
+}
+
+fn checked(price: u64, floor: i64, slack: u64) -> Answer<Figures> {
+    Ok(Figures {
+        outcome: Outcome::Checked,
+        moved: 0,
+        price,
+        floor,
+        slack,
+    })
+}
+
+/// An image of the job with a joint, with the documents' price.
+fn joint_price() -> (JobInput, Answer<Figures>) {
+    let input = JobInput {
+        image: vec![128, 640, 2_688],
+        ..joint(&[0, 512])
+    };
+    (input, checked(2_097_152, 0, 0))
+}
+
+/// Weights and flows of the job with a joint, with the documents' answer.
+fn joint_checks() -> impl Iterator<Item = (JobInput, Answer<Figures>)> {
+    let refused = |number, place| Err(Refusal { number, place });
+    let values: [(&[i32], [i32; 2], _); 6] = [
+        (&[0, 512], [0, 0], checked(2_097_152, 0, 2_097_152)),
+        (&[0, 512], [0, -512], checked(1_572_864, 1_572_864, 0)),
+        (&[0, 512], [1, 0], refused(8, 0)),
+        (&[0, 512], [0, 513], refused(8, 1)),
+        (&[0, 65_281], [1, 0], refused(2, 1)),
+        (&[0], [0, 0], refused(19, 0)),
+    ];
+    values.into_iter().map(|(weights, flow, answer)| {
+        let input = JobInput {
+            flow: flow.to_vec(),
+            ..joint(weights)
+        };
+        (input, answer)
+    })
 }
 
 /// Compares two checks of one job, and sees to it that the images that the library leaves are within

@@ -1,22 +1,14 @@
 //! Read and write.
 
 use relief_inputs::{
-    jointed, record_orders, small_tapes, tape_length, Answer, Difference, Random, Tape,
+    flawed_reads, jointed, record_orders, small_tapes, tape_length, Answer, Difference, Random,
+    Tape, TapeInput,
 };
 use relief_reference::{Job, Refusal, Terms};
 
 use crate::convert::{job, refusal, rounds, terms};
 use crate::family::{first_difference, Call, Input};
 use crate::job::{limits, two_faults, JobInput, LARGEST};
-
-/// Everything that read is lent.
-#[derive(Clone, Debug)]
-struct TapeInput {
-    tape: Vec<u8>,
-    samples: Vec<u8>,
-    weights: Vec<i32>,
-    flow: Vec<i32>,
-}
 
 impl Input for TapeInput {
     fn difference(&self, other: &TapeInput) -> Option<String> {
@@ -37,14 +29,7 @@ const READ: Call<TapeInput, Job> = Call {
             &mut input.flow,
         )
     },
-    reference: |input| {
-        relief_reference::read(
-            &input.tape,
-            &mut input.samples,
-            &mut input.weights,
-            &mut input.flow,
-        )
-    },
+    reference: TapeInput::read,
     word: what_it_has,
 };
 
@@ -129,15 +114,16 @@ fn pair_count(terms: &Terms) -> usize {
     terms.judge().expect("accepted terms").pair_count()
 }
 
-/// Compares reads of cut, changed, damaged and random tapes, then writes.
+/// Compares reads of cut, faulty, changed, damaged and random tapes, then writes.
 pub fn compare(step: usize) -> Result<(), Difference> {
     WRITE.compare_values("the documents' limits", &[1, 2, 19], limits())?;
     WRITE_AND_READ.compare_values("the documents' limits", &[1, 2, 19], limits())?;
     READ.compare_values("no bytes", &[18], [no_bytes()].into_iter())?;
     READ.compare_values("every prefix", &[13, 18], prefixes())?;
     READ.compare_values("every order of records", &[14, 15, 18], orders())?;
-    READ.compare_family("every changed byte", &[], changes(step))?;
     let numbers = [1, 2, 3, 8, 10, 12, 13, 14, 15, 16, 18];
+    READ.compare_values("two faults", &numbers, flaws())?;
+    READ.compare_family("every changed byte", &[], changes(step))?;
     READ.compare_family("damaged and random tapes", &numbers, damages(step))?;
     let numbers = [1, 2, 3, 4, 5, 8, 10, 16, 19];
     WRITE.compare_family("two faults", &numbers, two_faults(writable))?;
@@ -181,14 +167,15 @@ fn prefixes() -> impl Iterator<Item = (TapeInput, Answer<()>)> {
 /// Tapes with records behind the samples in every order, with the answer that is due.
 fn orders() -> impl Iterator<Item = (TapeInput, Answer<()>)> {
     let mut random = Random::new(0x02DE2);
-    record_orders(5).map(move |(tape, answer)| {
-        let input = TapeInput {
-            tape,
-            samples: random.bytes(3),
-            weights: random.numbers(2),
-            flow: random.numbers(2),
-        };
-        (input, answer)
+    record_orders(5).map(move |(tape, answer)| (filled(&mut random, tape, [3, 2, 2]), answer))
+}
+
+/// A tape with each flaw alone and with each two of them, with the answer that is due.
+fn flaws() -> impl Iterator<Item = (TapeInput, Answer<()>)> {
+    let mut random = Random::new(0x2FA18);
+    flawed_reads().into_iter().map(move |(input, answer)| {
+        let lengths = [input.samples.len(), input.weights.len(), input.flow.len()];
+        (filled(&mut random, input.tape, lengths), answer)
     })
 }
 
@@ -203,12 +190,18 @@ fn changes(step: usize) -> impl Iterator<Item = TapeInput> {
 
 /// `bytes` with buffers of any contents that hold the job of `tape`, or somewhat more.
 fn lent(random: &mut Random, tape: &Tape, bytes: Vec<u8>) -> TapeInput {
-    let [more_samples, more_weights, more_flow] = [(); 3].map(|()| random.below(3));
+    let lengths = [tape.pixels, tape.pairs, tape.pairs].map(|due| due + random.below(3));
+    filled(random, bytes, lengths)
+}
+
+/// A tape with buffers of these lengths and any contents: samples, weights and flow.
+fn filled(random: &mut Random, tape: Vec<u8>, lengths: [usize; 3]) -> TapeInput {
+    let [samples, weights, flow] = lengths;
     TapeInput {
-        tape: bytes,
-        samples: random.bytes(tape.pixels + more_samples),
-        weights: random.numbers(tape.pairs + more_weights),
-        flow: random.numbers(tape.pairs + more_flow),
+        tape,
+        samples: random.bytes(samples),
+        weights: random.numbers(weights),
+        flow: random.numbers(flow),
     }
 }
 
@@ -216,14 +209,9 @@ fn damages(step: usize) -> impl Iterator<Item = TapeInput> {
     let mut random = Random::new(0xDA3A6E);
     (0..200_000).step_by(step).map(move |_| {
         let tape = Tape::random(&mut random, 40);
-        let samples_length = about(&mut random, tape.pixels);
-        let [weights_length, flow_length] = [(); 2].map(|()| about(&mut random, tape.pairs));
-        TapeInput {
-            tape: tape.damaged(&mut random),
-            samples: random.bytes(samples_length),
-            weights: random.numbers(weights_length),
-            flow: random.numbers(flow_length),
-        }
+        let lengths = [tape.pixels, tape.pairs, tape.pairs].map(|due| about(&mut random, due));
+        let bytes = tape.damaged(&mut random);
+        filled(&mut random, bytes, lengths)
     })
 }
 

@@ -96,6 +96,25 @@ pub fn two_by_two() -> Case {
     case
 }
 
+/// The same terms with a narrow box, which only the second sample lies within.
+pub fn square() -> Case {
+    let mut case = two_by_two();
+    (case.terms.low, case.terms.high) = (8, 12);
+    case.samples = vec![0, 9, 255, 4];
+    case
+}
+
+/// The same with a weight for each pair, which `SQUARE_FLOW` is just within at three of them.
+pub fn weighted_square() -> Case {
+    Case {
+        weights: vec![1, 2, 256, 65_280],
+        ..square()
+    }
+}
+
+/// A flow of the square, with weights and without.
+pub const SQUARE_FLOW: [i32; 4] = [1, -2, 256, -256];
+
 /// The terms of the 2 by 1 job on another size, with document 01's sample 7 everywhere.
 pub fn flat(width: u32, height: u32) -> Case {
     let mut case = two_by_one();

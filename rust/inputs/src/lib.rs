@@ -1,24 +1,28 @@
 //! What tests, comparisons and benchmark share: jobs, their tapes and seasons of them, random,
-//! extreme and damaged, the counts of what a family of them was answered, and two images of one
-//! job beside the bound of their slacks.
+//! extreme, damaged and with flaws, the counts of what a family of them was answered, and two
+//! images of one job beside the bound of their slacks.
 
 mod case;
 mod chessboard;
 mod family;
+mod flaws;
 mod orders;
 mod random;
+mod read;
 mod season;
 mod tape;
 mod two_flows;
 
 pub use case::{
-    about_the_box, flat, jointed, narrow_box, three_by_one, two_by_one, two_by_two, Case,
-    JOINTED_TEXT, TWO_BY_ONE_TEXT,
+    about_the_box, flat, jointed, narrow_box, square, three_by_one, two_by_one, two_by_two,
+    weighted_square, Case, JOINTED_TEXT, SQUARE_FLOW, TWO_BY_ONE_TEXT,
 };
 pub use chessboard::{chessboard, chessboard_flow};
 pub use family::{compare_family, status, Answer, Difference, Tally};
+pub use flaws::{flaw, flawed, Flaw};
 pub use orders::record_orders;
 pub use random::Random;
+pub use read::{flawed_reads, TapeInput};
 pub use season::{concatenated, filler, season_job, season_prefixes, TWO_BY_ONE_SEASON};
 pub use tape::{changes_of, small_tapes, tape_length, Tape};
 pub use two_flows::beside_the_bound;

@@ -110,10 +110,11 @@ fn values() -> Vec<(Vec<u8>, String)> {
 fn weighted_values() -> Vec<(Vec<u8>, String)> {
     let job = jointed();
     let changed = |change: fn(&mut Tape)| Tape::new(&job, &[0, 0]).changed(change);
+    // The first bytes of the job's tape without a flow, and others behind them.
+    let first = |length, behind: &[u8]| [&job.tape(&[])[..length], behind].concat();
     // Records behind the samples, with zeros.
-    let start = &job.tape(&[])[..21];
     let (weight, flow) = ([6, 0, 0], [5, 0, 0, 0, 0]);
-    let behind = |records: &[&[u8]]| [start, &records.concat()].concat();
+    let behind = |records: &[&[u8]]| first(21, &records.concat());
     let best = "1572864 1572864 0";
     let row = "128 1152 2176";
     vec![
@@ -132,6 +133,7 @@ fn weighted_values() -> Vec<(Vec<u8>, String)> {
         ),
         (run_of(&job, 3, 0), text(&format!("settled 0 {best}"), row)),
         (changed(|tape| tape.set_flow(0, 1)), refused(8, 0)),
+        (changed(|tape| tape.set_flow(1, 513)), refused(8, 1)),
         (changed(|tape| tape.set_flow(1, -513)), refused(8, 1)),
         (
             changed(|tape| tape.set_pair_weight(1, 65_280)),
@@ -154,6 +156,9 @@ fn weighted_values() -> Vec<(Vec<u8>, String)> {
         (behind(&[&weight, &weight, &weight]), refused(14, 27)),
         (behind(&[&flow, &weight]), refused(14, 26)),
         (behind(&[&flow, &flow, &weight]), refused(14, 31)),
+        (behind(&[&flow, &flow, &[6]]), refused(14, 31)),
+        (first(21, &[6, 1, 255]), refused(2, 21)),
+        (first(26, &[]), refused(13, 24)),
     ]
 }
 

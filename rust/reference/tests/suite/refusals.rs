@@ -1,9 +1,13 @@
 //! Where each call turns back: every number at its place, the earlier of two faults,
 //! and no buffer touched.
 
-use relief_inputs::{flat, two_by_one, Case, Tape};
+use std::fmt::Debug;
+
+use relief_inputs::{
+    flat, flaw, flawed, flawed_reads, square, weighted_square, Case, Flaw, Tape, SQUARE_FLOW,
+};
 use relief_reference::tape::Capacity;
-use relief_reference::{check, price, read, run, write, Refusal, Rounds, Terms};
+use relief_reference::{check, price, run, write, Refusal, Rounds, Terms};
 
 use crate::support::{marked, read_back, read_back_within, refusal, Calls};
 
@@ -18,36 +22,6 @@ struct Lent {
     image: Vec<i32>,
     work: Vec<i32>,
     tape: Vec<u8>,
-}
-
-/// A job of 2 by 2 pixels.
-fn square() -> Case {
-    let mut case = two_by_one();
-    case.terms.height = 2;
-    (case.terms.low, case.terms.high) = (8, 12);
-    case.samples = vec![0, 9, 255, 4];
-    case
-}
-
-/// The same with a weight for each pair, which its flow is just within.
-fn weighted_square() -> Case {
-    Case {
-        weights: vec![1, 2, 256, 65_280],
-        ..square()
-    }
-}
-
-const SQUARE_FLOW: [i32; 4] = [1, -2, 256, -256];
-
-/// Offsets on the tape of the weighted square with its flow.
-mod offset {
-    pub const WEIGHT_AND_BOX: usize = 5;
-    pub const ROUNDS: usize = 10;
-    pub const SAMPLES: usize = 15;
-    pub const WEIGHTS: usize = 23;
-    pub const FLOW: usize = 35;
-    pub const END: usize = 55;
-    pub const AFTER_END: usize = 56;
 }
 
 impl Lent {
@@ -102,16 +76,6 @@ impl Lent {
         .map(drop)
     }
 
-    fn read(&mut self) -> Result<(), Refusal> {
-        read(
-            &self.tape,
-            &mut self.samples,
-            &mut self.weights,
-            &mut self.flow,
-        )
-        .map(drop)
-    }
-
     fn write(&mut self) -> Result<(), Refusal> {
         write(
             &self.terms,
@@ -125,68 +89,45 @@ impl Lent {
     }
 }
 
-/// Something that makes a call turn back, and the refusal it leads to.
-struct Flaw {
-    refusal: Refusal,
-    spoil: fn(&mut Lent),
-}
-
-const fn flaw(number: u32, place: usize, spoil: fn(&mut Lent)) -> Flaw {
-    Flaw {
-        refusal: Refusal {
-            number,
-            place: place as u64,
-        },
-        spoil,
-    }
-}
-
-const SIZE: Flaw = flaw(1, 0, |lent| lent.terms.width = 0);
-const WEIGHT: Flaw = flaw(2, 0, |lent| lent.terms.weight = 65_281);
-const BOX: Flaw = flaw(3, 0, |lent| lent.terms.low = lent.terms.high + 1);
-const QUICK_ROUNDS: Flaw = flaw(10, 0, |lent| lent.rounds.quick = 4_097);
-const SAMPLES_LONG: Flaw = flaw(4, 0, |lent| lent.samples.push(0));
-const SAMPLES_SHORT: Flaw = flaw(4, 0, |lent| lent.samples.truncate(3));
-const FLOW_LONG: Flaw = flaw(5, 0, |lent| lent.flow.push(0));
-const FLOW_SHORT: Flaw = flaw(5, 0, |lent| lent.flow.truncate(3));
-const WEIGHTS_LONG: Flaw = flaw(19, 0, |lent| lent.weights.push(0));
-const WEIGHTS_SHORT: Flaw = flaw(19, 0, |lent| lent.weights.resize(3, 0));
-const IMAGE_LONG: Flaw = flaw(6, 0, |lent| lent.image.push(2_048));
-const IMAGE_SHORT: Flaw = flaw(6, 0, |lent| lent.image.truncate(3));
-const WORK_LONG: Flaw = flaw(7, 0, |lent| lent.work.push(0));
-const WORK_SHORT: Flaw = flaw(7, 0, |lent| lent.work.truncate(7));
-const TAPE_SHORT: Flaw = flaw(16, 0, |lent| lent.tape.truncate(lent.tape.len() - 1));
-const PAIR_WEIGHT: Flaw = flaw(2, 2, |lent| lent.weights[2..].fill(65_281));
-const FLOW_VALUE: Flaw = flaw(8, 1, |lent| lent.flow[1..3].fill(i32::MIN));
-const IMAGE_VALUE: Flaw = flaw(9, 2, |lent| lent.image[2..].fill(3_328));
+const SIZE: Flaw<Lent> = flaw(1, 0, |lent| lent.terms.width = 0);
+const WEIGHT: Flaw<Lent> = flaw(2, 0, |lent| lent.terms.weight = 65_281);
+const BOX: Flaw<Lent> = flaw(3, 0, |lent| lent.terms.low = lent.terms.high + 1);
+const QUICK_ROUNDS: Flaw<Lent> = flaw(10, 0, |lent| lent.rounds.quick = 4_097);
+const SAMPLES_LONG: Flaw<Lent> = flaw(4, 0, |lent| lent.samples.push(0));
+const SAMPLES_SHORT: Flaw<Lent> = flaw(4, 0, |lent| lent.samples.truncate(3));
+const FLOW_LONG: Flaw<Lent> = flaw(5, 0, |lent| lent.flow.push(0));
+const FLOW_SHORT: Flaw<Lent> = flaw(5, 0, |lent| lent.flow.truncate(3));
+const WEIGHTS_LONG: Flaw<Lent> = flaw(19, 0, |lent| lent.weights.push(0));
+const WEIGHTS_SHORT: Flaw<Lent> = flaw(19, 0, |lent| lent.weights.resize(3, 0));
+const IMAGE_LONG: Flaw<Lent> = flaw(6, 0, |lent| lent.image.push(2_048));
+const IMAGE_SHORT: Flaw<Lent> = flaw(6, 0, |lent| lent.image.truncate(3));
+const WORK_LONG: Flaw<Lent> = flaw(7, 0, |lent| lent.work.push(0));
+const WORK_SHORT: Flaw<Lent> = flaw(7, 0, |lent| lent.work.truncate(7));
+const TAPE_SHORT: Flaw<Lent> = flaw(16, 0, |lent| lent.tape.truncate(lent.tape.len() - 1));
+const PAIR_WEIGHT: Flaw<Lent> = flaw(2, 2, |lent| lent.weights[2..].fill(65_281));
+const FLOW_VALUE: Flaw<Lent> = flaw(8, 1, |lent| lent.flow[1..3].fill(i32::MIN));
+const IMAGE_VALUE: Flaw<Lent> = flaw(9, 2, |lent| lent.image[2..].fill(3_328));
 
 type Call = fn(&mut Lent) -> Result<(), Refusal>;
 
 /// Tries the flaws with weights and, but that of a pair's weight, without them.
-fn assert_turns_back(call: Call, flaws: &[Flaw]) {
-    assert_spoiled(Lent::accepted(), call, flaws.iter().collect());
+fn assert_turns_back(call: Call, flaws: &[Flaw<Lent>]) {
+    assert_answers(call, flawed(Lent::accepted(), flaws.iter()));
     let others = flaws
         .iter()
         .filter(|flaw| flaw.refusal != PAIR_WEIGHT.refusal);
-    assert_spoiled(Lent::unweighted(), call, others.collect());
+    assert_answers(call, flawed(Lent::unweighted(), others));
 }
 
-/// Tries each flaw alone and with each later one: the earlier wins, and nothing that
-/// was lent changes.
-fn assert_spoiled(accepted: Lent, call: Call, flaws: Vec<&Flaw>) {
-    assert_eq!(call(&mut accepted.clone()), Ok(()));
-    for (index, first) in flaws.iter().enumerate() {
-        let mut alone = accepted.clone();
-        (first.spoil)(&mut alone);
-        let mut spoiled = vec![alone.clone()];
-        for later in &flaws[index + 1..] {
-            let mut both = alone.clone();
-            (later.spoil)(&mut both);
-            spoiled.push(both);
-        }
-        for before in spoiled {
-            let mut lent = before.clone();
-            assert_eq!(call(&mut lent), Err(first.refusal));
+/// The call gives the answers that are due, and where it turns back, nothing that was lent changes.
+fn assert_answers<I: Clone + Debug + PartialEq>(
+    call: fn(&mut I) -> Result<(), Refusal>,
+    inputs: Vec<(I, Result<(), Refusal>)>,
+) {
+    for (before, due) in inputs {
+        let mut lent = before.clone();
+        assert_eq!(call(&mut lent), due);
+        if due.is_err() {
             assert_eq!(lent, before);
         }
     }
@@ -329,13 +270,17 @@ fn limits_of_the_pair_weights() {
 /// A buffer of one weight too few, too many, or of any other number but 0.
 #[test]
 fn lengths_of_the_weight_buffer() {
+    let refused = Err(refusal(19, 0));
     for call in [Lent::price, Lent::check, Lent::run, Lent::write] {
         for length in 0..10 {
             let mut lent = Lent::accepted();
             lent.weights.resize(length, 256);
             lent.flow = SQUARE_FLOW.to_vec();
-            let taken = length == 0 || length == 4;
-            assert_eq!(call(&mut lent).is_ok(), taken);
+            let expected = match length {
+                0 | 4 => Ok(()),
+                _ => refused,
+            };
+            assert_eq!(call(&mut lent), expected);
         }
     }
     // Without pairs there are no weights.
@@ -345,7 +290,6 @@ fn lengths_of_the_weight_buffer() {
         samples,
         ..
     } = flat(1, 1);
-    let refused = Err(refusal(19, 0));
     for weights in [&[][..], &[256]] {
         let expected = if weights.is_empty() { Ok(()) } else { refused };
         let price = price(&terms, &samples, weights, &[0]);
@@ -420,38 +364,7 @@ fn sizes_beyond_the_limits() {
 
 #[test]
 fn read_turns_back() {
-    // In the order in which a read meets them; each changes bytes of its own.
-    let flaws = [
-        flaw(12, 0, |lent| lent.tape[0] = 7),
-        flaw(1, 0, |lent| lent.tape[1..3].fill(0)),
-        flaw(16, 0, |lent| lent.samples.truncate(3)),
-        flaw(16, 0, |lent| lent.weights.truncate(3)),
-        flaw(16, 0, |lent| lent.flow.truncate(3)),
-        flaw(14, offset::WEIGHT_AND_BOX, |lent| lent.tape[5] = 3),
-        flaw(2, offset::WEIGHT_AND_BOX, |lent| lent.tape[6..8].fill(255)),
-        flaw(3, offset::WEIGHT_AND_BOX, |lent| lent.tape[8] = 13),
-        flaw(12, offset::ROUNDS, |lent| lent.tape[10] = 255),
-        flaw(10, offset::ROUNDS, |lent| lent.tape[11..13].fill(17)),
-        flaw(14, offset::SAMPLES, |lent| lent.tape[15] = 5),
-        flaw(14, offset::SAMPLES + 2, |lent| lent.tape[17] = 6),
-        flaw(12, offset::SAMPLES + 4, |lent| lent.tape[19] = 7),
-        flaw(14, offset::WEIGHTS, |lent| lent.tape[23] = 4),
-        flaw(2, offset::WEIGHTS, |lent| lent.tape[24..26].fill(255)),
-        flaw(14, offset::WEIGHTS + 3, |lent| lent.tape[26] = 0),
-        flaw(2, offset::WEIGHTS + 3, |lent| lent.tape[28] = 255),
-        flaw(14, offset::WEIGHTS + 6, |lent| lent.tape[29] = 5),
-        flaw(12, offset::WEIGHTS + 9, |lent| lent.tape[32] = 7),
-        flaw(2, offset::WEIGHTS + 9, |lent| lent.tape[33] = 1),
-        flaw(14, offset::FLOW, |lent| lent.tape[35] = 4),
-        flaw(14, offset::FLOW + 5, |lent| lent.tape[40] = 0),
-        flaw(12, offset::FLOW + 10, |lent| lent.tape[45] = 7),
-        flaw(14, offset::FLOW + 15, |lent| lent.tape[50] = 6),
-        flaw(14, offset::END, |lent| lent.tape[55] = 5),
-        flaw(15, offset::AFTER_END, |lent| lent.tape.push(0)),
-        flaw(8, 1, |lent| lent.tape[41..45].fill(0x7F)),
-        flaw(8, 2, |lent| lent.tape[46..50].fill(0x80)),
-    ];
-    assert_spoiled(Lent::accepted(), Lent::read, flaws.iter().collect());
+    assert_answers(|lent| lent.read().map(drop), flawed_reads());
 }
 
 /// What a read of the square's tape without flow records gives, after `spoil`.
@@ -526,14 +439,9 @@ fn records_of_pairs_come_all_or_not_at_all() {
         tape[17] = kind;
         assert_eq!(read_back(&tape, 1, 0).answer, Err(refusal(14, 17)));
     }
-    // No end before the last sample, between weights or between flow numbers.
+    // No end at the first or last sample, the last weight or the last flow number.
     let tape = weighted_square().tape(&SQUARE_FLOW);
-    for place in [
-        offset::SAMPLES,
-        offset::SAMPLES + 6,
-        offset::WEIGHTS + 9,
-        offset::FLOW + 15,
-    ] {
+    for place in [15, 21, 32, 50] {
         let mut ended = tape.clone();
         ended[place] = 0;
         let expected = Err(refusal(14, place as u64));

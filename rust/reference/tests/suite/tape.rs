@@ -135,6 +135,23 @@ fn where_the_tape_with_a_joint_ends() {
     }
 }
 
+/// So many bytes of the tape, and others behind them.
+#[test]
+fn faults_behind_a_part_of_the_tape_with_a_joint() {
+    let tape = jointed().tape(&[]);
+    let behind_the_flow = [5, 0, 0, 0, 0, 5, 0, 0, 0, 0, 6];
+    for (length, behind, number, place) in [
+        (21, &[6, 1, 255][..], 2, 21),
+        (24, &[0], 14, 24),
+        (26, &[], 13, 24),
+        (21, &behind_the_flow, 14, 31),
+    ] {
+        let faulty = [&tape[..length], behind].concat();
+        let answer = read_and_write_again(&faulty);
+        assert_eq!(answer, Err(refusal(number, place)));
+    }
+}
+
 #[test]
 fn weights_stand_between_the_samples_and_the_flow() {
     let mut taken = 0;

@@ -122,6 +122,17 @@ fn checks_of_the_job_with_a_joint() {
     for (flow, place) in [([1, 0], 0), ([-1, -513], 0), ([0, 513], 1), ([0, -513], 1)] {
         assert_eq!(job.check(&flow), Err(refusal(8, place)));
     }
+    // A weight beyond its limit is named before a flow number, and one weight is not enough.
+    for (weights, flow, refused) in [
+        (vec![0, 65_281], [1, 0], refusal(2, 1)),
+        (vec![0], [0, 0], refusal(19, 0)),
+    ] {
+        let other = Case {
+            weights,
+            ..jointed()
+        };
+        assert_eq!(other.check(&flow), Err(refused));
+    }
 }
 
 #[test]
