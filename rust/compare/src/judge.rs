@@ -63,7 +63,7 @@ pub fn compare(step: usize) -> Result<(), Difference> {
     )?;
     CHECK.compare_values("the documents' limits", &[1, 2, 19], limits())?;
     let title = "the documents' values";
-    PRICE.compare_answers(title, &[], [joint_price()].into_iter())?;
+    PRICE.compare_answers(title, &[2], joint_prices())?;
     CHECK.compare_answers(title, &[2, 8, 19], joint_checks())?;
     let price_numbers = [1, 2, 3, 4, 6, 9, 19];
     let check_numbers = [1, 2, 3, 4, 5, 6, 8, 19];
@@ -99,18 +99,27 @@ fn checked(price: u64, floor: i64, slack: u64) -> Answer<Figures> {
     })
 }
 
-/// An image of the job with a joint, with the documents' price.
-fn joint_price() -> (JobInput, Answer<Figures>) {
-    let input = JobInput {
-        image: vec![128, 640, 2_688],
-        ..joint(&[0, 512])
-    };
-    (input, checked(2_097_152, 0, 0))
+fn refused(number: u32, place: u64) -> Answer<Figures> {
+    Err(Refusal { number, place })
+}
+
+/// Weights and images of the job with a joint, with the documents' answer.
+fn joint_prices() -> impl Iterator<Item = (JobInput, Answer<Figures>)> {
+    let values = [
+        ([0, 512], [128, 640, 2_688], checked(2_097_152, 0, 0)),
+        ([0, 65_281], [65_536, 640, 2_688], refused(2, 1)),
+    ];
+    values.into_iter().map(|(weights, image, answer)| {
+        let input = JobInput {
+            image: image.to_vec(),
+            ..joint(&weights)
+        };
+        (input, answer)
+    })
 }
 
 /// Weights and flows of the job with a joint, with the documents' answer.
 fn joint_checks() -> impl Iterator<Item = (JobInput, Answer<Figures>)> {
-    let refused = |number, place| Err(Refusal { number, place });
     let values: [(&[i32], [i32; 2], _); 6] = [
         (&[0, 512], [0, 0], checked(2_097_152, 0, 2_097_152)),
         (&[0, 512], [0, -512], checked(1_572_864, 1_572_864, 0)),

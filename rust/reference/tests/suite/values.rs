@@ -133,6 +133,12 @@ fn checks_of_the_job_with_a_joint() {
         };
         assert_eq!(other.check(&flow), Err(refused));
     }
+    // .. and before an image value.
+    let over = Case {
+        weights: vec![0, 65_281],
+        ..jointed()
+    };
+    assert_eq!(over.price(&[65_536, 640, 2_688]), Err(refusal(2, 1)));
 }
 
 #[test]
