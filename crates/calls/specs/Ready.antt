@@ -13,7 +13,7 @@ use Rattle.model.specs.Grid.{grid}
 use Rattle.model.specs.Calls.{pixelsOf, pairsOf, imageOf}
 use Rattle.model.specs.Accepted.{TermsAllowed, WeightsAllowed}
 
--- what the sum of the pairs' weights times the sizes of their falls is multiplied by: without weights each counts once in it
+-- the factor of the variation in a price: the terms' weight where no weights are lent (each fall then counts once in it), else 1
 abbrev pub scaleOf : ℕ → List ℤ → ℕ
 scaleOf weight weights = cond (eqb (length weights) 0) weight 1
 

@@ -71,8 +71,8 @@ pub record WriteAllowed (t : Terms) (r : Rounds) (samples : List ℕ) (weights n
   pub job : JobAllowed t r samples weights numbers
   pub output-length : length (tapeOf t r samples weights numbers) ≤ length output
 
--- Read: the tape of such a job, whose allowance is 0 to 65,535 (elsewhere its type says so), and buffers that hold all its
--- samples and, each, a number for every pair
+-- Read: the tape of such a job, whose allowance is 0 to 65,535 (elsewhere its type says so), a sample buffer that holds all its
+-- samples, and a weight buffer and a flow buffer that each hold a number for every pair
 pub record ReadAllowed (tape samples : List ℕ) (weights flow : List ℤ) : Type 0 where
   pub terms : Terms
   pub rounds : Rounds

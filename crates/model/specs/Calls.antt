@@ -75,8 +75,8 @@ exactOrNoneRow number lent due = row (wrongLength lent due) number 0
 abbrev pub optionalRow : {A : Type 0} → ℕ → List A → ℕ → Row
 optionalRow number buffer due = exactOrNoneRow number (length buffer) due
 
--- Contents: 2 pair weight over the limit, 8 flow number beyond ± its pair's weight, 9 image value outside the box; the place
--- is the first index (SPECIFICATION 6.2, 6.3)
+-- Contents: 2 pair weight below 0 or over the limit, 8 flow number beyond ± its pair's weight, 9 image value outside the box; the
+-- place is the first index (SPECIFICATION 6.2, 6.3)
 unfoldable pub firstOver : List ℤ → ℕ
 firstOver weights = firstWhere (length weights) (λ j. not (pairWeightAllowed (at weights j)))
 

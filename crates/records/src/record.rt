@@ -24,11 +24,11 @@ pub fn form_of(kind: u8, t: Tally) -> Form
     ensures { λ r. ⌜ r ≡ formOf kind (may t kind) ⌝ }
 {
     let sampled = (t.header == 3) & (t.samples == t.pixels);
-    let weighted = sampled & ((t.weights == 0) | (t.weights == t.pairs));
+    let past_weights = sampled & ((t.weights == 0) | (t.weights == t.pairs));
     match kind {
         0 => Form::Body {
             body: 0,
-            allowed: weighted & ((t.flows == 0) | (t.flows == t.pairs)),
+            allowed: past_weights & ((t.flows == 0) | (t.flows == t.pairs)),
         },
         1 => Form::Body {
             body: 4,
@@ -48,7 +48,7 @@ pub fn form_of(kind: u8, t: Tally) -> Form
         },
         5 => Form::Body {
             body: 4,
-            allowed: weighted & (t.flows < t.pairs),
+            allowed: past_weights & (t.flows < t.pairs),
         },
         6 => Form::Body {
             body: 2,

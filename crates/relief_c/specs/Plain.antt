@@ -53,7 +53,7 @@ pub record Handed (n q o m p : ℕ) (f : ℤ) (s : ℕ) (a : Answer) : Type 0 wh
   pub slack : pos s ≡ a .slack
 
 -- What read hands out: n and q are the number and place of its answer, t and r the job's terms and rounds, w is 1 where weights
--- and f is 1 where a flow were there, else 0
+-- were there, f is 1 where a flow was, else 0
 pub record HandedJob (n q : ℕ) (t : Terms) (r : Rounds) (w f : ℕ) (a : ReadAnswer) : Type 0 where
   pub number : n ≡ a .number
   pub place : q ≡ a .place

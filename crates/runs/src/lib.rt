@@ -1,4 +1,5 @@
-// Passes over a run of pairs, a row of pixels, or pixels in any order.
+// Passes over a run of pairs, a row of pixels, or pixels in any order; parts of a buffer that may be
+// empty.
 pub mod pairs;
 pub mod part;
 pub mod pixels;

@@ -113,7 +113,7 @@ module _ (tape : List ℕ) (lent : Lent) (byte : (i : ℕ) → getD tape i 0 < 2
 
   -- the weight of a pair that has a flow number
   own-is : (i : ℕ) → i < length (p .flow) →
-      ownWeight tape (15 + 2 * length (p .samples)) (length (p .weights)) (p .terms .weight) i ≡ weightOf (p .terms) (p .weights) i
+      ownWeight tape (p .terms .weight) (15 + 2 * length (p .samples)) (length (p .weights)) i ≡ weightOf (p .terms) (p .weights) i
   unfolding weightOf
   own-is i h = by (eqb (length (p .weights)) 0) refl
     where

@@ -18,9 +18,9 @@ numberAt tape o =
 
 -- the weight of pair j, of so many weight records from an offset on: its own, or, where there are none, the terms' weight
 abbrev pub ownWeight : List ℕ → ℕ → ℕ → ℕ → ℕ → ℕ
-ownWeight tape start count weight j = cond (eqb count 0) weight (pairWeightAt tape (start + 3 * j))
+ownWeight tape weight weightsAt weightCount j = cond (eqb weightCount 0) weight (pairWeightAt tape (weightsAt + 3 * j))
 
--- whether the number of pair j, of flow records from `start` on, is beyond ± that weight, of so many weight records from `own` on
+-- whether the number of pair j, of flow records from an offset on, is beyond ± that weight
 abbrev pub beyondOwn : List ℕ → ℕ → ℕ → ℕ → ℕ → ℕ → Bool
-beyondOwn tape weight own weights start j =
-    ltb (ownWeight tape own weights weight j) (natAbs (numberAt tape (start + 5 * j)))
+beyondOwn tape weight weightsAt weightCount flowAt j =
+    ltb (ownWeight tape weight weightsAt weightCount j) (natAbs (numberAt tape (flowAt + 5 * j)))

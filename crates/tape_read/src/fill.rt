@@ -12,34 +12,34 @@ ghost use Rattle.tape_read.specs.Places.{pairWeightAt, numberAt, ownWeig
 
 // The weight of pair j, of so many weight records from an offset on: its own, or, where there are
 // none, the terms' weight.
-fn own_weight(tape: &[u8], start: usize, count: usize, weight: u32, j: usize) -> u32
-    requires { ⌜ start + 3 * (j + 1) ≤ length (now tape) ⌝ }
-    ensures { λ r. ⌜ r ≡ ownWeight (now (tape .entry)) start count weight j ⌝ }
+fn own_weight(tape: &[u8], weight: u32, weights_at: usize, weight_count: usize, j: usize) -> u32
+    requires { ⌜ «weights_at» + 3 * (j + 1) ≤ length (now tape) ⌝ }
+    ensures { λ r. ⌜ r ≡ ownWeight (now (tape .entry)) weight «weights_at» «weight_count» j ⌝ }
 {
-    if count == 0 {
+    if weight_count == 0 {
         weight
     } else {
-        two_at(tape, start + 3 * j + 1)
+        two_at(tape, weights_at + 3 * j + 1)
     }
 }
 
-// The first of so many flow records, from an offset on, whose number is beyond ± its pair's weight;
-// `own` is the offset of so many weight records.
+// The first flow number beyond ± its pair's weight: so many flow records, and so many weight records,
+// each from an offset on.
 pub fn beyond_from(
     tape: &[u8],
     weight: u32,
-    own: usize,
-    weights: usize,
-    start: usize,
-    count: usize,
+    weights_at: usize,
+    weight_count: usize,
+    flow_at: usize,
+    flow_count: usize,
 ) -> usize
-    requires { ⌜ (own + 3 * count ≤ length (now tape)) × (start + 5 * count ≤ length (now tape)) ⌝ }
-    ensures { λ r. ⌜ r ≡ firstWhere count (beyondOwn (now (tape .entry)) weight own weights start) ⌝ }
+    requires { ⌜ («weights_at» + 3 * «flow_count» ≤ length (now tape)) × («flow_at» + 5 * «flow_count» ≤ length (now tape)) ⌝ }
+    ensures { λ r. ⌜ r ≡ firstWhere «flow_count» (beyondOwn (now (tape .entry)) weight «weights_at» «weight_count» «flow_at») ⌝ }
 {
     let mut j = 0;
-    while j < count {
-        let limit = own_weight(tape, own, weights, weight, j);
-        if is_beyond(four_at(tape, start + 5 * j + 1), limit) {
+    while j < flow_count {
+        let limit = own_weight(tape, weight, weights_at, weight_count, j);
+        if is_beyond(four_at(tape, flow_at + 5 * j + 1), limit) {
             return j;
         }
         j += 1;

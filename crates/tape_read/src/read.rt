@@ -52,15 +52,15 @@ pub fn take_numbers(
 {
     let terms = t.terms;
     let rounds = t.rounds;
-    let own = 15 + 2 * t.samples;
-    let start = own + 3 * t.weights;
-    let place = beyond_from(tape, terms.weight, own, t.weights, start, t.flows);
+    let weights_at = 15 + 2 * t.samples;
+    let flow_at = weights_at + 3 * t.weights;
+    let place = beyond_from(tape, terms.weight, weights_at, t.weights, flow_at, t.flows);
     if place < t.flows {
         return ReadResult::Refused { number: 8, place };
     }
     fill_samples(tape, 15, t.samples, samples);
-    fill_weights(tape, own, t.weights, weights);
-    fill_flow(tape, start, t.flows, flow);
+    fill_weights(tape, weights_at, t.weights, weights);
+    fill_flow(tape, flow_at, t.flows, flow);
     ReadResult::Job {
         terms,
         rounds,

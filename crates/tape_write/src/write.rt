@@ -22,14 +22,14 @@ ghost use Rattle.model.specs.Tape.{writeRows, writeAnswer, writeOutput};
 ghost use lib.ListN.{length, take};
 ghost use Rattle.model.specs.Accepted.{WriteAllowed};
 ghost use Rattle.roundtrip.specs.RoundTrip.{ReadsBack};
-ghost use Rattle.tape_write.specs.Writing.{tapeSize, contentRows, countRows, lowerRows};
+ghost use Rattle.tape_write.specs.Writing.{tapeSize, lastRows, countRows, lowerRows};
 ghost use Rattle.tape_write.specs.Answers.{writeAnswerOf};
 
 // 16 the output's length, for a tape of so many bytes; 2 a pair's weight that is not allowed; 8 a
 // number beyond ± its pair's weight.
-fn judge_contents(t: Terms, weights: &[i32], flow: &[i32], size: usize, room: usize) -> Verdict
+fn judge_last(t: Terms, weights: &[i32], flow: &[i32], size: usize, room: usize) -> Verdict
     requires { ⌜ (0 < length (now weights) → length (now flow) ≤ length (now weights)) ⌝ }
-    ensures { λ r. ⌜ r ≡ firstRefusal (contentRows t (now (weights .entry)) (now (flow .entry)) size room) ⌝ }
+    ensures { λ r. ⌜ r ≡ firstRefusal (lastRows t (now (weights .entry)) (now (flow .entry)) size room) ⌝ }
 {
     if room < size {
         return Verdict::Refuse {
@@ -72,7 +72,7 @@ fn judge_lengths(t: Terms, samples: usize, weights: &[i32], flow: &[i32], room: 
         };
     }
     let size = 16 + 2 * samples + 3 * own + 5 * count;
-    judge_contents(t, weights, flow, size, room)
+    judge_last(t, weights, flow, size, room)
 }
 
 // 10 quick rounds; 4 samples.

@@ -1,5 +1,6 @@
-// What the calls and the job tape share: the limits of a job's terms, its counts of pixels and
-// pairs, the weights of pairs, and the first flow number beyond its pair's.
+// What the calls and the job tape share: the limits of a job's terms, the length of a buffer that
+// need not be lent, the counts of pixels and pairs, the weights of pairs, and the first flow number
+// beyond its pair's.
 mod beyond;
 mod counts;
 mod limits;
@@ -17,4 +18,3 @@ pub use limits::weight_allowed;
 pub use limits::wrong_length;
 pub use verdict::judge_terms;
 pub use weights::first_over;
-pub use weights::pair_weight;

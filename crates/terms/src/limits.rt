@@ -1,4 +1,4 @@
-// The limits of a job's terms.
+// The limits of a job's terms, and the test of the length of a buffer that need not be lent.
 
 ghost use mathlib.Core.Path.{_≡_};
 ghost use mathlib.Core.Bool.{not, _&&_};

@@ -14,14 +14,16 @@ use Rattle.tape_read.proofs.fill.beyond_from.Statement.{statement}
 use Rattle.tape_read.proofs.fill.beyond_from.Tie as tie
 
 abbrev Inv-loop : tie.InvT-loop
-Inv-loop tape weight own weights start count j₀ j = Searched count (beyondOwn tape weight own weights start) j
+Inv-loop tape weight weightsAt weightCount flowAt flowCount j₀ j =
+    Searched flowCount (beyondOwn tape weight weightsAt weightCount flowAt) j
 
 abbrev μ-loop : tie.MeasureT-loop
-μ-loop tape weight own weights start count j₀ j = count - j
+μ-loop tape weight weightsAt weightCount flowAt flowCount j₀ j = flowCount - j
 
 -- the test, of what the function was given
 abbrev given : tie.At-loop Inv-loop μ-loop → ℕ → Bool
-given s = let a = s .before .before .args in beyondOwn (a .tape .now) (a .weight) (a .own) (a .weights) (a .start)
+given s =
+    let a = s .before .before .args in beyondOwn (a .tape .now) (a .weight) (a .weights-at) (a .weight-count) (a .flow-at)
 
 loop-holds : tie.Need-loop-holds Inv-loop μ-loop
 loop-holds c = search-start _ _

@@ -22,10 +22,11 @@ two-at-requires : tie.Need-two-at-requires
 two-at-requires c κs = search needs
 
 -- the weight by whether there are weight records
-by-count : (c : tie.Start) {b : Bool} → let a = c .args in eqb (a .count) 0 ≡ b →
-    cond b (a .weight) (pairWeightAt (a .tape .now) (a .start + 3 * a .j))
-    ≡ ownWeight (a .tape .now) (a .start) (a .count) (a .weight) (a .j)
-by-count c e = let a = c .args in ap (λ (b : Bool). cond b (a .weight) (pairWeightAt (a .tape .now) (a .start + 3 * a .j))) (sym e)
+by-count : (c : tie.Start) {b : Bool} → let a = c .args in eqb (a .weight-count) 0 ≡ b →
+    cond b (a .weight) (pairWeightAt (a .tape .now) (a .weights-at + 3 * a .j))
+    ≡ ownWeight (a .tape .now) (a .weight) (a .weights-at) (a .weight-count) (a .j)
+by-count c e =
+    let a = c .args in ap (λ (b : Bool). cond b (a .weight) (pairWeightAt (a .tape .now) (a .weights-at + 3 * a .j))) (sym e)
 
 returns : tie.Need-returns
 returns c = by-count (c .before .before) (eq-eqb _ 0 (c .if1 .taken))

@@ -23,17 +23,17 @@ fits : (c : tie.After-shared-slice-known) → let a = c .before .args in
     Room (a .tape .now) (lentBy (a .samples .now) (a .weights .now) (a .flow .now)) (a .t)
 fits c = let a = c .before .args in room (a .tape .now) (byte c) (a .samples .now) (a .weights .now) (a .flow .now) (c .before .pre)
 
-mul-own : tie.Need-mul-own
-mul-own c = omega (arith, fits (c .before .before .before .before), c .before .before .before .before .before .good)
+mul-weights-at : tie.Need-mul-weights-at
+mul-weights-at c = omega (arith, fits (c .before .before .before .before), c .before .before .before .before .before .good)
 
-add-own : tie.Need-add-own
-add-own c = omega (arith, fits (c .before .before .before .before), c .before .before .before .before .before .good)
+add-weights-at : tie.Need-add-weights-at
+add-weights-at c = omega (arith, fits (c .before .before .before .before), c .before .before .before .before .before .good)
 
-mul-start : tie.Need-mul-start
-mul-start c = omega (arith, fits (begun c), begun c .before .good)
+mul-flow-at : tie.Need-mul-flow-at
+mul-flow-at c = omega (arith, fits (begun c), begun c .before .good)
 
-add-start : tie.Need-add-start
-add-start c = omega (arith, fits (begun c), begun c .before .good)
+add-flow-at : tie.Need-add-flow-at
+add-flow-at c = omega (arith, fits (begun c), begun c .before .good)
 
 beyond-from-requires : tie.Need-beyond-from-requires
 beyond-from-requires c κs = omega (arith, fits (begun c))
@@ -106,10 +106,10 @@ pub take-numbers-spec : {M : Type 1} → statement M
 take-numbers-spec =
     tie.close
     (tie.spec
-    mul-own
-    add-own
-    mul-start
-    add-start
+    mul-weights-at
+    add-weights-at
+    mul-flow-at
+    add-flow-at
     beyond-from-requires
     returns
     fill-samples-requires

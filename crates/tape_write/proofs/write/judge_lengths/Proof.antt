@@ -79,12 +79,12 @@ mul-size-3 c = search needs
 add-size-3 : tie.Need-add-size-3
 add-size-3 c = omega (arith, few c)
 
-judge-contents-requires : tie.Need-judge-contents-requires
-judge-contents-requires c κs = no-longer (flow-due (c .before .before)) (weights-due c)
+judge-last-requires : tie.Need-judge-last-requires
+judge-last-requires c κs = no-longer (flow-due (c .before .before)) (weights-due c)
 
 returns-3 : tie.Need-returns-3
 returns-3 c =
-    c .judge-contents .ensures
+    c .judge-last .ensures
     ∙ sym
     (passed _ _ (flow-tested (c .before .before .before .before) ∙ c .before .before .before .if1 .left)
     ∙ passed _ _ (weights-tested (c .before .before) ∙ c .before .if2 .left))
@@ -104,5 +104,5 @@ judge-lengths-spec =
     add-size-2
     mul-size-3
     add-size-3
-    judge-contents-requires
+    judge-last-requires
     returns-3)

@@ -1,11 +1,11 @@
--- `tape_write::write::judge_contents` meets its contract: it goes down the rows. Assumes nothing.
+-- `tape_write::write::judge_last` meets its contract: it goes down the rows. Assumes nothing.
 use mathlib.Core.Path.{sym, _∙_}
 use Rattle.model.proofs.Refusals.{accepted, refused, passed}
 use Rattle.tape_write.proofs.Rows.{found, none-found}
 use borrow.Author.Needs.{needs}
 use borrow.Author.Tests.{lt-ltb, le-ltb}
-use Rattle.tape_write.proofs.write.judge_contents.Statement.{statement}
-use Rattle.tape_write.proofs.write.judge_contents.Tie as tie
+use Rattle.tape_write.proofs.write.judge_last.Statement.{statement}
+use Rattle.tape_write.proofs.write.judge_last.Tie as tie
 
 returns : tie.Need-returns
 returns c = sym (refused _ _ (lt-ltb _ _ (c .if1 .taken)))
@@ -37,7 +37,7 @@ returns-4 c =
     ∙ none-found (c .before .first-beyond .ensures) _ _ _ (c .if3 .left)
     ∙ accepted)
 
-pub judge-contents-spec : {M : Type 1} → statement M
-judge-contents-spec =
+pub judge-last-spec : {M : Type 1} → statement M
+judge-last-spec =
     tie.close
     (tie.spec returns first-over-requires returns-2 first-beyond-requires returns-3 returns-4)
