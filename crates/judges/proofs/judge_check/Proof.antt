@@ -46,7 +46,7 @@ judged c =
     let n = length (a .weights .now) in
     let m = length (a .flow .now) in
     under-terms (a .t) (lengthRows (pixelsOf (a .t)) (pairsOf (a .t)) (a .samples) n m (a .image)) (c .first .ensures)
-    (c .before .before .judge-terms .ensures) (λ h. lengths-due (a .t) h (a .samples) n m (a .image) (cc))
+    (c .before .before .judge-terms .ensures) (λ h. lengths-due (a .t) h (a .samples) n m (a .image) (search needs))
 
 enum-told : tie.Need-enum-told
 enum-told c = search needs
