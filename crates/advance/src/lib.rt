@@ -92,15 +92,15 @@ pub fn advance_grid(
     ensures { λ _. ⌜ now (ahead .exit) ≡ table (length (now (flow .entry))) (gridAhead eighth width height (weightAt weight (now (weights .entry))) m (now (flow .entry)) (now (ahead .entry)) (now (image .entry))) ⌝ }
 {
     let vertical = width * (height - 1);
-    let upper = part_of(weights, 0, vertical);
-    let lower = part_of(weights, vertical, height * (width - 1));
+    let of_columns = part_of(weights, 0, vertical);
+    let of_rows = part_of(weights, vertical, height * (width - 1));
     advance_pairs(
         &mut flow[..vertical],
         &mut ahead[..vertical],
         image,
         width,
         weight,
-        upper,
+        of_columns,
         m,
     );
     advance_rows(
@@ -110,7 +110,7 @@ pub fn advance_grid(
         width,
         height,
         weight,
-        lower,
+        of_rows,
         m,
     );
 }

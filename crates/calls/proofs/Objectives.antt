@@ -11,7 +11,7 @@ use lib.IntN.{ℤ, pos, natAbs, _+ℤ_, _-ℤ_, _*ℤ_}
 use Rattle.integers.specs.Whole.{abs, square}
 use Rattle.integers.specs.Sum.{total}
 use Rattle.integers.proofs.Parts.{parts, whole, by-≡}
-use Rattle.integers.proofs.Ring.{*ℤ-assoc}
+use Rattle.integers.proofs.Ring.{*ℤ-assoc, *ℤ-pos1, pos1-*ℤ}
 use Rattle.integers.proofs.Total.{total-*ℤ, total-cong}
 use Rattle.integers.proofs.Absolute.{natAbs-difference, natAbs-product}
 use Rattle.model.specs.declared.Terms.{Terms}
@@ -59,22 +59,16 @@ module _ (t : Terms) (samples : List ℕ) (weights : List ℤ) where
         default : {A : Type 0} (d : A) (k : List A) → length k ≡ 0 → getD k j d ≡ d
         default d k z = List·getD-eq-default k d {n = j} (omega arith)
 
-        times-one : (z : ℤ) → z *ℤ pos 1 ≡ z
-        times-one z = by-≡ (search parts depth 12) (omega whole)
-
-        one-times : (z : ℤ) → pos 1 *ℤ z ≡ z
-        one-times z = by-≡ (search parts depth 12) (omega whole)
-
         none : length weights ≡ 0 → pos (scaleOf (t .weight) weights) *ℤ weightAt (pos 1) weights j ≡ pos (natAbs (getD weights j (pos (t .weight))))
         none z =
             ap₂ (λ (b : Bool) (w : ℤ). pos (cond b (t .weight) 1) *ℤ w) (eq-eqb (length weights) 0 z) (default (pos 1) weights z)
-            ∙ times-one (pos (t .weight))
+            ∙ *ℤ-pos1 (pos (t .weight))
             ∙ sym (ap (λ (w : ℤ). pos (natAbs w)) (default (pos (t .weight)) weights z))
 
         lent : length weights ≡ pairsOf t → pos (scaleOf (t .weight) weights) *ℤ weightAt (pos 1) weights j ≡ pos (natAbs (getD weights j (pos (t .weight))))
         lent e =
             ap (λ (b : Bool). pos (cond b (t .weight) 1) *ℤ weightAt (pos 1) weights j) (ne-eqb (length weights) 0 (λ z. absurd (omega arith)))
-            ∙ one-times (weightAt (pos 1) weights j)
+            ∙ pos1-*ℤ (weightAt (pos 1) weights j)
             ∙ getD-inside weights j (pos 1) (pos (t .weight)) (omega arith)
             ∙ sym (weight-is t weights own j)
 

@@ -20,15 +20,16 @@ pub struct Figures {
     pub slack: u64,
 }
 
-// The objective: the data fidelity term plus twice the weighted total variation.
-fn objective(fidelity: u64, variation: u64, weight: u32) -> u64
-    requires { ⌜ fidelity + 2 * (weight * variation) < 2 ^ 63 ⌝ }
-    ensures { λ r. ⌜ r ≡ fidelity + 2 * (weight * variation) ⌝ }
+// The objective: the data fidelity term plus twice the weighted total variation, which is the sum over
+// pairs times its factor.
+fn objective(fidelity: u64, variation: u64, factor: u32) -> u64
+    requires { ⌜ fidelity + 2 * (factor * variation) < 2 ^ 63 ⌝ }
+    ensures { λ r. ⌜ r ≡ fidelity + 2 * (factor * variation) ⌝ }
 {
-    fidelity + 2 * ((weight as u64) * variation)
+    fidelity + 2 * ((factor as u64) * variation)
 }
 
-// What the sum over pairs is multiplied by: the terms' weight, or 1 where it has the pairs' own.
+// That factor: the terms' weight, or 1 where the sum has the pairs' own weights.
 fn scale(weight: u32, weights: &[i32]) -> u32
     ensures { λ r. ⌜ r ≡ scaleOf weight (now (weights .entry)) ⌝ }
 {

@@ -15,7 +15,7 @@ abbrev pub pairsDue : Terms → ℕ
 pairsDue t = cond (sizeAllowed (t .width) (t .height)) (pairsOf t) 0
 
 -- 4 samples; 5 flow; 19 weights; 6 image
-abbrev pub lengthRows : ℕ → ℕ → ℕ → ℕ → ℕ → ℕ → List Row
+abbrev pub lengthRows : (pixels pairs samples weights flow image : ℕ) → List Row
 lengthRows pixels pairs samples weights flow image =
     exactRow 4 samples pixels
     ∷ exactRow 5 flow pairs

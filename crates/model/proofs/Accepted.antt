@@ -1,7 +1,7 @@
 -- Check, price, run and write are accepted exactly when terms, lengths and contents are allowed: row by row, then each call, by
 -- its verdict and by the number that it gives. Assumes nothing.
 use mathlib.Core.Path.{_≡_, refl, sym, ap, ap₂, _∙_}
-use mathlib.Core.Bool.{Bool, true, false, not, _&&_, _||_, true≢false, and-false}
+use mathlib.Core.Bool.{Bool, true, false, not, _&&_, _||_, true≢false, or-true}
 use mathlib.Core.List.{List}
 use mathlib.Core.Logic.{_↔_, _⊎_, inl, inr, ⊎-elim}
 use Prim.Native.Nat.{ℕ, _*_, _≤_, _<_}
@@ -17,7 +17,7 @@ use Rattle.model.specs.Lists.{at, firstWhere}
 use Rattle.model.specs.Problem.{Feasible, InBox}
 use Rattle.model.specs.Grid.{Terms, sizeAllowed, weightAllowed, pairWeightAllowed, weightOf, boxAllowed, lowEnd, highEnd, grid}
 use Rattle.model.specs.Verdict.{Verdict, Accept, Refuse, Row, firstRefusal, decided}
-use Rattle.model.specs.Calls.{Rounds, Answer, refusal, pixelsOf, pairsOf, sizeRow, weightRow, boxRow, roundsRow, lengthRow, optionalRow, pairWeightsRow, flowRow, imageRow, firstOver, firstBeyond, firstOutside, figuresOf, checkVerdict, checkAnswer, priceVerdict, priceAnswer, runVerdict, runAnswer}
+use Rattle.model.specs.Calls.{Rounds, Answer, refusal, pixelsOf, pairsOf, allOrNone, sizeRow, weightRow, boxRow, roundsRow, lengthRow, optionalRow, pairWeightsRow, flowRow, imageRow, firstOver, firstBeyond, firstOutside, figuresOf, checkVerdict, checkAnswer, priceVerdict, priceAnswer, runVerdict, runAnswer}
 use Rattle.model.specs.Tape.{tapeOf, writeRows}
 use Rattle.model.specs.Accepted.{TermsAllowed, WeightsAllowed, CheckAllowed, PriceAllowed, RunAllowed, WriteAllowed}
 use Rattle.model.proofs.Lists.{firstWhere-first}
@@ -86,23 +86,32 @@ pub length-passes : {A : Type 0} (number : ℕ) (buffer : List A) (due : ℕ) �
 length-passes number buffer due =
     (λ h. eqb-true (length buffer) due (not-false _ h), λ e. ap not (eq-eqb (length buffer) due e))
 
--- 0, or the number that is due
-listed : (n pairs : ℕ) → ((not (eqb n 0) && not (eqb n pairs)) ≡ false) ↔ ((n ≡ 0) ⊎ (n ≡ pairs))
-listed n pairs = (
-  λ h. either (eqb n 0) (eqb n pairs) refl refl h,
-  ⊎-elim (λ (z : n ≡ 0). ap (λ (b : Bool). not b && not (eqb n pairs)) (eq-eqb n 0 z))
-      (λ (g : n ≡ pairs). ap (λ (b : Bool). not (eqb n 0) && not b) (eq-eqb n pairs g) ∙ and-false (not (eqb n 0))),
+-- all or none of what comes for every pair
+pub all-or-none : (count pairs : ℕ) → (allOrNone count pairs ≡ true) ↔ ((count ≡ 0) ⊎ (count ≡ pairs))
+all-or-none count pairs = (
+  λ h. either (eqb count 0) (eqb count pairs) refl refl h,
+  ⊎-elim (λ (z : count ≡ 0). ap (λ (b : Bool). b || eqb count pairs) (eq-eqb count 0 z))
+      (λ (g : count ≡ pairs). ap (λ (b : Bool). eqb count 0 || b) (eq-eqb count pairs g) ∙ or-true (eqb count 0)),
 )
   where
-    either : (a b : Bool) → eqb n 0 ≡ a → eqb n pairs ≡ b → (not a && not b) ≡ false → (n ≡ 0) ⊎ (n ≡ pairs)
-    either true b e g k = inl (eqb-true n 0 e)
-    either false true e g k = inr (eqb-true n pairs g)
-    either false false e g k = absurd (true≢false k)
+    either : (a b : Bool) → eqb count 0 ≡ a → eqb count pairs ≡ b → (a || b) ≡ true → (count ≡ 0) ⊎ (count ≡ pairs)
+    either true b e g h = inl (eqb-true count 0 e)
+    either false true e g h = inr (eqb-true count pairs g)
+    either false false e g h = absurd (true≢false (sym h))
+
+-- it is at most what is at least the pairs; and where there is any of a second thing that comes so, no more than of that
+pub up-to : {count pairs most : ℕ} → (count ≡ 0) ⊎ (count ≡ pairs) → pairs ≤ most → count ≤ most
+up-to {count} {pairs} c l = ⊎-elim (λ (z : count ≡ 0). omega arith) (λ (g : count ≡ pairs). omega arith) c
+
+pub no-longer : {m n pairs : ℕ} → (m ≡ 0) ⊎ (m ≡ pairs) → (n ≡ 0) ⊎ (n ≡ pairs) → 0 < n → m ≤ n
+no-longer {m} {n} {pairs} a b h =
+    ⊎-elim (λ (z : n ≡ 0). absurd (omega arith)) (λ (g : n ≡ pairs). up-to a (omega arith)) b
 
 -- a length that is 0, which is none, or the one that is due
 pub optional-passes : {A : Type 0} (number : ℕ) (buffer : List A) (due : ℕ) →
     (optionalRow number buffer due .applies ≡ false) ↔ ((length buffer ≡ 0) ⊎ (length buffer ≡ due))
-optional-passes number buffer due = listed (length buffer) due
+optional-passes number buffer due =
+    (λ h. all-or-none (length buffer) due .0 (not-false _ h), λ k. ap not (all-or-none (length buffer) due .1 k))
 
 -- a search finds nothing exactly when the test holds nowhere
 none-found : (n : ℕ) (test : ℕ → Bool) → (ltb (firstWhere n test) n ≡ false) ↔ ((i : ℕ) → i < n → test i ≡ false)

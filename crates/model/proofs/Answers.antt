@@ -6,10 +6,10 @@ use mathlib.Core.List.{List, []}
 use Prim.Native.Nat.{ℕ, _*_, _<_}
 use lib.IntN.{ℤ, pos}
 use Rattle.model.specs.Lists.{at, zeros}
-use Rattle.model.specs.Problem.{price, pull, image}
+use Rattle.model.specs.Problem.{pull, image}
 use Rattle.model.specs.Grid.{Terms, grid}
 use Rattle.model.specs.Verdict.{Verdict, decided, left}
-use Rattle.model.specs.Calls.{Rounds, Answer, refusal, figures, checked, settled, spent, pixelsOf, pairsOf, imageOf, figuresOf, checkVerdict, checkAnswer, checkImage, priceVerdict, priceAnswer, ending, runVerdict, runAnswer, runFlow, runImage, runWork}
+use Rattle.model.specs.Calls.{Rounds, Answer, refusal, checked, settled, spent, pixelsOf, pairsOf, imageOf, figuresOf, checkVerdict, checkAnswer, checkImage, priceVerdict, priceFigures, priceAnswer, ending, runVerdict, runAnswer, runFlow, runImage, runWork}
 use Rattle.model.proofs.Lists.{getD-table}
 
 module _ (t : Terms) (samples : List ℕ) (weights flow values : List ℤ) {v : Verdict} (h : checkVerdict t samples weights flow values ≡ v) where
@@ -22,9 +22,9 @@ module _ (t : Terms) (samples : List ℕ) (weights flow values : List ℤ) {v : 
   check-image = ap (λ (x : Verdict). left x (imageOf t samples flow) values) h
 
 module _ (t : Terms) (samples : List ℕ) (weights values : List ℤ) {v : Verdict} (h : priceVerdict t samples weights values ≡ v) where
-  pub price-answer : priceAnswer t samples weights values ≡ decided v (figures checked 0 (price (grid t samples weights) (at values)) (pos 0) (pos 0)) refusal
+  pub price-answer : priceAnswer t samples weights values ≡ decided v (priceFigures t samples weights values) refusal
   unfolding priceAnswer
-  price-answer = ap (λ (x : Verdict). decided x (figures checked 0 (price (grid t samples weights) (at values)) (pos 0) (pos 0)) refusal) h
+  price-answer = ap (λ (x : Verdict). decided x (priceFigures t samples weights values) refusal) h
 
 -- the figures of an accepted run
 abbrev pub runFigures : Terms → Rounds → List ℕ → List ℤ → Answer

@@ -1,7 +1,7 @@
 -- The calls check, price and run: where each turns back, its answer, and what it leaves in each lent buffer. `Rounds`,
 -- declared in src/lib.rt, are the other numbers of a job: quick rounds and the allowance of steady rounds
 -- (docs/SPECIFICATION.md, sections 4 and 6).
-use mathlib.Core.Bool.{Bool, not, _&&_, _||_, cond}
+use mathlib.Core.Bool.{Bool, not, _||_, cond}
 use mathlib.Core.List.{List, [], _∷_}
 use Prim.Native.Nat.{ℕ, _*_}
 use lib.Dec.{eqb, ltb}
@@ -58,6 +58,10 @@ boxRow t place = row (not (boxAllowed (t .low) (t .high))) 3 place
 abbrev pub roundsRow : Rounds → ℕ → Row
 roundsRow r place = row (ltb 4096 (r .quick)) 10 place
 
+-- So many of something that comes for all pairs or for none, and not a part of it (SPECIFICATION 5.3, 6.2)
+abbrev pub allOrNone : ℕ → ℕ → Bool
+allOrNone count pairs = eqb count 0 || eqb count pairs
+
 -- Lent lengths, which must be exact: 4 samples; 5 flow; 6 image; 7 work (SPECIFICATION 6.2)
 abbrev pub exactRow : ℕ → ℕ → ℕ → Row
 exactRow number lent due = row (not (eqb lent due)) number 0
@@ -67,7 +71,7 @@ lengthRow number buffer due = exactRow number (length buffer) due
 
 -- .. or, of a buffer that need not be lent, exact or 0: 19 weights; 5 the flow to be written
 abbrev pub wrongLength : ℕ → ℕ → Bool
-wrongLength lent due = not (eqb lent 0) && not (eqb lent due)
+wrongLength lent due = not (allOrNone lent due)
 
 abbrev pub exactOrNoneRow : ℕ → ℕ → ℕ → Row
 exactOrNoneRow number lent due = row (wrongLength lent due) number 0
@@ -141,11 +145,12 @@ priceVerdict t samples weights values =
     ∷ imageRow t values
     ∷ [])
 
+abbrev pub priceFigures : Terms → List ℕ → List ℤ → List ℤ → Answer
+priceFigures t samples weights values = figures checked 0 (price (grid t samples weights) (at values)) (pos 0) (pos 0)
+
 unfoldable pub priceAnswer : Terms → List ℕ → List ℤ → List ℤ → Answer
 priceAnswer t samples weights values =
-    decided (priceVerdict t samples weights values)
-    (figures checked 0 (price (grid t samples weights) (at values)) (pos 0) (pos 0))
-    refusal
+    decided (priceVerdict t samples weights values) (priceFigures t samples weights values) refusal
 
 -- Run does the rounds and fills flow and image (SPECIFICATION 4.7, 6.4). The flow that its quick rounds leave (3.7), and how
 -- its steady rounds end (3.11):

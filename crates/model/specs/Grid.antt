@@ -20,7 +20,7 @@ sizeAllowed w h = leb 1 w && leb w 4096 && (leb 1 h && leb h 4096) && leb (w * h
 unfoldable pub weightAllowed : ℕ → Bool
 weightAllowed weight = leb weight 65280
 
--- A weight buffer's number may also be below 0, which no weight is
+-- A number of a weight buffer is a weight: not below 0, and within that limit (SPECIFICATION 1.5, 6.2)
 unfoldable pub pairWeightAllowed : ℤ → Bool
 pairWeightAllowed z = not (ltZ z (pos 0)) && weightAllowed (natAbs z)
 

@@ -11,7 +11,7 @@ pub use Rattle.model.specs.declared.Entry.the-variants.{End, Size, Weigh
 use Rattle.model.specs.Lists.{chain, overwritten, at}
 use Rattle.model.specs.Grid.{Terms, weightOf}
 use Rattle.model.specs.Verdict.{Verdict, Accept, Refuse, Row, row, firstRefusal, left}
-use Rattle.model.specs.Calls.{Rounds, pixelsOf, pairsOf, sizeRow, weightRow, boxRow, roundsRow, lengthRow, optionalRow, pairWeightsRow, flowRow}
+use Rattle.model.specs.Calls.{Rounds, pixelsOf, pairsOf, allOrNone, sizeRow, weightRow, boxRow, roundsRow, lengthRow, optionalRow, pairWeightsRow, flowRow}
 
 -- ---- Numbers in bytes, lowest byte first (SPECIFICATION 5.2)
 
@@ -99,10 +99,6 @@ nothing =
       weights = [];
       flow = [];
     }
-
--- so many of something that comes for all pairs or for none, and not a part of it
-abbrev pub allOrNone : ℕ → ℕ → Bool
-allOrNone count pairs = eqb count 0 || eqb count pairs
 
 -- Order: 1, 2, 3, all samples, then all pair weights or none, then all flow numbers or none, then 0. So this kind may come
 -- where `header` of the records 1, 2, 3, `samples` of all `pixels` samples, and of all `pairs` pairs `weights` weights and

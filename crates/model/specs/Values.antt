@@ -17,9 +17,10 @@ use Rattle.model.specs.Text.{ascii}
 use Rattle.model.specs.Program.{programText}
 use Rattle.model.specs.Season.{seasonText}
 
--- A check of a flow; the price of an image; a run with these rounds; the T that k quick rounds leave, Tₖ₊₁; the program's text for the job's tape
--- with these rounds and no flow; its text for so many bytes of that tape and others behind them; the season report's text
--- for so many such tapes and more bytes behind them; or what a quick and a steady round's step add for a fall
+-- A check of a flow; the price of an image; a run with these rounds; the T that k quick rounds leave, Tₖ₊₁; the program's
+-- text for the job's tape with these rounds and no flow; its text for so many bytes of that tape and others behind them; the
+-- season report's text for so many such tapes and more bytes behind them; or what a quick and a steady round's step add for
+-- a fall
 pub data Asked : Type 0 where
   checking : List ℤ → Asked
   pricing : List ℤ → Asked
@@ -184,11 +185,15 @@ cases =
     ∷ threeByOne (pair 0 512) (checking (pair 0 513)) (call (refusal 8 1) (pair 0 513) (triple 0 0 0))
     ∷ threeByOne (pair 0 65281) (checking (pair 1 0)) (call (refusal 2 1) (pair 1 0) (triple 0 0 0))
     ∷ threeByOne (one (pos 0)) (checking (pair 0 0)) (call (refusal 19 0) (pair 0 0) (triple 0 0 0))
+    ∷ threeByOne (one (pos 0)) (checking (one (pos 0))) (call (refusal 5 0) (one (pos 0)) (triple 0 0 0))
+    ∷ threeByOne (pair 0 65281) (checking (one (pos 0))) (call (refusal 5 0) (one (pos 0)) (triple 0 0 0))
     ∷ threeByOne (pair 0 512) (pricing (triple 128 640 2688))
     (call (figures checked 0 (pos 2097152) (pos 0) (pos 0)) [] (triple 128 640 2688))
     ∷ threeByOne (pair 0 65281) (pricing (triple 65536 640 2688)) (call (refusal 2 1) [] (triple 65536 640 2688))
     ∷ threeByOne (pair 0 512) (running 0 100)
     (call (figures settled 3 (pos 1572864) (pos 1572864) (pos 0)) (pos 0 ∷ negℤ (pos 512) ∷ []) (triple 128 1152 2176))
+    ∷ threeByOne [] (running 0 100)
+    (call (figures settled 5 (pos 1179648) (pos 1179648) (pos 0)) (negℤ (pos 256) ∷ negℤ (pos 256) ∷ []) (triple 384 640 2432))
     ∷ threeByOne (pair 0 512) (printing 0 100)
     (text (ascii "outcome moved price floor slack\nsettled 3 1572864 1572864 0\n128 1152 2176\n"))
     ∷ threeByOne (pair 0 512) (beginning 0 100 21 (6 ∷ 1 ∷ 255 ∷ [])) (text (ascii "refused 2 at 21\n"))

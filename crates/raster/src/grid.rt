@@ -60,10 +60,10 @@ pub fn step_grid(
     ensures { λ _. ⌜ now (flow .exit) ≡ table (length (now (flow .entry))) (gridStep nearestEighth width height (weightAt weight (now (weights .entry))) (now (flow .entry)) (now (image .entry))) ⌝ }
 {
     let vertical = width * (height - 1);
-    let upper = part_of(weights, 0, vertical);
-    let lower = part_of(weights, vertical, height * (width - 1));
-    pairs::step_pairs(&mut flow[..vertical], image, width, weight, upper);
-    step_rows(&mut flow[vertical..], image, width, height, weight, lower);
+    let of_columns = part_of(weights, 0, vertical);
+    let of_rows = part_of(weights, vertical, height * (width - 1));
+    pairs::step_pairs(&mut flow[..vertical], image, width, weight, of_columns);
+    step_rows(&mut flow[vertical..], image, width, height, weight, of_rows);
 }
 
 // The first moving pair among the horizontal ones, counted through all rows.
@@ -116,13 +116,13 @@ pub fn first_moving_grid(
     ensures { λ r. ⌜ r ≡ movingOf (length (now (flow .entry))) (firstWhere (length (now (flow .entry))) (gridMoves nearestEighth width height (weightAt weight (now (weights .entry))) (now (flow .entry)) (now (image .entry)))) ⌝ }
 {
     let vertical = width * (height - 1);
-    let own = part_of(weights, 0, vertical);
-    let upper = pairs::first_moving(&flow[..vertical], image, width, weight, own);
+    let of_columns = part_of(weights, 0, vertical);
+    let upper = pairs::first_moving(&flow[..vertical], image, width, weight, of_columns);
     if let Moving::At(j) = upper {
         return Moving::At(j);
     }
-    let rest = part_of(weights, vertical, height * (width - 1));
-    let lower = first_moving_rows(&flow[vertical..], image, width, height, weight, rest);
+    let of_rows = part_of(weights, vertical, height * (width - 1));
+    let lower = first_moving_rows(&flow[vertical..], image, width, height, weight, of_rows);
     if let Moving::At(k) = lower {
         return Moving::At(vertical + k);
     }
@@ -156,10 +156,10 @@ pub fn total_variation_grid(image: &[i32], width: usize, height: usize, weights:
     ensures { λ r. ⌜ pos r ≡ total (length (gridPairs width height)) (gridVariation width height (weightAt (pos 1) (now (weights .entry))) (now (image .entry))) ⌝ }
 {
     let vertical = width * (height - 1);
-    let upper = part_of(weights, 0, vertical);
-    let lower = part_of(weights, vertical, height * (width - 1));
-    pairs::total_variation(image, width, vertical, upper)
-        + total_variation_rows(image, width, height, lower)
+    let of_columns = part_of(weights, 0, vertical);
+    let of_rows = part_of(weights, vertical, height * (width - 1));
+    pairs::total_variation(image, width, vertical, of_columns)
+        + total_variation_rows(image, width, height, of_rows)
 }
 
 // The sum of the horizontal pairs' numbers times their falls.

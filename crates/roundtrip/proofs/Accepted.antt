@@ -1,8 +1,8 @@
 -- An accepted tape is the bytes of the job that was read. Assumes nothing.
 use mathlib.Core.Path.{_≡_, refl, sym, ap, ap₂, _∙_, subst}
-use mathlib.Core.Bool.{Bool, true, false, _&&_, _||_, or-true, true≢false}
+use mathlib.Core.Bool.{Bool, true, false, _&&_}
 use mathlib.Core.List.{List, [], _++_}
-use mathlib.Core.Logic.{_↔_, _⊎_, inl, inr, ⊎-elim}
+use mathlib.Core.Logic.{_⊎_}
 use Prim.Native.Nat.{ℕ, zero, suc, _+_, _≤_, _<_, zero-le}
 use native.Mathlib.Omega.{arith}
 use lib.Dec.{eqb, ltb}
@@ -12,7 +12,7 @@ use lib.Seq.{take-all}
 use lib.Signed.{_≤ℤ_}
 use mir.Syntax.{w32}
 use mir.Val.{SFits}
-use borrow.Author.Tests.{eq-eqb, eqb-true, ltb-true, ltb-false, not-false}
+use borrow.Author.Tests.{eqb-true, ltb-true, ltb-false, not-false}
 use Rattle.integers.proofs.Order.{0≤pos, ≤→pos}
 use Rattle.model.specs.declared.Terms.{Terms}
 use Rattle.model.specs.declared.Rounds.{Rounds}
@@ -22,11 +22,11 @@ use Rattle.model.specs.declared.Entry.the-variants.{End, Size, WeightBox, Round
 use Rattle.model.specs.Lists.{chain}
 use Rattle.model.specs.Grid.{sizeAllowed, weightAllowed, boxAllowed}
 use Rattle.model.specs.Verdict.{firstRefusal}
-use Rattle.model.specs.Calls.{pixelsOf, pairsOf}
-use Rattle.model.specs.Tape.{known, decoded, encoded, Progress, nothing, allOrNone, allowedAfter, allowed, absorbed, entryRows, Parse, whole, parseFrom, tapeOf}
+use Rattle.model.specs.Calls.{pixelsOf, pairsOf, allOrNone}
+use Rattle.model.specs.Tape.{known, decoded, encoded, Progress, nothing, allowedAfter, allowed, absorbed, entryRows, Parse, whole, parseFrom, tapeOf}
 use Rattle.model.proofs.Refusals.{accepted-row}
 use Rattle.model.proofs.Bounds.{both-true}
-use Rattle.model.proofs.Accepted.{neither, weight-passes}
+use Rattle.model.proofs.Accepted.{all-or-none, neither, weight-passes}
 use Rattle.model.specs.declared.Lent.{Lent}
 use Rattle.steps.specs.declared.Step.{Step}
 use Rattle.records.proofs.Digits.{four-fits}
@@ -95,19 +95,6 @@ module _ (p : Progress) where
   no-samples e = no-weights (e .1, e .2) ∙ listed-none sampleRecord 0 upToHeader (e .0)
 
 -- ---- what the order asks of a record behind the samples
-
--- all or none of what comes for every pair
-pub all-or-none : (count pairs : ℕ) → (allOrNone count pairs ≡ true) ↔ ((count ≡ 0) ⊎ (count ≡ pairs))
-all-or-none count pairs = (
-  λ h. either (eqb count 0) (eqb count pairs) refl refl h,
-  ⊎-elim (λ (z : count ≡ 0). ap (λ (b : Bool). b || eqb count pairs) (eq-eqb count 0 z))
-      (λ (g : count ≡ pairs). ap (λ (b : Bool). eqb count 0 || b) (eq-eqb count pairs g) ∙ or-true (eqb count 0)),
-)
-  where
-    either : (a b : Bool) → eqb count 0 ≡ a → eqb count pairs ≡ b → (a || b) ≡ true → (count ≡ 0) ⊎ (count ≡ pairs)
-    either true b e g h = inl (eqb-true count 0 e)
-    either false true e g h = inr (eqb-true count pairs g)
-    either false false e g h = absurd (true≢false (sym h))
 
 -- the whole header, all samples, and a test of the weights and one of the flow
 record Behind (p : Progress) (v w : Bool) : Type 0 where

@@ -19,17 +19,17 @@ use Rattle.model.specs.declared.Rounds.{Rounds}
 use Rattle.model.specs.declared.Entry.the-variants.{End, Size, WeightBox, RoundLimits, Sample, Flow, PairWeight}
 use Rattle.model.specs.Lists.{at, overwritten}
 use Rattle.model.specs.Grid.{weightOf}
-use Rattle.model.specs.Calls.{pixelsOf, pairsOf, firstBeyond}
-use Rattle.model.specs.Tape.{Progress, nothing, allOrNone, allowedAfter, Parse, whole, parseFrom, ReadAnswer, readAnswer, readSamples, readWeights, readFlow, tapeOf, WriteAnswer, writeAnswer, writeOutput, lentBy}
+use Rattle.model.specs.Calls.{pixelsOf, pairsOf, allOrNone, firstBeyond}
+use Rattle.model.specs.Tape.{Progress, nothing, allowedAfter, Parse, whole, parseFrom, ReadAnswer, readAnswer, readSamples, readWeights, readFlow, tapeOf, WriteAnswer, writeAnswer, writeOutput, lentBy}
 use Rattle.model.proofs.Refusals.{accepted, passed}
 use Rattle.model.specs.Accepted.{JobAllowed, ReadAllowed}
-use Rattle.model.proofs.Accepted.{terms-pass, rounds-pass, weight-passes, flow-passes, write-accepted}
+use Rattle.model.proofs.Accepted.{all-or-none, terms-pass, rounds-pass, weight-passes, flow-passes, write-accepted}
 use Rattle.model.proofs.Weights.{weight-most}
 use Rattle.model.specs.declared.Lent.{Lent}
 use Rattle.roundtrip.specs.RoundTrip.{Reads, ReadsBack, WritesBack, weightCount, flowCount}
 use Rattle.roundtrip.proofs.Offsets.{tape-length, sample-here, weight-here, flow-here, end-here, header-here}
 use Rattle.roundtrip.proofs.WriteRows.{accepted-answer, written-answer, written-output}
-use Rattle.roundtrip.proofs.Accepted.{all-or-none, Job, accepted-job}
+use Rattle.roundtrip.proofs.Accepted.{Job, accepted-job}
 use Rattle.roundtrip.proofs.Judged.{accepted-parse, passed-parse, whole-parse, answer-by, samples-by, weights-by, flow-by}
 use Rattle.roundtrip.proofs.Walk.{walk-on, walk-end, Passes, walk-stretch}
 

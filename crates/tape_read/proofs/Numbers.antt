@@ -2,8 +2,7 @@
 use mathlib.Core.Path.{_≡_, refl, sym, ap, ap₂, _∙_, subst}
 use mathlib.Core.Bool.{Bool, true, false, cond}
 use mathlib.Core.List.{List, _++_}
-use mathlib.Core.Logic.{_⊎_, ⊎-elim}
-use Prim.Native.Nat.{ℕ, _+_, _*_, _<_}
+use Prim.Native.Nat.{ℕ, _+_, _*_, _≤_, _<_}
 use native.Mathlib.Omega.{arith}
 use lib.Dec.{eqb, ltb}
 use lib.IntN.{ℤ, pos, natAbs}
@@ -16,9 +15,10 @@ use Rattle.model.specs.declared.Entry.{Entry}
 use Rattle.model.specs.declared.Entry.the-variants.{Sample, Flow, PairWeight}
 use Rattle.model.specs.Lists.{at, table, firstWhere}
 use Rattle.model.specs.Grid.{weightOf}
-use Rattle.model.specs.Calls.{pairsOf, firstBeyond}
+use Rattle.model.specs.Calls.{firstBeyond}
 use Rattle.model.specs.Tape.{decoded, encoded, Progress, tapeOf}
 use Rattle.model.proofs.Lists.{length-table, getD-table, getD-inside, firstWhere-cong}
+use Rattle.model.proofs.Accepted.{no-longer}
 use Rattle.model.specs.declared.Lent.{Lent}
 use Rattle.records.specs.declared.tally.Tally.{Tally}
 use Rattle.records.specs.Tally.{tallyOf}
@@ -119,11 +119,8 @@ module _ (tape : List ℕ) (lent : Lent) (byte : (i : ℕ) → getD tape i 0 < 2
     where
       all : ¬ (length (p .weights) ≡ 0) → i < length (p .weights)
       all some =
-          ⊎-elim (λ (z : length (p .weights) ≡ 0). absurd (some z))
-          (λ (g : length (p .weights) ≡ pairsOf (p .terms)).
-          ⊎-elim (λ (z : length (p .flow) ≡ 0). absurd (omega arith))
-          (λ (k : length (p .flow) ≡ pairsOf (p .terms)). omega arith) (j .flow))
-          (j .weights)
+          let l : length (p .flow) ≤ length (p .weights) = no-longer (j .flow) (j .weights) (omega arith) in
+          omega arith
 
       by : (b : Bool) → eqb (length (p .weights)) 0 ≡ b →
           cond b (p .terms .weight) (weightOn tape (length (p .samples)) i)

@@ -3,7 +3,6 @@
 use mathlib.Core.Path.{_≡_, refl, sym, ap, _∙_, subst, subst⁻¹}
 use mathlib.Core.Bool.{not}
 use mathlib.Core.List.{List}
-use mathlib.Core.Logic.{_⊎_, ⊎-elim}
 use Prim.Native.Nat.{ℕ, _+_, _*_, _≤_, _<_}
 use native.Mathlib.Omega.{arith}
 use lib.Dec.{eqb}
@@ -11,6 +10,7 @@ use lib.IntN.{ℤ, pos}
 use lib.ListN.{length, getD}
 use Rattle.model.specs.Lists.{table, overwritten}
 use Rattle.model.specs.Tape.{Progress, turned, whole, parse, readAnswer, readSamples, readWeights, readFlow, lentBy}
+use Rattle.model.proofs.Accepted.{up-to}
 use Rattle.records.specs.declared.tally.Tally.{Tally}
 use Rattle.model.specs.declared.Lent.{Lent}
 use Rattle.records.specs.Tally.{tallyOf}
@@ -27,10 +27,6 @@ Room tape lent t =
     × (t .weights ≤ lent .weights)
     × (t .flows ≤ lent .flow)
 
--- what comes for all pairs or for none has room where all pairs have
-upto : {count pairs most : ℕ} → (count ≡ 0) ⊎ (count ≡ pairs) → pairs ≤ most → count ≤ most
-upto {count} {pairs} c l = ⊎-elim (λ (z : count ≡ 0). omega arith) (λ (g : count ≡ pairs). omega arith) c
-
 module _ (tape : List ℕ) (byte : (i : ℕ) → getD tape i 0 < 256) (samples : List ℕ) (weights flow : List ℤ) where
   abbrev lent : Lent
   lent = lentBy samples weights flow
@@ -44,7 +40,7 @@ module _ (tape : List ℕ) (byte : (i : ℕ) → getD tape i 0 < 256) (samples :
   room-of : (p : Progress) → Job tape lent byte p → Room tape lent (tallyOf p)
   room-of p j =
       let s = j .sound .size (omega (arith, j .complete)) in
-      (job-length tape lent byte p j, omega (arith, j .samples, s .1), upto (j .weights) (s .2), upto (j .flow) (s .3))
+      (job-length tape lent byte p j, omega (arith, j .samples, s .1), up-to (j .weights) (s .2), up-to (j .flow) (s .3))
 
   module _ {t : Tally} (h : WholeRecords tape (lentBy samples weights flow) t) where
     pub room : Room tape (lentBy samples weights flow) t

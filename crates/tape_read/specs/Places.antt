@@ -17,10 +17,10 @@ numberAt tape o =
     fromFour (getD tape (o + 1) 0) (getD tape (o + 1 + 1) 0) (getD tape (o + 1 + 2) 0) (getD tape (o + 1 + 3) 0)
 
 -- the weight of pair j, of so many weight records from an offset on: its own, or, where there are none, the terms' weight
-abbrev pub ownWeight : List ℕ → ℕ → ℕ → ℕ → ℕ → ℕ
+abbrev pub ownWeight : (tape : List ℕ) (weight weightsAt weightCount j : ℕ) → ℕ
 ownWeight tape weight weightsAt weightCount j = cond (eqb weightCount 0) weight (pairWeightAt tape (weightsAt + 3 * j))
 
 -- whether the number of pair j, of flow records from an offset on, is beyond ± that weight
-abbrev pub beyondOwn : List ℕ → ℕ → ℕ → ℕ → ℕ → ℕ → Bool
+abbrev pub beyondOwn : (tape : List ℕ) (weight weightsAt weightCount flowAt j : ℕ) → Bool
 beyondOwn tape weight weightsAt weightCount flowAt j =
     ltb (ownWeight tape weight weightsAt weightCount j) (natAbs (numberAt tape (flowAt + 5 * j)))

@@ -3,9 +3,8 @@
 use mathlib.Core.Path.{_≡_, sym, ap, _∙_}
 use mathlib.Core.Bool.{Bool, false}
 use mathlib.Core.List.{List, [], _∷_, _++_}
-use mathlib.Core.Logic.{_⊎_, ⊎-elim}
+use mathlib.Core.Logic.{_⊎_}
 use Prim.Native.Nat.{ℕ, _≤_, _<_}
-use native.Mathlib.Omega.{arith}
 use lib.Dec.{ltb}
 use lib.IntN.{ℤ}
 use lib.ListN.{length}
@@ -50,14 +49,7 @@ module _ {place first : ℕ} (e : place ≡ first) (n number : ℕ) (rows : List
 pub tested : (n : ℕ) {due pairs : ℕ} {b : Bool} → due ≡ pairs → b ≡ wrongLength n due → wrongLength n pairs ≡ b
 tested n e h = ap (wrongLength n) (sym e) ∙ sym h
 
--- such a length, once it has passed (the row's number does not count); what it is to what is due, and to another
+-- such a length, once it has passed (the row's number does not count)
 pub none-or-due : {A : Type 0} (buffer : List A) {pairs : ℕ} → wrongLength (length buffer) pairs ≡ false →
     (length buffer ≡ 0) ⊎ (length buffer ≡ pairs)
 none-or-due buffer {pairs} = optional-passes 0 buffer pairs .0
-
-pub at-most : {n pairs : ℕ} → (n ≡ 0) ⊎ (n ≡ pairs) → n ≤ pairs
-at-most {n} {pairs} = ⊎-elim (λ (z : n ≡ 0). omega arith) (λ (g : n ≡ pairs). omega arith)
-
-pub no-longer : {m n pairs : ℕ} → (m ≡ 0) ⊎ (m ≡ pairs) → (n ≡ 0) ⊎ (n ≡ pairs) → 0 < n → m ≤ n
-no-longer {m} {n} {pairs} a b h =
-    ⊎-elim (λ (z : n ≡ 0). absurd (omega arith)) (λ (g : n ≡ pairs). omega (arith, at-most a)) b

@@ -47,5 +47,5 @@ pub fn quick_allowed(quick: u32) -> bool
 pub fn wrong_length(lent: usize, due: usize) -> bool
     ensures { λ r. ⌜ r ≡ wrongLength lent due ⌝ }
 {
-    (lent != 0) & (lent != due)
+    !((lent == 0) | (lent == due))
 }

@@ -120,13 +120,15 @@ fn joint_prices() -> impl Iterator<Item = (JobInput, Answer<Figures>)> {
 
 /// Weights and flows of the job with a joint, with the documents' answer.
 fn joint_checks() -> impl Iterator<Item = (JobInput, Answer<Figures>)> {
-    let values: [(&[i32], [i32; 2], _); 6] = [
-        (&[0, 512], [0, 0], checked(2_097_152, 0, 2_097_152)),
-        (&[0, 512], [0, -512], checked(1_572_864, 1_572_864, 0)),
-        (&[0, 512], [1, 0], refused(8, 0)),
-        (&[0, 512], [0, 513], refused(8, 1)),
-        (&[0, 65_281], [1, 0], refused(2, 1)),
-        (&[0], [0, 0], refused(19, 0)),
+    let values: [(&[i32], &[i32], _); 8] = [
+        (&[0, 512], &[0, 0], checked(2_097_152, 0, 2_097_152)),
+        (&[0, 512], &[0, -512], checked(1_572_864, 1_572_864, 0)),
+        (&[0, 512], &[1, 0], refused(8, 0)),
+        (&[0, 512], &[0, 513], refused(8, 1)),
+        (&[0, 65_281], &[1, 0], refused(2, 1)),
+        (&[0], &[0, 0], refused(19, 0)),
+        (&[0], &[0], refused(5, 0)),
+        (&[0, 65_281], &[0], refused(5, 0)),
     ];
     values.into_iter().map(|(weights, flow, answer)| {
         let input = JobInput {

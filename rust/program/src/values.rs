@@ -106,9 +106,14 @@ fn values() -> Vec<(Vec<u8>, String)> {
     values.into_iter().chain(weighted_values()).collect()
 }
 
-/// Those of the job with a joint, whose pairs have the weights 0 and 512.
+/// Those of the job with a joint, whose pairs have the weights 0 and 512, and of that job without
+/// weights.
 fn weighted_values() -> Vec<(Vec<u8>, String)> {
     let job = jointed();
+    let plain = Case {
+        weights: Vec::new(),
+        ..jointed()
+    };
     let changed = |change: fn(&mut Tape)| Tape::new(&job, &[0, 0]).changed(change);
     // The first bytes of the job's tape without a flow, and others behind them.
     let first = |length, behind: &[u8]| [&job.tape(&[])[..length], behind].concat();
@@ -132,6 +137,10 @@ fn weighted_values() -> Vec<(Vec<u8>, String)> {
             text("spent 2 1581056 1433600 147456", "128 1088 2240"),
         ),
         (run_of(&job, 3, 0), text(&format!("settled 0 {best}"), row)),
+        (
+            plain.tape(&[]),
+            text("settled 5 1179648 1179648 0", "384 640 2432"),
+        ),
         (changed(|tape| tape.set_flow(0, 1)), refused(8, 0)),
         (changed(|tape| tape.set_flow(1, 513)), refused(8, 1)),
         (changed(|tape| tape.set_flow(1, -513)), refused(8, 1)),

@@ -1,9 +1,8 @@
 -- `judges::judge_check` meets its contract. Assumes nothing.
 use mathlib.Core.Path.{_≡_, sym, _∙_}
 use mathlib.Core.List.{List, _++_}
-use mathlib.Core.Logic.{⊎-elim}
+use mathlib.Core.Logic.{inr}
 use Prim.Native.Nat.{ℕ, _<_, _≤_}
-use native.Mathlib.Omega.{arith}
 use lib.IntN.{ℤ}
 use lib.ListN.{length}
 use Rattle.model.specs.declared.Terms.{Terms}
@@ -11,7 +10,7 @@ use Rattle.model.specs.declared.Verdict.{Verdict}
 use Rattle.model.specs.Verdict.{Row, firstRefusal}
 use Rattle.model.specs.Calls.{pixelsOf, pairsOf}
 use Rattle.model.proofs.Refusals.{accepted-rows, joined, stopped, went-on}
-use Rattle.model.proofs.Accepted.{length-passes, optional-passes}
+use Rattle.model.proofs.Accepted.{length-passes, optional-passes, no-longer}
 use Rattle.judges.specs.Lengths.{lengthRows}
 use Rattle.judges.proofs.Rows.{termsRows, lengths-due, under-terms}
 use borrow.Author.Needs.{needs}
@@ -25,10 +24,9 @@ module _ (t : Terms) (samples : ℕ) (weights flow : List ℤ) (image : ℕ) whe
 
   -- past them, where weights are lent, each number of the flow has its own
   each-weighed : firstRefusal rows ≡ Verdict.Accept → 0 < length weights → length flow ≤ length weights
-  each-weighed h l =
+  each-weighed h =
       let n = accepted-rows rows h .1 .1 .1 .1 in
-      let f : length flow ≡ pairsOf t = length-passes 5 flow (pairsOf t) .0 (n .0) in
-      ⊎-elim (λ (e : length weights ≡ 0). omega arith) (λ (e : length weights ≡ pairsOf t). omega arith) (optional-passes 19 weights (pairsOf t) .0 (n .1 .0))
+      no-longer (inr (length-passes 5 flow (pairsOf t) .0 (n .0))) (optional-passes 19 weights (pairsOf t) .0 (n .1 .0))
 
 judge-terms-requires : tie.Need-judge-terms-requires
 judge-terms-requires c κs = search needs

@@ -122,16 +122,19 @@ fn checks_of_the_job_with_a_joint() {
     for (flow, place) in [([1, 0], 0), ([-1, -513], 0), ([0, 513], 1), ([0, -513], 1)] {
         assert_eq!(job.check(&flow), Err(refusal(8, place)));
     }
-    // A weight beyond its limit is named before a flow number, and one weight is not enough.
+    // A weight beyond its limit is named before a flow number and after the lengths, and one weight
+    // is not enough.
     for (weights, flow, refused) in [
-        (vec![0, 65_281], [1, 0], refusal(2, 1)),
-        (vec![0], [0, 0], refusal(19, 0)),
+        (vec![0, 65_281], &[1, 0][..], refusal(2, 1)),
+        (vec![0, 65_281], &[0], refusal(5, 0)),
+        (vec![0], &[0, 0], refusal(19, 0)),
+        (vec![0], &[0], refusal(5, 0)),
     ] {
         let other = Case {
             weights,
             ..jointed()
         };
-        assert_eq!(other.check(&flow), Err(refused));
+        assert_eq!(other.check(flow), Err(refused));
     }
     // .. and before an image value.
     let over = Case {
@@ -155,6 +158,17 @@ fn runs_of_the_job_with_a_joint() {
         let rounds = Rounds { quick, allowance };
         assert_run_of(jointed(), rounds, &[0, flow], outcome, moved, totals);
     }
+    // Without weights both pairs have that of the terms.
+    let plain = Case {
+        weights: Vec::new(),
+        ..jointed()
+    };
+    let rounds = Rounds {
+        quick: 0,
+        allowance: 100,
+    };
+    let totals = (1_179_648, 1_179_648, 0);
+    assert_run_of(plain, rounds, &[-256, -256], Settled, 5, totals);
 }
 
 /// Runs the 2 by 1 job and compares the flow it leaves and all of its figures.

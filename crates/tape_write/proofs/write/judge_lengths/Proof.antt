@@ -6,8 +6,9 @@ use native.Mathlib.Omega.{arith}
 use lib.ListN.{length}
 use Rattle.model.specs.Calls.{pairsOf, wrongLength}
 use Rattle.model.proofs.Refusals.{refused, passed}
+use Rattle.model.proofs.Accepted.{up-to, no-longer}
 use Rattle.terms.proofs.Size.{allowed-size}
-use Rattle.tape_write.proofs.Rows.{tested, none-or-due, at-most, no-longer}
+use Rattle.tape_write.proofs.Rows.{tested, none-or-due}
 use borrow.Author.Needs.{needs}
 use Rattle.tape_write.proofs.write.judge_lengths.Statement.{statement}
 use Rattle.tape_write.proofs.write.judge_lengths.Tie as tie
@@ -39,9 +40,7 @@ few : (c : tie.Else2) → let a = c .before .before .before .before .before .arg
 few c =
     let s = c .before .before .before .before .before in
     let size = allowed-size (s .pre .0) in
-    let flow = at-most (flow-due (c .before .before)) in
-    let weights = at-most (weights-due c) in
-    (omega (arith, s .pre .1), omega arith, omega arith)
+    (omega (arith, s .pre .1), up-to (weights-due c) (size .pairs), up-to (flow-due (c .before .before)) (size .pairs))
 
 pairs-requires : tie.Need-pairs-requires
 pairs-requires c κs = search needs
