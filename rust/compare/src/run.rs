@@ -87,7 +87,8 @@ fn large(step: usize) -> impl Iterator<Item = JobInput> {
         let size = LARGEST[turn % LARGEST.len()];
         let job = JobInput::weighted(&mut random, size, turn % 2 == 0);
         let mut job = to_run(&mut random, job, rounds);
-        job.terms.weight = [65_280, 200][turn % 2];
+        // Each with weights and without, where alone it counts.
+        job.terms.weight = [65_280, 200][turn / 2 % 2];
         (job.terms.low, job.terms.high) = random.pick(&[(0, 255), (20, 230)]);
         match turn / LARGEST.len() {
             // All codes: most pairs move.
