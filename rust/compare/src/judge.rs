@@ -224,26 +224,31 @@ fn small(step: usize) -> impl Iterator<Item = JobInput> {
 
 fn large(step: usize) -> impl Iterator<Item = JobInput> {
     let mut random = Random::new(0x1A26E);
-    (0..24).step_by(step).map(move |turn| {
+    // Six turns come to each size with weights and without.
+    (0..30).step_by(step).map(move |turn| {
         let size = LARGEST[turn % LARGEST.len()];
         let input = JobInput::weighted(&mut random, size, turn % 2 == 1);
-        match turn / LARGEST.len() {
-            0 | 4 => extreme(input, 1),
-            1 | 5 => extreme(input, -1),
-            2 | 7 => farthest(input, [255, 0][turn % 2]),
-            3 => input.spoiled(&mut random),
+        match turn / 6 {
+            0 => extreme(input, 1),
+            1 => extreme(input, -1),
+            2 => farthest(input, [255, 0][turn / 3 % 2]),
             // As drawn.
-            _ => input,
+            3 => input,
+            _ => input.spoiled(&mut random),
         }
     })
 }
 
-/// The job on a chessboard, with the largest weight and a flow at its ends. With sign 1 the
-/// slack of the flow and the price of the image are as large as can be. With sign -1 the image
-/// is the readings.
+/// The job on a chessboard, with the largest weight, the terms' or each pair's own, and a flow at
+/// its ends. With sign 1 the slack of the flow and the price of the image are as large as can be.
+/// With sign -1 the image is the readings.
 fn extreme(mut input: JobInput, sign: i32) -> JobInput {
     let (width, height) = (input.terms.width as usize, input.terms.height as usize);
-    input.terms.weight = WEIGHT_LIMIT;
+    // That of the terms is 0 where it does not count.
+    input.terms.weight = match input.weights.is_empty() {
+        true => WEIGHT_LIMIT,
+        false => 0,
+    };
     input.weights.fill(WEIGHT_LIMIT as i32);
     (input.terms.low, input.terms.high) = (0, 255);
     input.samples = chessboard(width, height);
