@@ -163,6 +163,14 @@ fn a_settled_slack_may_be_the_bound() {
     }
 }
 
+/// Two cases give the same check of this flow, the same price of its image and the same run.
+fn assert_same_answers(one: &Case, other: &Case, flow: &[i32]) {
+    let checked = one.check(flow).unwrap();
+    assert_eq!(checked, other.check(flow).unwrap());
+    assert_eq!(one.price(&checked.image), other.price(&checked.image));
+    assert_eq!(one.run(), other.run());
+}
+
 /// A weight buffer that has the terms' weight at every pair is as none.
 #[test]
 fn equal_weights_are_the_weight() {
@@ -175,10 +183,7 @@ fn equal_weights_are_the_weight() {
             ..case.clone()
         };
         let flow = random.flow(&weighted.weights);
-        let checked = weighted.check(&flow).unwrap();
-        assert_eq!(checked, case.check(&flow).unwrap());
-        assert_eq!(weighted.price(&checked.image), case.price(&checked.image));
-        assert_eq!(weighted.run(), case.run());
+        assert_same_answers(&weighted, &case, &flow);
     }
 }
 
@@ -195,10 +200,7 @@ fn own_weights_are_taken_alone() {
         let mut other = case.clone();
         other.terms.weight = random.weight(65_280);
         let flow = random.flow(&case.weights);
-        let checked = case.check(&flow).unwrap();
-        assert_eq!(checked, other.check(&flow).unwrap());
-        assert_eq!(case.price(&checked.image), other.price(&checked.image));
-        assert_eq!(case.run(), other.run());
+        assert_same_answers(&case, &other, &flow);
     }
 }
 
