@@ -152,7 +152,7 @@ fn too_long_jobs(step: usize) -> impl Iterator<Item = Vec<u8>> {
         .map(|(_, season)| season)
 }
 
-/// The longest job with a byte changed: in its terms, weights and flow, in the last record that
+/// The longest job with a byte changed: in its samples, weights and flow, in the last record that
 /// begins before byte 65,536, and behind.
 fn faulty_overfull_jobs() -> Vec<Vec<u8>> {
     let tape = overfull_tape();
