@@ -605,7 +605,7 @@ fn faults_of_a_job_of_over_65_536_bytes() {
     let tape = longest_tape(64, 64, 72_720);
     let weights = 15 + 2 * TABLES.samples;
     let flow = weights + 3 * TABLES.weights;
-    // The record whose last byte is the first one behind, and the one after it.
+    // The record that goes past byte 65,536, and the one after it.
     let last = flow + 5 * ((65_536 - flow) / 5);
     for (offset, byte, refused) in [
         (10, 7, (12, 10)),
