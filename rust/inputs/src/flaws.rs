@@ -24,7 +24,8 @@ pub const fn flaw<I>(number: u32, place: usize, spoil: fn(&mut I)) -> Flaw<I> {
 }
 
 impl<I: Clone> Flaw<I> {
-    fn spoiled(&self, input: &I) -> I {
+    /// What is lent, with this flaw.
+    pub(crate) fn spoiled(&self, input: &I) -> I {
         let mut spoiled = input.clone();
         (self.spoil)(&mut spoiled);
         spoiled

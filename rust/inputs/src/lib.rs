@@ -22,7 +22,7 @@ pub use family::{compare_family, status, Answer, Difference, Tally};
 pub use flaws::{flaw, flawed, Flaw};
 pub use orders::record_orders;
 pub use random::Random;
-pub use read::{flawed_reads, TapeInput};
+pub use read::{flawed_jobs, flawed_reads, flawed_tapes, TapeInput};
 pub use season::{concatenated, filler, season_job, season_prefixes, TWO_BY_ONE_SEASON};
 pub use tape::{changes_of, small_tapes, tape_length, Tape};
 pub use two_flows::beside_the_bound;

@@ -33,24 +33,64 @@ impl TapeInput {
 /// A tape of 2 by 2 pixels with weights and a flow, with each flaw of its bytes and of the buffers'
 /// lengths alone, and with each two of them, with the answer that is due.
 pub fn flawed_reads() -> Vec<(TapeInput, Answer<()>)> {
-    let accepted = TapeInput {
+    flawed(accepted(), FLAWS.iter())
+}
+
+/// The same tape with flaws of its bytes only, as a program reads it.
+pub fn flawed_tapes() -> Vec<(Vec<u8>, Answer<()>)> {
+    with_flaws(flaws_of_bytes())
+}
+
+/// The same as a job of a season: a byte behind its end begins another job, which is judged after
+/// the flow. No bytes are no job, and left out.
+pub fn flawed_jobs() -> Vec<(Vec<u8>, Answer<()>)> {
+    let own = flaws_of_bytes().filter(|flaw| flaw.refusal.number != 15);
+    let mut jobs = with_flaws(own.chain([&NEXT_JOB]));
+    jobs.retain(|(tape, _)| !tape.is_empty());
+    jobs
+}
+
+fn accepted() -> TapeInput {
+    TapeInput {
         tape: weighted_square().tape(&SQUARE_FLOW),
         samples: vec![255; 4],
         weights: vec![-1; 4],
         flow: vec![-1; 4],
-    };
-    flawed(accepted, FLAWS.iter())
+    }
 }
+
+/// The tape with each of these flaws alone, and with each two of them.
+fn with_flaws<'a>(
+    flaws: impl Iterator<Item = &'a Flaw<TapeInput>> + Clone,
+) -> Vec<(Vec<u8>, Answer<()>)> {
+    let inputs = flawed(accepted(), flaws).into_iter();
+    let mut tapes: Vec<_> = inputs.map(|(lent, answer)| (lent.tape, answer)).collect();
+    // Flaws behind a cut make no difference.
+    tapes.dedup();
+    tapes
+}
+
+/// Those that change the tape, and not a buffer.
+fn flaws_of_bytes() -> impl Iterator<Item = &'static Flaw<TapeInput>> + Clone {
+    let lent = accepted();
+    let changes = move |flaw: &&Flaw<TapeInput>| flaw.spoiled(&lent).tape != lent.tape;
+    FLAWS.iter().filter(changes)
+}
+
+/// The next job of a season begins with an end record.
+const NEXT_JOB: Flaw<TapeInput> = flaw(14, 0, |lent| lent.tape.push(0));
 
 /// In the order in which a read meets them. The tape's records stand at 0, 5, 10, 15 to 21, 23 to
 /// 32, 35 to 50 and 55.
-const FLAWS: [Flaw<TapeInput>; 46] = [
+const FLAWS: [Flaw<TapeInput>; 47] = [
     // The size, and the buffers for it.
     flaw(18, 0, |lent| lent.tape.clear()),
     flaw(12, 0, |lent| lent.tape[0] = 7),
     flaw(14, 0, |lent| lent.tape[0] = 2),
     flaw(13, 0, |lent| lent.tape.truncate(4)),
     flaw(1, 0, |lent| lent.tape[1..3].fill(0)),
+    // So many pixels that a program's tables are too short as well.
+    flaw(16, 0, |lent| lent.tape[4] = 15),
     flaw(16, 0, |lent| lent.samples.truncate(3)),
     flaw(16, 0, |lent| lent.weights.truncate(3)),
     flaw(16, 0, |lent| lent.flow.truncate(3)),

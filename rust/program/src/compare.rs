@@ -29,12 +29,13 @@ pub fn compare_text(program: &Program, input: &Input, expected: &str) -> Result<
     }
 }
 
-/// Compares prefixes, and sees to it that what both answer is what is due (request F-6).
-pub fn compare_prefixes(
-    prefixes: impl Iterator<Item = (Vec<u8>, Answer<()>)>,
+/// Compares inputs that come with the answer that is due, and sees to it that both give that.
+pub fn compare_due(
+    title: &str,
+    inputs: impl IntoIterator<Item = (Vec<u8>, Answer<()>)>,
     compare: impl Fn(&Input) -> Result<Answer<String>, Difference>,
 ) -> Result<Tally, Difference> {
-    compare_family("every prefix", prefixes, |(bytes, due)| {
+    compare_family(title, inputs, |(bytes, due)| {
         let input = bytes.clone().into();
         let answer = compare(&input)?;
         if answer.as_ref().map(drop) == due.as_ref().copied() {

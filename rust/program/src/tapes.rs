@@ -1,20 +1,21 @@
-//! Tapes of accepted jobs, and damaged ones.
+//! Tapes of accepted jobs, and faulty and damaged ones.
 
 use relief_inputs::{
-    beside_the_bound, chessboard, chessboard_flow, compare_family, flat, jointed, small_tapes,
-    tape_length, two_by_one, Answer, Case, Difference, Random, Tally, Tape,
+    beside_the_bound, chessboard, chessboard_flow, compare_family, flat, flawed_tapes, jointed,
+    record_orders, small_tapes, tape_length, two_by_one, Answer, Case, Difference, Random, Tally,
+    Tape,
 };
 use relief_reference::program::{clean, FLOW_TABLE, SAMPLE_TABLE, WEIGHT_TABLE};
 use relief_reference::terms::WEIGHT_LIMIT;
 use relief_reference::Rounds;
 
-use crate::child::Program;
-use crate::compare::{compare as compare_tape, compare_prefixes, compare_text, report};
+use crate::child::{Input, Program};
+use crate::compare::{compare as compare_tape, compare_due, compare_text, report};
 
 /// Sizes with the most pixels that the program takes.
 const LARGEST: [(u32, u32); 3] = [(64, 64), (4_096, 1), (1, 4_096)];
 
-/// Compares whole, cut, changed, damaged and random tapes.
+/// Compares whole, cut, faulty, changed, damaged and random tapes.
 pub fn compare(program: &Program, step: usize) -> Result<(), Difference> {
     family(program, "the most pixels", largest())?
         .met(&["checked with floor below 0", "settled", "spent"], &[])?;
@@ -22,10 +23,14 @@ pub fn compare(program: &Program, step: usize) -> Result<(), Difference> {
     family(program, "1 to 4,096 pixels", jobs(step))?.met(&words, &[])?;
     compare_two_flows(program, step)?;
     family(program, "the most rounds", long_runs(step))?.met(&["settled"], &[])?;
-    compare_prefixes(prefixes(step), |input| compare_tape(program, input))?
+    let with_program = |input: &Input| compare_tape(program, input);
+    compare_due("every prefix", prefixes(step), with_program)?
         .met(&["checked with slack 0"], &[13, 18])?;
-    family(program, "changed bytes", changes(step))?.met(&[], &[8, 10, 12, 14])?;
+    compare_due("every order of records", orders(step), with_program)?
+        .met(&["checked", "settled with slack 0"], &[14, 15, 18])?;
     let numbers = [1, 2, 3, 8, 10, 12, 13, 14, 15, 16, 18];
+    compare_due("two faults", flawed_tapes(), with_program)?.met(&["checked"], &numbers)?;
+    family(program, "changed bytes", changes(step))?.met(&[], &[8, 10, 12, 14])?;
     family(program, "damaged tapes", damages(step))?.met(&[], &numbers)
 }
 
@@ -208,6 +213,15 @@ fn prefixes(step: usize) -> impl Iterator<Item = (Vec<u8>, Answer<()>)> {
         .prefixes()
         .chain(weighted.prefixes())
         .chain(others.step_by(step))
+}
+
+/// Tapes with up to five records behind the samples in every order, with the answer that is due.
+/// With a step always those that are taken.
+pub fn orders(step: usize) -> impl Iterator<Item = (Vec<u8>, Answer<()>)> {
+    record_orders(5)
+        .enumerate()
+        .filter(move |(index, (_, due))| index % step == 0 || due.is_ok())
+        .map(|(_, order)| order)
 }
 
 /// Small tapes with bytes changed.

@@ -1,14 +1,15 @@
-//! Seasons of random jobs: whole, cut, changed, and with a damaged job among them.
+//! Seasons of random jobs: whole, cut, changed, and with a faulty or damaged job among them.
 
 use relief_inputs::{
-    changes_of, concatenated, flat, jointed, season_job, season_prefixes, small_tapes, two_by_one,
-    Answer, Difference, Random, Tape,
+    changes_of, concatenated, flat, flawed_jobs, jointed, season_job, season_prefixes, small_tapes,
+    two_by_one, weighted_square, Answer, Difference, Random, Tape, SQUARE_FLOW,
 };
+use relief_reference::Refusal;
 
 use super::{compare as compare_season, family};
-use crate::child::Program;
-use crate::compare::compare_prefixes;
-use crate::tapes::{full_tape, largest, slackest_tape};
+use crate::child::{Input, Program};
+use crate::compare::compare_due;
+use crate::tapes::{full_tape, largest, orders, slackest_tape};
 
 /// Compares seasons of all these kinds.
 pub fn compare(program: &Program, step: usize) -> Result<(), Difference> {
@@ -17,8 +18,14 @@ pub fn compare(program: &Program, step: usize) -> Result<(), Difference> {
     family(program, "jobs of the most pixels", of_the_most_pixels())?.met(&every, &[])?;
     let numbers = [1, 2, 3, 8, 10, 12, 13, 14, 16];
     family(program, "a damaged job among others", damages(step))?.met(&[], &numbers)?;
-    compare_prefixes(prefixes(step), |input| compare_season(program, input))?
-        .met(&["no jobs"], &[13, 18])?;
+    let with_program = |input: &Input| compare_season(program, input);
+    compare_due("every prefix", prefixes(step), with_program)?.met(&["no jobs"], &[13, 18])?;
+    let orders = alone_and_behind(ordered_jobs(step));
+    compare_due("every order of records", orders, with_program)?
+        .met(&["checked", "settled", "settled and checked"], &[14, 18])?;
+    let faults = alone_and_behind(flawed_jobs());
+    compare_due("two faults", faults, with_program)?
+        .met(&["checked"], &[1, 2, 3, 8, 10, 12, 13, 14, 16, 18])?;
     family(program, "changed bytes", changes(step))?.met(&[], &[8, 10, 12, 14])
 }
 
@@ -86,6 +93,30 @@ fn prefixes(step: usize) -> impl Iterator<Item = (Vec<u8>, Answer<()>)> {
         season_prefixes(&jobs)
     });
     season_prefixes(&small_jobs()).chain(others.step_by(step))
+}
+
+/// Jobs with records behind the samples in every order, with the answer that is due. What follows
+/// the end is another job, which no such record begins.
+fn ordered_jobs(step: usize) -> impl Iterator<Item = (Vec<u8>, Answer<()>)> {
+    let no_job = Refusal {
+        number: 14,
+        place: 0,
+    };
+    orders(step).map(move |(job, due)| match due {
+        Err(Refusal { number: 15, .. }) => (job, Err(no_job)),
+        _ => (job, due),
+    })
+}
+
+/// Seasons of one job, and of that behind a good one, where the same is due.
+fn alone_and_behind(
+    jobs: impl IntoIterator<Item = (Vec<u8>, Answer<()>)>,
+) -> impl Iterator<Item = (Vec<u8>, Answer<()>)> {
+    let good = weighted_square().tape(&SQUARE_FLOW);
+    jobs.into_iter().flat_map(move |(job, due)| {
+        let behind = [&good[..], &job].concat();
+        [(job, due), (behind, due)]
+    })
 }
 
 /// A season of five jobs with bytes changed, each of them at least once.

@@ -5,8 +5,8 @@
 use std::io::{self, Read};
 
 use relief_inputs::{
-    filler, flat, jointed, season_job, season_prefixes, two_by_one, Case, Random, Tape,
-    TWO_BY_ONE_SEASON,
+    filler, flat, flawed_jobs, jointed, season_job, season_prefixes, two_by_one, Case, Random,
+    Tape, TWO_BY_ONE_SEASON,
 };
 use relief_reference::program::{clean, TABLES};
 use relief_reference::season::{report, report_plain_within, report_within, Limits, LIMITS};
@@ -128,6 +128,18 @@ fn a_refused_job_after_the_two_by_one_job() {
     beyond[20..24].copy_from_slice(&257_i32.to_le_bytes());
     let text = format!("{TWO_BY_ONE_SEASON}job 2 refused 8 at 0\n");
     assert_eq!(reported(&[job.tape(&[]), beyond].concat()), text);
+}
+
+#[test]
+fn a_job_with_every_two_flaws_after_the_two_by_one_job() {
+    let good = two_by_one().tape(&[]);
+    for (job, due) in flawed_jobs() {
+        let text = reported(&[&good[..], &job].concat());
+        match due {
+            Ok(()) => assert_eq!(text.lines().count(), 8),
+            Err(refusal) => assert!(text.ends_with(&format!(" {refusal}\n"))),
+        }
+    }
 }
 
 /// The 2 by 1 job: spent with slack 36.
