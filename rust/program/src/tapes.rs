@@ -5,7 +5,7 @@ use relief_inputs::{
     record_orders, small_tapes, tape_length, two_by_one, Answer, Case, Difference, Random, Tally,
     Tape,
 };
-use relief_reference::program::{clean, FLOW_TABLE, SAMPLE_TABLE, WEIGHT_TABLE};
+use relief_reference::program::{clean, FLOW_TABLE, INPUT_LIMIT, SAMPLE_TABLE, WEIGHT_TABLE};
 use relief_reference::terms::WEIGHT_LIMIT;
 use relief_reference::Rounds;
 
@@ -83,14 +83,12 @@ fn two_flows(step: usize) -> impl Iterator<Item = [Vec<u8>; 2]> {
     })
 }
 
-/// Tapes of the most pixels: with the largest totals, with any flow, and without one.
+/// Tapes of the most pixels: with the largest totals, with any flow, and without one. Then the
+/// largest totals by weights that are listed.
 pub fn largest() -> impl Iterator<Item = Vec<u8>> {
     let mut random = Random::new(0x1A26E4);
-    LARGEST.into_iter().flat_map(move |(width, height)| {
-        let extreme = extreme(Case::sized(&mut random, width, height));
-        let end = WEIGHT_LIMIT as i32;
-        let [apart, together] =
-            [end, -end].map(|value| chessboard_flow(width as usize, height as usize, value));
+    let unlisted = LARGEST.into_iter().flat_map(move |(width, height)| {
+        let [apart, together] = extreme_tapes(&extreme(width, height));
 
         let mut any = Case::sized(&mut random, width, height);
         any.weights.clear();
@@ -110,8 +108,8 @@ pub fn largest() -> impl Iterator<Item = Vec<u8>> {
         let mut weighted = any.clone();
         weighted.weights = random.weights(flow.len(), WEIGHT_LIMIT);
         [
-            extreme.tape(&apart),
-            extreme.tape(&together),
+            apart,
+            together,
             any.tape(&flow),
             any.tape(&[]),
             below.tape(&flow),
@@ -120,22 +118,43 @@ pub fn largest() -> impl Iterator<Item = Vec<u8>> {
             long.tape(&[]),
             weighted.tape(&[]),
         ]
-    })
+    });
+    unlisted.chain(extreme_tapes(&listed(extreme(100, 37))))
 }
 
 /// The job with the samples, weight and box of the largest totals.
-fn extreme(mut case: Case) -> Case {
+fn extreme(width: u32, height: u32) -> Case {
+    let mut case = flat(width, height);
     case.terms.weight = WEIGHT_LIMIT;
-    case.weights.clear();
     (case.terms.low, case.terms.high) = (0, 255);
-    case.samples = chessboard(case.terms.width as usize, case.terms.height as usize);
+    case.samples = chessboard(width as usize, height as usize);
     case
+}
+
+/// The job with its weight listed at each pair, and not in the terms.
+fn listed(mut case: Case) -> Case {
+    case.weights = case.pair_weights();
+    case.terms.weight = 0;
+    case
+}
+
+/// The tapes of such a job with the flow that pushes its differences apart and with that which
+/// pulls them together, as far as can be.
+fn extreme_tapes(case: &Case) -> [Vec<u8>; 2] {
+    let (width, height) = (case.terms.width as usize, case.terms.height as usize);
+    let end = WEIGHT_LIMIT as i32;
+    [end, -end].map(|value| {
+        let tape = case.tape(&chessboard_flow(width, height, value));
+        assert!(tape.len() <= INPUT_LIMIT);
+        tape
+    })
 }
 
 /// The tape with the largest slack that the program takes: at every pair the fall and the flow
 /// are as large as they can be.
 pub fn slackest_tape() -> Vec<u8> {
-    extreme(flat(64, 64)).tape(&chessboard_flow(64, 64, WEIGHT_LIMIT as i32))
+    let [apart, _] = extreme_tapes(&extreme(64, 64));
+    apart
 }
 
 /// The longest tape without weights that the program takes: all samples and all flow numbers.
