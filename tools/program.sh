@@ -1,6 +1,6 @@
 #!/usr/bin/env bash
-# Builds the cleaning program and compares what it prints with the second implementation's text, on about 670 tapes,
-# or on about 6,500 with the argument `full`. The prover's lines go to target/program.log. RELIEF_BIN, if set, is the
+# Builds the cleaning program and compares what it prints with the second implementation's text, on about 1,900 tapes,
+# or on about 15,000 with the argument `full`. The prover's lines go to target/program.log. RELIEF_BIN, if set, is the
 # path of another program: that is taken as it is, and nothing is built.
 set -euo pipefail
 if [ -n "${RELIEF_BIN:-}" ]; then

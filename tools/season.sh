@@ -1,6 +1,6 @@
 #!/usr/bin/env bash
-# Builds the season report and compares what it prints with the second implementation's text, on about 930 seasons, or on
-# about 6,700 with the argument `full`, one of these of 3 gigabytes. With the argument `bench` it times the program
+# Builds the season report and compares what it prints with the second implementation's text, on about 3,400 seasons, or on
+# about 24,000 with the argument `full`, one of these of 3 gigabytes. With the argument `bench` it times the program
 # beside the second implementation's fast one instead. The prover's lines go to target/season.log. RELIEF_SEASON, if set,
 # is the path of another program: that is taken as it is, and nothing is built.
 set -euo pipefail

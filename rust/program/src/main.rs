@@ -2,7 +2,7 @@
 //! with the second implementation's text.
 //!
 //! `program relief PATH full` tries all tapes on the cleaning program, `program season PATH full`
-//! all seasons on the season report; with `quick` in place of `full` it is about one in ten of
+//! all seasons on the season report; with `quick` in place of `full` it is about one in eight of
 //! the tapes and one in seven of the seasons. It prints a line with counts for each family of
 //! inputs. At the first difference it prints that with the whole input, and ends with status 1.
 
