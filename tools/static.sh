@@ -1,6 +1,6 @@
 #!/usr/bin/env bash
 # Builds the static library and compares it with the second implementation: the calls that it has, on about one
-# input in twenty, or on all with the argument `full`.
+# input in fifteen, or on all with the argument `full`.
 set -euo pipefail
 cd "$(dirname "$0")/.."
 features=$(bash tools/library.sh)
