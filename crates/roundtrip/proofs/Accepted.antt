@@ -22,7 +22,7 @@ use Rattle.model.specs.declared.Entry.the-variants.{End, Size, WeightBox, Round
 use Rattle.model.specs.Lists.{chain}
 use Rattle.model.specs.Grid.{sizeAllowed, weightAllowed, boxAllowed}
 use Rattle.model.specs.Verdict.{firstRefusal}
-use Rattle.model.specs.Calls.{pixelsOf, pairsOf, allOrNone}
+use Rattle.model.specs.Calls.{pixelsOf, pairsOf}
 use Rattle.model.specs.Tape.{known, decoded, encoded, Progress, nothing, allowedAfter, allowed, absorbed, entryRows, Parse, whole, parseFrom, tapeOf}
 use Rattle.model.proofs.Refusals.{accepted-row}
 use Rattle.model.proofs.Bounds.{both-true}
