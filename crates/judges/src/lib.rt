@@ -18,10 +18,10 @@ ghost use Rattle.judges.specs.Outside.{outsideRow};
 fn first(above: Verdict, below: Verdict) -> Verdict
     ensures { λ r. ⌜ r ≡ decided above below Verdict.Refuse ⌝ }
 {
-    let Verdict::Accept = above else {
-        return above;
-    };
-    below
+    match above {
+        Verdict::Refuse { number, place } => Verdict::Refuse { number, place },
+        Verdict::Accept => below,
+    }
 }
 
 // A lent length, which must be exact.

@@ -1,6 +1,7 @@
 -- What has been read so far, as the code counts it: the model's progress with a number for each list.
-use mathlib.Core.Bool.{Bool}
+use mathlib.Core.Bool.{Bool, _&&_}
 use Prim.Native.Nat.{ℕ}
+use lib.Dec.{eqb}
 use lib.ListN.{length}
 use Rattle.model.specs.Calls.{pixelsOf, pairsOf}
 use Rattle.model.specs.Tape.{Progress, allowedAfter}
@@ -18,6 +19,10 @@ tallyOf p =
       weights = length (p .weights);
       flows = length (p .flow);
     }
+
+-- the header and all samples have been read
+abbrev pub allSampled : Tally → Bool
+allSampled t = eqb (t .header) 3 && eqb (t .samples) (t .pixels)
 
 -- which kinds are allowed next
 abbrev pub may : Tally → ℕ → Bool

@@ -9,8 +9,9 @@ ghost use mathlib.Core.Path.{_≡_};
 ghost use Prim.Native.Nat.{_+_, _≤_, _<_};
 ghost use lib.ListN.{length, getD};
 ghost use Rattle.model.specs.Verdict.{firstRefusal};
+ghost use Rattle.model.specs.Calls.{allOrNone};
 ghost use Rattle.model.specs.Tape.{bodyLength, decoded, bodyRows, tooShort};
-ghost use Rattle.records.specs.Tally.{may};
+ghost use Rattle.records.specs.Tally.{allSampled, may};
 ghost use Rattle.records.specs.Record.{formOf, wholeAt, gotAt};
 
 // What a kind byte gives: the length of the body, and whether the record is allowed here.
@@ -19,16 +20,28 @@ pub enum Form {
     Body { body: usize, allowed: bool },
 }
 
+// Whether the header and all samples have been read.
+fn sampled(t: Tally) -> bool
+    ensures { λ r. ⌜ r ≡ allSampled t ⌝ }
+{
+    (t.header == 3) & (t.samples == t.pixels)
+}
+
+// Whether of all pairs none has been counted, or all have.
+fn all_or_none(count: usize, pairs: usize) -> bool
+    ensures { λ r. ⌜ r ≡ allOrNone count pairs ⌝ }
+{
+    (count == 0) | (count == pairs)
+}
+
 // Order: 1, 2, 3, all samples, then all pair weights or none, then all flow numbers or none, then 0.
 pub fn form_of(kind: u8, t: Tally) -> Form
     ensures { λ r. ⌜ r ≡ formOf kind (may t kind) ⌝ }
 {
-    let sampled = (t.header == 3) & (t.samples == t.pixels);
-    let past_weights = sampled & ((t.weights == 0) | (t.weights == t.pairs));
     match kind {
         0 => Form::Body {
             body: 0,
-            allowed: past_weights & ((t.flows == 0) | (t.flows == t.pairs)),
+            allowed: sampled(t) & all_or_none(t.weights, t.pairs) & all_or_none(t.flows, t.pairs),
         },
         1 => Form::Body {
             body: 4,
@@ -48,11 +61,11 @@ pub fn form_of(kind: u8, t: Tally) -> Form
         },
         5 => Form::Body {
             body: 4,
-            allowed: past_weights & (t.flows < t.pairs),
+            allowed: sampled(t) & all_or_none(t.weights, t.pairs) & (t.flows < t.pairs),
         },
         6 => Form::Body {
             body: 2,
-            allowed: sampled & (t.weights < t.pairs) & (t.flows == 0),
+            allowed: sampled(t) & (t.weights < t.pairs) & (t.flows == 0),
         },
         _ => Form::Unknown,
     }

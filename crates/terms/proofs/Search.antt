@@ -1,11 +1,14 @@
--- What a loop that looks for the first index at which a test holds has found, from its invariant. Assumes nothing.
-use mathlib.Core.Path.{_≡_, sym}
-use mathlib.Core.Bool.{Bool, true, false}
+-- What a loop that looks for the first index at which a test holds has found, from its invariant; and one that only tells
+-- whether there is such an index. Assumes nothing.
+use mathlib.Core.Path.{_≡_, refl, sym}
+use mathlib.Core.Bool.{Bool, true, false, _||_, true≢false}
 use Prim.Native.Nat.{ℕ, _+_, _≤_, _<_, zero-le}
 use native.Mathlib.Omega.{arith}
 use borrow.Author.Count.{below-more}
+use borrow.Author.Tests.{ltb-false, lt-ltb, le-ltb}
+use lib.Dec.{ltb}
 use Rattle.model.specs.Lists.{firstWhere}
-use Rattle.model.proofs.Lists.{firstWhere-is}
+use Rattle.model.proofs.Lists.{firstWhere-first, firstWhere-is}
 
 -- no index before i passes the test
 abbrev pub Searched : ℕ → (ℕ → Bool) → ℕ → Type 0
@@ -23,3 +26,28 @@ search-start n test = (zero-le, λ k h. absurd (omega arith))
 
 pub search-on : (n : ℕ) (test : ℕ → Bool) (i : ℕ) → Searched n test i → i < n → test i ≡ false → Searched n test (i + 1)
 search-on n test i s l t = (omega arith, below-more _ _ (s .1) t)
+
+-- whether an index before i passes the test
+abbrev pub Met : ℕ → (ℕ → Bool) → ℕ → Bool → Type 0
+Met n test i some = (i ≤ n) × (some ≡ false → Searched n test i) × (some ≡ true → firstWhere n test < n)
+
+pub met-start : (n : ℕ) (test : ℕ → Bool) → Met n test 0 false
+met-start n test = (zero-le, λ _. search-start n test, λ h. absurd (true≢false (sym h)))
+
+pub met-on : (n : ℕ) (test : ℕ → Bool) (i : ℕ) (some b : Bool) → Met n test i some → i < n → b ≡ test i → Met n test (i + 1) (some || b)
+met-on n test i true b m l e = (omega arith, λ h. absurd (true≢false h), λ _. m .2 refl)
+met-on n test i false true m l e =
+    let at : i ≡ firstWhere n test = search-found n test i (m .1 refl) (sym e) in
+    (omega arith, λ h. absurd (true≢false h), λ _. omega arith)
+met-on n test i false false m l e =
+    (omega arith, λ _. search-on n test i (m .1 refl) l (sym e), λ h. absurd (true≢false (sym h)))
+
+pub met-end : (n : ℕ) (test : ℕ → Bool) (i : ℕ) (some : Bool) → Met n test i some → n ≤ i → some ≡ ltb (firstWhere n test) n
+met-end n test i true m l = sym (lt-ltb (firstWhere n test) n (m .2 refl))
+met-end n test i false m l =
+    let none : i ≡ firstWhere n test = search-none n test i (m .1 refl) l in
+    sym (le-ltb (firstWhere n test) n (omega arith))
+
+-- where no index passes, the first one is none
+pub none-met : (n : ℕ) (test : ℕ → Bool) → ltb (firstWhere n test) n ≡ false → n ≡ firstWhere n test
+none-met n test h = omega (arith, ltb-false (firstWhere n test) n h, firstWhere-first n test .within)

@@ -1,8 +1,9 @@
 -- `records::record::form_of` meets its contract: at each kind the table of the definition computes to the arm. Assumes nothing.
-use mathlib.Core.Path.{_≡_, ap, sym}
-use mathlib.Core.Bool.{Bool, cond}
+use mathlib.Core.Path.{_≡_, refl, ap, ap₂, sym, _∙_}
+use mathlib.Core.Bool.{Bool, cond, _&&_}
 use Prim.Native.Nat.{ℕ, suc, _≤_, zero-le}
 use native.Mathlib.Omega.{arith}
+use borrow.Author.Needs.{needs}
 use borrow.Author.Tests.{le-ltb}
 use lib.ListN.{length}
 use Rattle.model.specs.Tape.{allowedAfter, bodyLengths, bodyLength}
@@ -14,15 +15,40 @@ use Rattle.records.proofs.record.form_of.Statement.{statement}
 use Rattle.records.proofs.record.form_of.Tie as tie
 
 -- the tally, where the kind is looked at
-abbrev tally : tie.After-struct-known4 → Tally
-tally c = c .before .before .before .before .args .t
+abbrev tally : tie.Start → Tally
+tally c = c .args .t
 
 at-kind : (t : Tally) {kind k : ℕ} → kind ≡ k → formOf k (may t k) ≡ formOf kind (may t kind)
 at-kind t e = ap (λ (n : ℕ). formOf n (may t n)) (sym e)
 
+-- the form of a kind, by two tests and by a third
+by-tests : {body : ℕ} {a a' b b' c c' : Bool} → a ≡ a' → b ≡ b' → c ≡ c' → Form.Body body (a && b && c) ≡ Form.Body body (a' && b' && c')
+by-tests {body} e f g = ap₂ (λ (x y : Bool). Form.Body body (x && y)) (ap₂ _&&_ e f) g
+
+sampled-requires : tie.Need-sampled-requires
+sampled-requires c κs = search needs
+
+all-or-none-requires : tie.Need-all-or-none-requires
+all-or-none-requires c κs = search needs
+
+all-or-none-requires-2 : tie.Need-all-or-none-requires-2
+all-or-none-requires-2 c κs = search needs
+
+sampled-requires-2 : tie.Need-sampled-requires-2
+sampled-requires-2 c κs = search needs
+
+all-or-none-requires-3 : tie.Need-all-or-none-requires-3
+all-or-none-requires-3 c κs = search needs
+
+sampled-requires-3 : tie.Need-sampled-requires-3
+sampled-requires-3 c κs = search needs
+
 returns : tie.Need-returns
 unfolding allowedAfter
-returns c = at-kind (tally (c .before .before .before)) (c .before .before .match .keys1)
+returns c =
+    let kind = c .before .before .before in
+    by-tests (c .before .before .sampled .ensures) (c .before .all-or-none .ensures) (c .all-or-none2 .ensures)
+    ∙ at-kind (tally (kind .before)) (kind .match .keys1)
 
 returns-2 : tie.Need-returns-2
 unfolding allowedAfter
@@ -42,11 +68,17 @@ returns-5 c = at-kind (tally (c .before .before .before)) (c .before .before .ma
 
 returns-6 : tie.Need-returns-6
 unfolding allowedAfter
-returns-6 c = at-kind (tally (c .before .before)) (c .before .match .keys6)
+returns-6 c =
+    let kind = c .before .before .before in
+    by-tests (c .before .before .sampled2 .ensures) (c .before .all-or-none3 .ensures) refl
+    ∙ at-kind (tally (kind .before)) (kind .match .keys6)
 
 returns-7 : tie.Need-returns-7
 unfolding allowedAfter
-returns-7 c = at-kind (tally (c .before .before .before)) (c .before .before .match .keys7)
+returns-7 c =
+    let kind = c .before .before .before in
+    by-tests (c .before .before .sampled3 .ensures) refl refl
+    ∙ at-kind (tally (kind .before)) (kind .match .keys7)
 
 -- no kind of the table
 above : {k n : ℕ} → n ≤ k → ¬ (k ≡ n) → suc n ≤ k
@@ -54,7 +86,7 @@ above h e = omega (arith, e)
 
 returns-8 : tie.Need-returns-8
 returns-8 c =
-    let k : ℕ = c .before .before .before .before .before .args .kind in
+    let k : ℕ = c .before .args .kind in
     let r = c .match .rest in
     let h₃ : 3 ≤ k = above (above (above zero-le (r .0 .0 .0 .0 .0 .0 .1)) (r .0 .0 .0 .0 .0 .1)) (r .0 .0 .0 .0 .1) in
     let h₇ : length bodyLengths ≤ k = above (above (above (above h₃ (r .0 .0 .0 .1)) (r .0 .0 .1)) (r .0 .1)) (r .1) in
@@ -64,4 +96,19 @@ returns-8 c =
 
 pub form-of-spec : {M : Type 1} → statement M
 form-of-spec =
-    tie.close (tie.spec returns returns-2 returns-3 returns-4 returns-5 returns-6 returns-7 returns-8)
+    tie.close
+    (tie.spec
+    sampled-requires
+    all-or-none-requires
+    all-or-none-requires-2
+    sampled-requires-2
+    all-or-none-requires-3
+    sampled-requires-3
+    returns
+    returns-2
+    returns-3
+    returns-4
+    returns-5
+    returns-6
+    returns-7
+    returns-8)

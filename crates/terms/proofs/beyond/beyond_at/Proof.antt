@@ -1,0 +1,40 @@
+-- `terms::beyond::beyond_at` meets its contract. Assumes nothing.
+use mathlib.Core.Path.{_∙_, ap₂}
+use Prim.Native.Nat.{ℕ}
+use borrow.Author.Needs.{needs}
+use lib.Dec.{ltb}
+use lib.IntN.{ℤ, natAbs}
+use mir.Syntax.{w32}
+use Rattle.integers.proofs.Machine.{read}
+use Rattle.model.specs.Lists.{at}
+use Rattle.terms.proofs.beyond.beyond_at.Statement.{statement}
+use Rattle.terms.proofs.beyond.beyond_at.Tie as tie
+
+pair-weight-requires : tie.Need-pair-weight-requires
+pair-weight-requires c κs = search needs
+
+mul-is-beyond : tie.Need-mul-is-beyond
+mul-is-beyond c = search needs
+
+shared-slice-copy-out-is-beyond : tie.Need-shared-slice-copy-out-is-beyond
+shared-slice-copy-out-is-beyond c = search needs
+
+is-beyond-requires : tie.Need-is-beyond-requires
+is-beyond-requires c κs = search needs
+
+returns : tie.Need-returns
+returns c =
+    let a = c .before .before .before .args in
+    let z : ℤ = at (a .flow .now) (a .i) in
+    c .is-beyond .ensures
+    ∙ ap₂ (λ (w : ℕ) (y : ℤ). ltb w (natAbs y)) (c .before .before .pair-weight .ensures) (read w32 {r = z} (c .before .is-beyond-arg .given))
+
+pub beyond-at-spec : {M : Type 1} → statement M
+beyond-at-spec =
+    tie.close
+    (tie.spec
+    pair-weight-requires
+    mul-is-beyond
+    shared-slice-copy-out-is-beyond
+    is-beyond-requires
+    returns)
