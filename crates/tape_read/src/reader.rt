@@ -1,13 +1,14 @@
 // The tape's bytes and the offset of the next record, kept together. Each function over the struct is
-// thin: the work is done by `take_record`, on the slice and the number.
+// thin: the work is done by `take_records`, on the slice and the number.
 
+use crate::stretch::take_records;
 use model::Lent;
 use records::record::Cursor;
 use records::tally::Tally;
 use steps::Step;
-use steps::take_record;
 ghost use mathlib.Core.Path.{_≡_};
-ghost use Rattle.steps.specs.Step.{CountsFit, stepOf};
+ghost use Rattle.steps.specs.Step.{CountsFit};
+ghost use Rattle.tape_read.specs.Scan.{StepsOn};
 
 pub struct Reader<'a> {
     pub tape: &'a [u8],
@@ -21,12 +22,12 @@ pub fn new<'a>(tape: &'a [u8], at: usize) -> Reader<'a>
     Reader { tape, at }
 }
 
-// The next record, read and taken into the tally.
+// The next record, or the next ones, read and taken into the tally.
 pub fn next<'a>(r: Reader<'a>, t: Tally, lent: Lent) -> Step
     requires { ⌜ CountsFit t ⌝ }
-    ensures { λ s. ⌜ s ≡ stepOf (now (r .entry .tape)) (r .entry .at) t lent ⌝ }
+    ensures { λ s. ⌜ StepsOn (now (r .entry .tape)) (r .entry .at) t lent s ⌝ }
 {
-    take_record(r.tape, r.at, t, lent)
+    take_records(r.tape, r.at, t, lent)
 }
 
 // The reader moved on to the record at a cursor.

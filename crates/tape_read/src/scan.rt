@@ -1,4 +1,4 @@
-// A tape, record by record, with nothing written. A scan that stopped where the bytes ended is taken
+// A tape, from record to record, with nothing written. A scan that stopped where the bytes ended is taken
 // up again from there when more have come.
 
 use crate::reader::forward;
@@ -16,7 +16,7 @@ pub enum Scanned {
     Whole(Tally, usize),
 }
 
-// One reader, moved on record by record, from the record at an offset.
+// One reader, moved on and on, from the record at an offset.
 pub fn scan_tape(tape: &[u8], at: usize, before: Tally, lent: Lent) -> Scanned
     requires { ⌜ Reached (now tape) lent before at ⌝ }
     ensures { λ r. ⌜ StopsAt (now (tape .entry)) lent r ⌝ }

@@ -8,6 +8,8 @@ mod judge;
 mod measure;
 #[cfg(feature = "run")]
 mod rounds;
+#[cfg(feature = "tape")]
+mod tape;
 
 use measure::{Lent, REPETITIONS};
 
@@ -20,6 +22,10 @@ fn main() {
         judge::price(&mut lent);
         #[cfg(feature = "judge")]
         judge::check(&mut lent);
+        #[cfg(feature = "tape")]
+        tape::write(&mut lent);
+        #[cfg(feature = "tape")]
+        tape::read(&mut lent);
         #[cfg(feature = "run")]
         rounds::steady(&mut lent);
         #[cfg(feature = "run")]

@@ -1,5 +1,7 @@
 //! The job that both sides work on, and how they are timed.
 
+#[cfg(feature = "tape")]
+use relief_inputs::tape_length;
 use relief_inputs::Random;
 use relief_reference::{Grid, Terms};
 
@@ -24,6 +26,20 @@ pub struct Lent {
     pub image: Vec<i32>,
     #[cfg(feature = "run")]
     pub work: Vec<i32>,
+    /// As long as the job's tape.
+    #[cfg(feature = "tape")]
+    pub tape: Vec<u8>,
+    /// What the tape is read into.
+    #[cfg(feature = "tape")]
+    pub read: Read,
+}
+
+/// Buffers as long as the job needs to be read from a tape.
+#[cfg(feature = "tape")]
+pub struct Read {
+    pub samples: Vec<u8>,
+    pub weights: Vec<i32>,
+    pub flow: Vec<i32>,
 }
 
 impl Lent {
@@ -61,9 +77,17 @@ impl Lent {
             samples: random.bytes(pixels),
             flow: random.flow(&terms.pair_weights(pairs, &weights)),
             image: random.image(pixels, lower, upper),
-            weights,
             #[cfg(feature = "run")]
             work: vec![0; 2 * pairs],
+            #[cfg(feature = "tape")]
+            tape: vec![0; tape_length(pixels, weights.len(), pairs)],
+            #[cfg(feature = "tape")]
+            read: Read {
+                samples: vec![0; pixels],
+                weights: vec![0; pairs],
+                flow: vec![0; pairs],
+            },
+            weights,
         }
     }
 }

@@ -53,15 +53,14 @@ use denote.Triple.Table.{entered, cited}
 use denote.Triple.Walked.{says, needs, Stays, stay-none, stay-none-slice, walkOf, goes-none, goes-none-slice, Walks, ends-at, walked, walk-meets}
 use denote.Exit.{yes}
 use denote.Triple.Clauses.{ensured, lasts}
-use Rattle.tape_read.specs.Scan.{Reached, StopsAt}
-use Rattle.steps.specs.Step.{CountsFit, stepOf}
+use Rattle.tape_read.specs.Scan.{Reached, StepsOn, StopsAt}
+use Rattle.steps.specs.Step.{CountsFit}
 use Rattle.tape_read.specs.declared.reader.Reader.{Reader}
 use Rattle.records.specs.declared.record.Cursor.{Cursor}
 use Rattle.tape_read.specs.declared.scan.Scanned.{Scanned}
 use Rattle.model.specs.declared.Lent.{Lent}
 use Rattle.steps.specs.declared.Step.{Step}
 use Rattle.records.specs.declared.tally.Tally.{Tally}
-use Rattle.tape_read.proofs.Reached.{onward}
 use Rattle.tape_read.proofs.reader.Reader as T
 use Rattle.tape_read.proofs.reader.Reader.Laws as T′
 use Rattle.records.proofs.record.Cursor as K
@@ -255,15 +254,15 @@ module _ {M : Type 1} (𝓤 : URA M) (H : Heap 𝓤) (A : Atoms 𝓤) (W : Given
         nothing ! $ owned ! Z.the-row (Is Z.the-row) (LL.makes Z.the-type Z′.the-plain 𝓤 H A) z _ is-z $ fjoin ! $ owned ! Y.the-row (Is Y.the-row) (LL.makes Y.the-type Y′.the-plain 𝓤 H A) t _ (x .is) $ fjoin ! $
         move ! (1 ∷ 0 ∷ []) $ fjoin ! $ move ! (1 ∷ 0 ∷ []) $ join ! $ done !
 
-    next-said : (b : Step) → ent 𝓤 (ensured 𝓤 H A next.ended (next.clauses 𝓤 H A mem run) (κ, tt) (r, (t, (z, tt))) tt b) (fact 𝓤 (b ≡ stepOf (now (r .tape)) (r .at) t z))
-    next-said b = exE 𝓤 _ (λ ws. snd∗ 𝓤 (sem 𝓤 H A (lasts next.ended (κ, tt) (r, (t, (z, tt))) ws)) (fact 𝓤 (b ≡ stepOf (now (r .tape)) (r .at) t z)))
+    next-said : (b : Step) → ent 𝓤 (ensured 𝓤 H A next.ended (next.clauses 𝓤 H A mem run) (κ, tt) (r, (t, (z, tt))) tt b) (fact 𝓤 (StepsOn (now (r .tape)) (r .at) t z b))
+    next-said b = exE 𝓤 _ (λ ws. snd∗ 𝓤 (sem 𝓤 H A (lasts next.ended (κ, tt) (r, (t, (z, tt))) ws)) (fact 𝓤 (StepsOn (now (r .tape)) (r .at) t z b)))
 
     -- the step of the tape passed
     abbrev Stepped : Step → Type 0
-    Stepped b = b ≡ stepOf (now s) (r .at) t z
+    Stepped = StepsOn (now s) (r .at) t z
 
-    stepped : (b : Step) → b ≡ stepOf (now (r .tape)) (r .at) t z → Stepped b
-    stepped b e = e ∙ ap (λ (y : RefT (List ℕ)). stepOf (now y) (r .at) t z) (x .same)
+    stepped : (b : Step) → StepsOn (now (r .tape)) (r .at) t z b → Stepped b
+    stepped b = subst (λ (y : RefT (List ℕ)). StepsOn (now y) (r .at) t z b) (x .same)
 
     -- the call of `forward`, to the cursor c
     abbrev to-forward : Cursor → Forward 𝓤 H A mem run .Ghost
@@ -283,10 +282,10 @@ module _ {M : Type 1} (𝓤 : URA M) (H : Heap 𝓤) (A : Atoms 𝓤) (W : Given
     -- where the loop stands after a record that is not the last
     module _ (u : Tally) (is : Is Y.the-row u (Y′.lowered u ∷ [])) (c : Cursor) (e : Stepped (Step.More u c)) (d : Reader) (to : MovedTo c d) where
       abbrev ahead : At s z
-      ahead = record { reader = d; tally = u; same = to .0 ∙ x .same; is = is; reached = subst (Reached (now s) z u) (sym (to .1)) (onward (now s) z (x .reached) e .0) }
+      ahead = record { reader = d; tally = u; same = to .0 ∙ x .same; is = is; reached = subst (Reached (now s) z u) (sym (to .1)) (e (x .reached) .0) }
 
       nearer : Nearer s z ahead x
-      nearer = omega (arith, to .1, onward (now s) z (x .reached) e .0 .inside, onward (now s) z (x .reached) e .1)
+      nearer = omega (arith, to .1, e (x .reached) .0 .inside, e (x .reached) .1)
 
   exits : (g : Scanned) → Is G.the-row g (G′.lowered g ∷ []) → StopsAt (now s) z g → ent 𝓤 (⋆ 𝓤 H A (Token ∷ ‵ Own ∷ [])) (Post (G′.lowered g))
   exits g is stops =
