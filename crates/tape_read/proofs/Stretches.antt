@@ -1,8 +1,8 @@
 -- Records of one kind that follow one another: what the loop that counts them has found, and that reading goes on over all of
 -- them, where each only needs to be allowed. Assumes nothing.
-use mathlib.Core.Path.{_≡_, refl, sym, ap, _∙_, subst₂}
+use mathlib.Core.Path.{_≡_, refl, sym, ap, ap₂, _∙_, subst₂}
 use mathlib.Core.Bool.{Bool, true, false, _&&_}
-use mathlib.Core.List.{List}
+use mathlib.Core.List.{List, []}
 use Prim.Native.Nat.{ℕ, zero, suc, _+_, _*_, _≤_, _<_, zero-le}
 use native.Mathlib.Nat.{mul-zero, mul-suc}
 use native.Mathlib.Omega.{arith}
@@ -12,9 +12,9 @@ use lib.Dec.{eqb, ltb}
 use lib.ListN.{length, getD}
 use Rattle.model.specs.declared.Verdict.{Verdict}
 use Rattle.model.specs.declared.Lent.{Lent}
-use Rattle.model.specs.Verdict.{decided}
+use Rattle.model.specs.Verdict.{firstRefusal, decided}
 use Rattle.model.specs.Calls.{allOrNone}
-use Rattle.model.specs.Tape.{known, bodyLength, decoded, allowedAfter}
+use Rattle.model.specs.Tape.{known, bodyLength, decoded, allowedAfter, entryRows}
 use Rattle.model.proofs.Refusals.{accepted}
 use Rattle.records.specs.declared.tally.Tally.{Tally}
 use Rattle.records.specs.declared.record.Cursor.{Cursor}
@@ -22,7 +22,7 @@ use Rattle.records.specs.declared.record.Got.{Got}
 use Rattle.records.specs.Tally.{allSampled, may}
 use Rattle.records.specs.Record.{recordAt, gotAt}
 use Rattle.steps.specs.declared.Step.{Step}
-use Rattle.steps.specs.Step.{judgedEntry, taken, stepOf}
+use Rattle.steps.specs.Step.{continued, judgedEntry, taken, stepOf}
 use Rattle.steps.proofs.Turns.{nextAt, Passed}
 use Rattle.roundtrip.proofs.Walk.{record-passes}
 use Rattle.tape_read.specs.Scan.{Reached, Following, Leads}
@@ -63,10 +63,16 @@ none-or-some (suc n) f none some = some (f (omega arith))
 
 -- ---- reading over them
 
--- Records of one kind, not the end, in `size` bytes each; `with k` is what has been read, with k of them
+-- Records of one kind, not the end, in `size` bytes each, of which no row judges the numbers; `with k` is what has been read, with
+-- k of them
 module _ (tape : List ℕ) (kind size : ℕ) (inner : ¬ (kind ≡ 0)) (is-known : known kind ≡ true) (sized : size ≡ 1 + bodyLength kind)
+    (free : (b : ℕ → ℕ) (p : ℕ) (lent : Lent) → entryRows p lent (decoded kind b) ≡ [])
     (with : ℕ → Tally)
-    (takes : (k : ℕ) (b : ℕ → ℕ) (next : Cursor) (p : ℕ) (lent : Lent) → judgedEntry (with k) (decoded kind b) next p lent ≡ Step.More (with (k + 1)) next) where
+    (adds : (k : ℕ) (b : ℕ → ℕ) (next : Cursor) → continued (with k) (decoded kind b) next ≡ Step.More (with (k + 1)) next) where
+  takes : (k : ℕ) (b : ℕ → ℕ) (next : Cursor) (p : ℕ) (lent : Lent) → judgedEntry (with k) (decoded kind b) next p lent ≡ Step.More (with (k + 1)) next
+  takes k b next p lent =
+      ap₂ (λ (v : Verdict) (s : Step). decided v s Step.Refused) (ap firstRefusal (free b p lent) ∙ accepted) (adds k b next)
+
   module _ (lent : Lent) (k p : ℕ) (here : getD tape p 0 ≡ kind) (fits : p + size ≤ length tape) (ok : may (with k) kind ≡ true) where
     abbrev next : ℕ → ℕ
     next kind = p + 1 + bodyLength kind
@@ -106,10 +112,16 @@ module _ (tape : List ℕ) (kind size : ℕ) (inner : ¬ (kind ≡ 0)) (is-known
         omega (arith, before .1, after .1, mul-suc size n),
       )
 
--- what is counted is allowed while there are fewer than all of them
-still : (x : Bool) (s all i : ℕ) → (x && ltb s all) ≡ true → s + i < all → (x && ltb (s + i) all) ≡ true
-still true s all i h l = lt-ltb (s + i) all l
-still false s all i h l = h
+  -- where the kind is allowed while there are fewer than all of them
+  pub over : (x : Bool) (all : ℕ) → ((k : ℕ) → may (with k) kind ≡ (x && ltb k all)) → (o s n : ℕ) →
+      Following tape (with s) kind size s all o n → Leads tape (with s) o (with (s + n)) (o + size * n)
+  over x all mays o s n f =
+      passes o s n (λ h. f .0 h .2) (f .1)
+      (λ i h. let g = f .0 (omega arith) in mays (s + i) ∙ still x i (sym (mays s) ∙ g .0) (omega (arith, g .1)))
+    where
+      still : (x : Bool) (i : ℕ) → (x && ltb s all) ≡ true → s + i < all → (x && ltb (s + i) all) ≡ true
+      still true i h l = lt-ltb (s + i) all l
+      still false i h l = h
 
 module _ (t : Tally) where
   -- with so many samples, and with so many flow numbers
@@ -139,26 +151,15 @@ module _ (t : Tally) where
         flows = k;
       }
 
-  -- what comes before the samples, and before the flow numbers, is there
-  abbrev readied : Bool
-  readied = eqb (t .header) 3
-
-  abbrev weighed : Bool
-  weighed = allSampled t && allOrNone (t .weights) (t .pairs)
-
   module _ (tape : List ℕ) (o n : ℕ) where
     pub over-samples : Following tape t 4 2 (t .samples) (t .pixels) o n → Leads tape t o (samples (t .samples + n)) (o + 2 * n)
     unfolding allowedAfter
-    over-samples f =
-        passes tape 4 2 (λ z. absurd (omega arith)) refl refl samples
-        (λ k b next p lent. ap (λ (v : Verdict). decided v (Step.More (samples (k + 1)) next) Step.Refused) accepted) o (t .samples) n
-        (λ h. f .0 h .2) (f .1)
-        (λ i h. still readied (t .samples) (t .pixels) i (f .0 (omega arith) .0) (omega (arith, f .0 (omega arith) .1)))
+    over-samples =
+        over tape 4 2 (λ z. absurd (omega arith)) refl refl (λ b p lent. refl) samples (λ k b next. refl) (eqb (t .header) 3) (t .pixels)
+        (λ k. refl) o (t .samples) n
 
     pub over-flow : Following tape t 5 5 (t .flows) (t .pairs) o n → Leads tape t o (flows (t .flows + n)) (o + 5 * n)
     unfolding allowedAfter
-    over-flow f =
-        passes tape 5 5 (λ z. absurd (omega arith)) refl refl flows
-        (λ k b next p lent. ap (λ (v : Verdict). decided v (Step.More (flows (k + 1)) next) Step.Refused) accepted) o (t .flows) n
-        (λ h. f .0 h .2) (f .1)
-        (λ i h. still weighed (t .flows) (t .pairs) i (f .0 (omega arith) .0) (omega (arith, f .0 (omega arith) .1)))
+    over-flow =
+        over tape 5 5 (λ z. absurd (omega arith)) refl refl (λ b p lent. refl) flows (λ k b next. refl)
+        (allSampled t && allOrNone (t .weights) (t .pairs)) (t .pairs) (λ k. refl) o (t .flows) n
