@@ -14,7 +14,8 @@ ghost use Rattle.model.specs.Calls.{exactRow, exactOrNoneRow, pixelsOf, pairsOf
 ghost use Rattle.judges.specs.Lengths.{pixelsDue, pairsDue, lengthRows};
 ghost use Rattle.judges.specs.Outside.{outsideRow};
 
-// The first of two verdicts that refuses.
+// The first of two verdicts that refuses. Its numbers are handed on: a copy of the whole goes through
+// memory, which is seen in the smallest jobs.
 fn first(above: Verdict, below: Verdict) -> Verdict
     ensures { λ r. ⌜ r ≡ decided above below Verdict.Refuse ⌝ }
 {

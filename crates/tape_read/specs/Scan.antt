@@ -36,8 +36,8 @@ pub record Reached (tape : List ℕ) (lent : Lent) (t : Tally) (o : ℕ) : Type 
       (other : List ℕ) → o ≤ length other → take o other ≡ take o tape → (followed : Bool) (k : ℕ) → length other < o + k →
       recordsOf other (lentFor lent followed) ≡ parseFrom k other (lentFor lent followed) o progress
 
--- From offset o on follow n whole records of a kind, of `size` bytes each. Where it is said that there are any, the kind may
--- come, and with those that there have been they are no more than all
+-- From offset o on there are n records of a kind, of `size` bytes each, one behind the other. Where n is above 0, they are whole,
+-- the kind may come, and with those that there have been they are at most `all`
 abbrev pub Following : List ℕ → Tally → (kind size had all o n : ℕ) → Type 0
 Following tape t kind size had all o n =
     (0 < n → (may t kind ≡ true) × (had + n ≤ all) × (o + size * n ≤ length tape))

@@ -1,5 +1,5 @@
-// A tape, from record to record, with nothing written. A scan that stopped where the bytes ended is taken
-// up again from there when more have come.
+// A tape, from record to record, with nothing written. A scan that stopped where the bytes ended is
+// taken up again from there when more have come.
 
 use crate::reader::forward;
 use crate::reader::new;

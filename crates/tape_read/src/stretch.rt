@@ -71,32 +71,32 @@ fn following(
 }
 
 // What has been read, and where the next record begins.
-struct Place {
+struct Position {
     tally: Tally,
     at: usize,
 }
 
 // All samples that follow, as far as the tape has them.
-fn past_samples(tape: &[u8], at: usize, t: Tally) -> Place
+fn past_samples(tape: &[u8], at: usize, t: Tally) -> Position
     ensures { λ r. ⌜ Leads (now (tape .entry)) t at (r .tally) (r .at) ⌝ }
 {
     let count = following(tape, at, t, 4, 2, t.samples, t.pixels);
     let mut now = t;
     now.samples = t.samples + count;
-    Place {
+    Position {
         tally: now,
         at: at + 2 * count,
     }
 }
 
 // All flow numbers that follow, as far as the tape has them.
-fn past_flow(tape: &[u8], at: usize, t: Tally) -> Place
+fn past_flow(tape: &[u8], at: usize, t: Tally) -> Position
     ensures { λ r. ⌜ Leads (now (tape .entry)) t at (r .tally) (r .at) ⌝ }
 {
     let count = following(tape, at, t, 5, 5, t.flows, t.pairs);
     let mut now = t;
     now.flows = t.flows + count;
-    Place {
+    Position {
         tally: now,
         at: at + 5 * count,
     }
