@@ -48,11 +48,14 @@ fn exact_or_none(lent: usize, due: usize, number: u32) -> Verdict
 }
 
 // What a search found: an index before the end is refused there.
-fn found(place: usize, end: usize, number: u32) -> Verdict
-    ensures { λ r. ⌜ r ≡ firstRefusal (row (ltb place end) number place ∷ []) ⌝ }
+fn found(index: usize, end: usize, number: u32) -> Verdict
+    ensures { λ r. ⌜ r ≡ firstRefusal (row (ltb index end) number index ∷ []) ⌝ }
 {
-    if place < end {
-        Verdict::Refuse { number, place }
+    if index < end {
+        Verdict::Refuse {
+            number,
+            place: index,
+        }
     } else {
         Verdict::Accept
     }

@@ -27,7 +27,7 @@ fn sampled(t: Tally) -> bool
     (t.header == 3) & (t.samples == t.pixels)
 }
 
-// Whether of all pairs none has been counted, or all have.
+// Whether none or all of the pairs have been counted.
 fn all_or_none(count: usize, pairs: usize) -> bool
     ensures { λ r. ⌜ r ≡ allOrNone count pairs ⌝ }
 {

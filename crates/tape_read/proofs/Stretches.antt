@@ -56,7 +56,7 @@ module _ (tape : List ℕ) (o kind size most : ℕ) where
       ((n ≤ most) × (o + size * n ≤ length tape)) × ((i : ℕ) → i < n → getD tape (o + size * i) 0 ≡ kind)
   count-end c = ((c .few, omega (arith, c .here, c .inside)), c .kinds)
 
--- there are none, or it is known what holds where there are some
+-- what holds where there are none and where there are some
 pub none-or-some : {P Q : Type 0} (n : ℕ) → (0 < n → P) → (n ≡ 0 → Q) → (P → Q) → Q
 none-or-some zero f none some = none refl
 none-or-some (suc n) f none some = some (f (omega arith))

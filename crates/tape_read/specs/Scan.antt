@@ -7,7 +7,6 @@ use lib.ListN.{length, getD, take}
 use Rattle.model.specs.declared.Lent.{Lent}
 use Rattle.model.specs.Tape.{Progress, nothing, Parse, whole, parseFrom}
 use Rattle.records.specs.declared.tally.Tally.{Tally}
-use Rattle.records.specs.declared.record.Cursor.{Cursor}
 use Rattle.steps.specs.declared.Step.{Step}
 use Rattle.tape_read.specs.declared.scan.Scanned.{Scanned}
 use Rattle.records.specs.Tally.{tallyOf, may}
@@ -37,7 +36,7 @@ pub record Reached (tape : List ℕ) (lent : Lent) (t : Tally) (o : ℕ) : Type 
       recordsOf other (lentFor lent followed) ≡ parseFrom k other (lentFor lent followed) o progress
 
 -- From offset o on there are n records of a kind, of `size` bytes each, one behind the other. Where n is above 0, they are whole,
--- the kind may come, and with those that there have been they are at most `all`
+-- the kind may come, and with the `had` before them they are at most `all`
 abbrev pub Following : List ℕ → Tally → (kind size had all o n : ℕ) → Type 0
 Following tape t kind size had all o n =
     (0 < n → (may t kind ≡ true) × (had + n ≤ all) × (o + size * n ≤ length tape))
@@ -45,7 +44,7 @@ Following tape t kind size had all o n =
 
 -- From the one place reading goes on to the other, whatever is lent
 abbrev pub Leads : List ℕ → Tally → ℕ → Tally → ℕ → Type 0
-Leads tape t o u n = (lent : Lent) → Reached tape lent t o → Reached tape lent u n × (o ≤ n)
+Leads tape t o u p = (lent : Lent) → Reached tape lent t o → Reached tape lent u p × (o ≤ p)
 
 -- What taking records from a place on gives: what the first of them does, where it is refused or ends the job; else a place
 -- further on that reading goes on to

@@ -1,5 +1,5 @@
-// Stretches of samples and of flow numbers: of these only kind, order and length are judged, so that
-// all that follow one another are taken at once.
+// Stretches of samples and of flow numbers. Of these a scan judges only kind, order and length (8 is
+// judged when the whole tape has passed), so that all that follow one another are taken at once.
 
 use model::Lent;
 use records::record::Cursor;
@@ -15,8 +15,8 @@ ghost use Rattle.records.specs.Tally.{may};
 ghost use Rattle.steps.specs.Step.{CountsFit};
 ghost use Rattle.tape_read.specs.Scan.{Following, Leads, StepsOn};
 
-// How many whole records of a kind, each of so many bytes, follow one another from an offset on; so
-// many at most.
+// How many whole records of a kind, of `size` bytes each, follow one another from an offset on; at
+// most `most`.
 fn stretch(tape: &[u8], at: usize, kind: u8, size: usize, most: usize) -> usize
     requires { ⌜ (at ≤ length (now tape)) × (0 < size) ⌝ }
     ensures { λ r. ⌜ (r ≤ most) × (at + size * r ≤ length (now (tape .entry))) ⌝ }
@@ -48,7 +48,7 @@ fn may_come(kind: u8, t: Tally) -> bool
     }
 }
 
-// How many records of a kind may be taken at once, where so many of all have been; none where the
+// How many records of a kind may be taken at once, where `had` of `all` have been read; 0 where the
 // kind may not come.
 fn following(
     tape: &[u8],
@@ -62,8 +62,8 @@ fn following(
     requires { ⌜ 0 < size ⌝ }
     ensures { λ r. ⌜ Following (now (tape .entry)) t kind size had all at r ⌝ }
 {
-    let some = may_come(kind, t) & (had < all) & (at < tape.len());
-    if some {
+    let any = may_come(kind, t) & (had < all) & (at < tape.len());
+    if any {
         stretch(tape, at, kind, size, all - had)
     } else {
         0
@@ -81,10 +81,10 @@ fn past_samples(tape: &[u8], at: usize, t: Tally) -> Position
     ensures { λ r. ⌜ Leads (now (tape .entry)) t at (r .tally) (r .at) ⌝ }
 {
     let count = following(tape, at, t, 4, 2, t.samples, t.pixels);
-    let mut now = t;
-    now.samples = t.samples + count;
+    let mut after = t;
+    after.samples = t.samples + count;
     Position {
-        tally: now,
+        tally: after,
         at: at + 2 * count,
     }
 }
@@ -94,10 +94,10 @@ fn past_flow(tape: &[u8], at: usize, t: Tally) -> Position
     ensures { λ r. ⌜ Leads (now (tape .entry)) t at (r .tally) (r .at) ⌝ }
 {
     let count = following(tape, at, t, 5, 5, t.flows, t.pairs);
-    let mut now = t;
-    now.flows = t.flows + count;
+    let mut after = t;
+    after.flows = t.flows + count;
     Position {
-        tally: now,
+        tally: after,
         at: at + 5 * count,
     }
 }

@@ -27,7 +27,7 @@ search-start n test = (zero-le, λ k h. absurd (omega arith))
 pub search-on : (n : ℕ) (test : ℕ → Bool) (i : ℕ) → Searched n test i → i < n → test i ≡ false → Searched n test (i + 1)
 search-on n test i s l t = (omega arith, below-more _ _ (s .1) t)
 
--- whether an index before i passes the test
+-- `some`: an index passes the test; else none before i does
 abbrev pub Met : ℕ → (ℕ → Bool) → ℕ → Bool → Type 0
 Met n test i some = (i ≤ n) × (some ≡ false → Searched n test i) × (some ≡ true → firstWhere n test < n)
 
@@ -48,6 +48,6 @@ met-end n test i false m l =
     let none : i ≡ firstWhere n test = search-none n test i (m .1 refl) l in
     sym (le-ltb (firstWhere n test) n (omega arith))
 
--- where no index passes, the first one is none
+-- where no index passes, `firstWhere` gives n
 pub none-met : (n : ℕ) (test : ℕ → Bool) → ltb (firstWhere n test) n ≡ false → n ≡ firstWhere n test
 none-met n test h = omega (arith, ltb-false (firstWhere n test) n h, firstWhere-first n test .within)

@@ -27,7 +27,8 @@ fn beyond_at(t: Terms, weights: &[i32], flow: &[i32], i: usize) -> bool
     is_beyond(flow[i], weight)
 }
 
-// Whether some number is. It looks at all of them, so that the loop vectorizes.
+// Whether some number is beyond ± its pair's weight. It looks at all of them, so that the loop
+// vectorizes.
 fn some_beyond(t: Terms, weights: &[i32], flow: &[i32]) -> bool
     requires { ⌜ (0 < length (now weights) → length (now flow) ≤ length (now weights)) ⌝ }
     ensures { λ r. ⌜ r ≡ ltb (firstBeyond (weightOf t (now (weights .entry))) (now (flow .entry))) (length (now (flow .entry))) ⌝ }
@@ -42,7 +43,7 @@ fn some_beyond(t: Terms, weights: &[i32], flow: &[i32]) -> bool
     some
 }
 
-// The first index whose number is; the length where there is none.
+// The first index whose number is beyond ± its pair's weight; the length where there is none.
 fn search_beyond(t: Terms, weights: &[i32], flow: &[i32]) -> usize
     requires { ⌜ (0 < length (now weights) → length (now flow) ≤ length (now weights)) ⌝ }
     ensures { λ r. ⌜ r ≡ firstBeyond (weightOf t (now (weights .entry))) (now (flow .entry)) ⌝ }

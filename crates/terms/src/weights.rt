@@ -42,7 +42,7 @@ fn over_at(weights: &[i32], j: usize) -> bool
     !pair_weight_allowed(weights[j])
 }
 
-// Whether some number is none. It looks at all of them, so that the loop vectorizes.
+// Whether some number is no allowed weight. It looks at all of them, so that the loop vectorizes.
 fn some_over(weights: &[i32]) -> bool
     ensures { λ r. ⌜ r ≡ ltb (firstOver (now (weights .entry))) (length (now (weights .entry))) ⌝ }
 {
@@ -56,7 +56,7 @@ fn some_over(weights: &[i32]) -> bool
     some
 }
 
-// The first index whose number is none; the length where all are.
+// The first index whose number is no allowed weight; the length where there is none.
 fn search_over(weights: &[i32]) -> usize
     ensures { λ r. ⌜ r ≡ firstOver (now (weights .entry)) ⌝ }
 {

@@ -14,14 +14,14 @@ use Rattle.records.specs.Record.{formOf}
 use Rattle.records.proofs.record.form_of.Statement.{statement}
 use Rattle.records.proofs.record.form_of.Tie as tie
 
--- the tally, where the kind is looked at
+-- the tally that is given
 abbrev tally : tie.Start → Tally
 tally c = c .args .t
 
 at-kind : (t : Tally) {kind k : ℕ} → kind ≡ k → formOf k (may t k) ≡ formOf kind (may t kind)
 at-kind t e = ap (λ (n : ℕ). formOf n (may t n)) (sym e)
 
--- the form of a kind, by two tests and by a third
+-- a form by three tests, each equal to another
 by-tests : {body : ℕ} {a a' b b' c c' : Bool} → a ≡ a' → b ≡ b' → c ≡ c' → Form.Body body (a && b && c) ≡ Form.Body body (a' && b' && c')
 by-tests {body} e f g = ap₂ (λ (x y : Bool). Form.Body body (x && y)) (ap₂ _&&_ e f) g
 

@@ -1,11 +1,11 @@
--- `tape_read::scan::scan_tape` meets its contract: a walk of its MIR, by hand. One reader is held in a local for the whole loop and moved on after each record. All that the proof knows of the functions called is that each meets its contract.
+-- `tape_read::scan::scan_tape` meets its contract: a walk of its MIR, by hand. One reader is held in a local for the whole loop and moved on after each step. All that the proof knows of the functions called is that each meets its contract.
 --     At           where the loop stands: the reader, the tally, and what is known of them: the reader has the tape passed, and the tally has been reached at the reader's offset
---     Entered, Held, Read, Ending      what is owned once the arguments are stored, where the loop stands, where a record has been read, and where the result stands in its local
+--     Entered, Held, Read, Ending      what is owned once the arguments are stored, where the loop stands, where a step has been taken, and where the result stands in its local
 --     hears        what a callee gives: its result is picked, and what it ensures is learned
 --     begins       the call before the loop, and the tally passed copied into its local
 --     loops-on     the loop
 --     turns        a turn: the function returns, or the loop stands again, nearer to the tape's end
---     matched      the `match` on the step, by its cases: a refusal and the job's end return, and any other record moves the reader on
+--     matched      the `match` on the step, by its cases: a refusal and the job's end return, and any other step moves the reader on
 --     leaves       the return
 -- In a local of a body MIR erases the lifetime of the struct's type, so the value is shown to have the type at `erased`. What holds no reference owns only facts: it is made anew from them.
 -- Assumes nothing.
@@ -279,7 +279,7 @@ module _ {M : Type 1} (𝓤 : URA M) (H : Heap 𝓤) (A : Atoms 𝓤) (W : Given
     forward-said : (c : Cursor) (d : Reader) → ent 𝓤 (ensured 𝓤 H A forward.ended (forward.clauses 𝓤 H A mem run) (κ, tt) (r, (c, tt)) tt d) (fact 𝓤 (MovedTo c d))
     forward-said c d = exE 𝓤 _ (λ ws. snd∗ 𝓤 (sem 𝓤 H A (lasts forward.ended (κ, tt) (r, (c, tt)) ws)) (fact 𝓤 (MovedTo c d)))
 
-    -- where the loop stands after a record that is not the last
+    -- where the loop stands after a step that is not the last
     module _ (u : Tally) (is : Is Y.the-row u (Y′.lowered u ∷ [])) (c : Cursor) (e : Stepped (Step.More u c)) (d : Reader) (to : MovedTo c d) where
       abbrev ahead : At s z
       ahead = record { reader = d; tally = u; same = to .0 ∙ x .same; is = is; reached = subst (Reached (now s) z u) (sym (to .1)) (e (x .reached) .0) }

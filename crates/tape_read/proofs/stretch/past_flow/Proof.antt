@@ -8,8 +8,8 @@ use Rattle.tape_read.proofs.stretch.past_flow.Tie as tie
 following-requires : tie.Need-following-requires
 following-requires c κs = search needs
 
-add-now : tie.Need-add-now
-add-now c = none-or-some _ (c .before .following .ensures .0) (λ z. omega (arith, z)) (λ s. omega (arith, s .1))
+add-after : tie.Need-add-after
+add-after c = none-or-some _ (c .before .following .ensures .0) (λ z. omega (arith, z)) (λ s. omega (arith, s .1))
 
 mul-t6 : tie.Need-mul-t6
 mul-t6 c = none-or-some _ (c .before .following .ensures .0) (λ z. omega (arith, z)) (λ s. omega (arith, s .2))
@@ -23,4 +23,4 @@ returns c =
     over-flow (a .t) (a .tape .now) (a .at) (c .before .following .result) (c .before .following .ensures)
 
 pub past-flow-spec : {M : Type 1} → statement M
-past-flow-spec = tie.close (tie.spec following-requires add-now mul-t6 add-t7 returns)
+past-flow-spec = tie.close (tie.spec following-requires add-after mul-t6 add-t7 returns)
