@@ -7,7 +7,7 @@ use std::time::{Duration, Instant};
 pub enum Side {
     /// What was proved.
     Proved,
-    /// The second implementation's loop nests.
+    /// The second implementation.
     Plain,
 }
 

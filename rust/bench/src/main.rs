@@ -1,6 +1,6 @@
-//! Times the proved library beside the second implementation's loop nests: the same input in
-//! the same buffers, by turns in one process, both compiled for release. Each call is lent no
-//! weights first, then one for each pair.
+//! Times the proved library beside the second implementation's loop nests (for write and read,
+//! its own calls): the same input in the same buffers, by turns in one process, both compiled for
+//! release. Each call is lent no weights first, then one for each pair.
 
 mod clock;
 #[cfg(feature = "judge")]

@@ -1,6 +1,5 @@
 //! Write and read of the job's tape, which has its flow: one call each. The second implementation
-//! collects the numbers of a tape in vectors before it fills the buffers; it has no loop nest for
-//! this.
+//! has no loop nest for this: it collects the bytes or the numbers in vectors first.
 
 use std::hint::black_box;
 
