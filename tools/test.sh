@@ -21,7 +21,8 @@ echo "== the second implementation (Rust, offline)"
 (cd rust && cargo test --offline --quiet)
 
 echo "== every proof, must-fail edit and program"
-rt ci | tee "$proofs"
+# three at a time: rt waits for a whole batch of crates or edits before it begins another
+RT_JOBS=${RT_JOBS:-3} rt ci | tee "$proofs"
 
 echo "== the static library beside the second implementation"
 # compiled once, from what was proved above; every step below takes it as it is

@@ -7,7 +7,7 @@ use tape_read::read::ReadResult;
 use tape_read::read::take_numbers;
 ghost use lib.ListN.{length};
 ghost use Rattle.model.specs.Tape.{lentBy, parse};
-ghost use Rattle.tape_read.specs.Scan.{WholeRecords};
+ghost use Rattle.tape_scan.specs.Scan.{WholeRecords};
 ghost use Rattle.job.specs.Tables.{Holds};
 ghost use Rattle.job.specs.Answered.{AnswerTo};
 

@@ -12,7 +12,7 @@ use Rattle.model.specs.declared.Verdict.{Verdict}
 use Rattle.model.specs.Tape.{nothing}
 use Rattle.model.specs.Season.{totalsOf}
 use Rattle.records.specs.Tally.{tallyOf}
-use Rattle.tape_read.proofs.Reached as scan
+use Rattle.tape_scan.proofs.Reached as scan
 use Rattle.totals.proofs.Season.{bounded-none}
 use Rattle.stream.specs.Report.{reportFrom}
 use Rattle.stream.specs.Taken.{lentIn}

@@ -11,7 +11,7 @@ use Rattle.model.specs.declared.Totals.{Totals}
 use Rattle.model.specs.Tape.{nothing}
 use Rattle.records.specs.declared.tally.Tally.{Tally}
 use Rattle.records.specs.Tally.{tallyOf}
-use Rattle.tape_read.proofs.Reached as scan
+use Rattle.tape_scan.proofs.Reached as scan
 use Rattle.stream.specs.Report.{reportFrom}
 use Rattle.stream.specs.AtHand.{GoesOn, Wants}
 use Rattle.window.specs.declared.Window.{Window}

@@ -12,7 +12,7 @@ use Rattle.model.specs.declared.Verdict.{Verdict}
 use Rattle.model.specs.Tape.{turned, parse}
 use Rattle.model.specs.Season.{bytesOf}
 use Rattle.records.specs.declared.tally.Tally.{Tally}
-use Rattle.tape_read.specs.Scan.{Reached}
+use Rattle.tape_scan.specs.Scan.{Reached}
 use Rattle.roundtrip.proofs.Offsets.{tape-length}
 use Rattle.stream.specs.Report.{Report, reportFrom}
 use Rattle.stream.specs.Taken.{Short, Refused, Counted}

@@ -19,8 +19,8 @@ use Rattle.model.specs.Season.{bytesOf}
 use Rattle.records.specs.declared.tally.Tally.{Tally}
 use Rattle.steps.specs.declared.Step.{Step}
 use Rattle.steps.specs.Step.{stepOf}
-use Rattle.tape_read.specs.Scan.{recordsOf, WholeRecords, Reached}
-use Rattle.tape_read.proofs.Reached as scan
+use Rattle.tape_scan.specs.Scan.{recordsOf, WholeRecords, Reached}
+use Rattle.tape_scan.proofs.Reached as scan
 use Rattle.roundtrip.proofs.Accepted.{accepted-job}
 use Rattle.roundtrip.proofs.Judged.{passed-parse}
 use Rattle.job.proofs.Slacks.{front-bytes}

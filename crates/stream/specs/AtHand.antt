@@ -8,7 +8,7 @@ use Rattle.model.specs.declared.Lent.{Lent}
 use Rattle.model.specs.declared.Totals.{Totals}
 use Rattle.model.specs.declared.Verdict.{Verdict}
 use Rattle.records.specs.declared.tally.Tally.{Tally}
-use Rattle.tape_read.specs.Scan.{Reached}
+use Rattle.tape_scan.specs.Scan.{Reached}
 use Rattle.totals.specs.Counted.{Bounded}
 use Rattle.stream.specs.declared.next.Next.{Next}
 use Rattle.stream.specs.Report.{Report, reportFrom}

@@ -9,7 +9,7 @@ use Rattle.model.specs.declared.Totals.{Totals}
 use Rattle.model.specs.Tape.{Progress, Parse, turned, whole, parse, tooShort}
 use Rattle.model.specs.Season.{bytesOf, treated}
 use Rattle.records.specs.declared.tally.Tally.{Tally}
-use Rattle.tape_read.specs.Scan.{Reached}
+use Rattle.tape_scan.specs.Scan.{Reached}
 use Rattle.job.specs.Tables.{Holds}
 use Rattle.totals.specs.Counted.{Bounded, withJob}
 use Rattle.stream.specs.declared.take.Taken.{Taken}

@@ -6,7 +6,7 @@ use model::Totals;
 use records::tally::Tally;
 ghost use Prim.Native.Nat.{_≤_};
 ghost use lib.ListN.{length};
-ghost use Rattle.tape_read.specs.Scan.{Reached};
+ghost use Rattle.tape_scan.specs.Scan.{Reached};
 ghost use Rattle.stream.specs.Taken.{Ready, lentIn};
 ghost use Rattle.stream.specs.AtHand.{NextOf};
 

@@ -6,12 +6,12 @@ use model::Lent;
 use model::Totals;
 use records::record::too_short;
 use records::tally::Tally;
-use tape_read::scan::Scanned;
-use tape_read::scan::scan_tape;
+use tape_scan::scan::Scanned;
+use tape_scan::scan::scan_tape;
 use totals::counted;
 ghost use lib.ListN.{length};
 ghost use Rattle.model.specs.Tape.{lentBy, parse};
-ghost use Rattle.tape_read.specs.Scan.{Reached, WholeRecords};
+ghost use Rattle.tape_scan.specs.Scan.{Reached, WholeRecords};
 ghost use Rattle.stream.specs.Taken.{Ready, lentIn, CountedAs, TakenFrom};
 
 pub enum Taken {

@@ -14,7 +14,7 @@ use Rattle.model.proofs.Accepted.{up-to}
 use Rattle.records.specs.declared.tally.Tally.{Tally}
 use Rattle.model.specs.declared.Lent.{Lent}
 use Rattle.records.specs.Tally.{tallyOf}
-use Rattle.tape_read.specs.Scan.{WholeRecords}
+use Rattle.tape_scan.specs.Scan.{WholeRecords}
 use Rattle.roundtrip.proofs.Accepted.{Job, accepted-job}
 use Rattle.tape_read.proofs.Numbers.{codeOn, weightOn, numberOn, firstOn, job-length, codes-are, weights-are, numbers-are, first-is}
 use Rattle.roundtrip.proofs.Judged.{all, beyond-parse, whole-parse, answer-by, samples-by, weights-by, flow-by}

@@ -1,7 +1,5 @@
 -- What the contracts of read cite beside the model's definitions.
---     Scan        a scan of the whole tape
 --     Places      where the numbers of a whole tape stand
 --     Answers     document 01's values for each answer of read
-pub mod Scan
 pub mod Places
 pub mod Answers

@@ -1,11 +1,5 @@
 // Reading a job from a tape.
-//     stretch  a record, with the samples and flow numbers that follow it
-//     reader   the lent bytes with the offset of the next record
-//     scan     a tape, from record to record, with nothing written
-//     fill     the numbers of a whole tape, into the buffers
-//     read     read
+//     fill   the numbers of a whole tape, into the buffers
+//     read   read
 mod fill;
 pub mod read;
-mod reader;
-pub mod scan;
-mod stretch;

@@ -4,13 +4,13 @@ use crate::fill::beyond_from;
 use crate::fill::fill_flow;
 use crate::fill::fill_samples;
 use crate::fill::fill_weights;
-use crate::scan::Scanned;
-use crate::scan::scan_tape;
 use model::Lent;
 use model::Rounds;
 use model::Terms;
 use records::tally::Tally;
 use records::tally::fresh;
+use tape_scan::scan::Scanned;
+use tape_scan::scan::scan_tape;
 ghost use mathlib.Core.Path.{_≡_};
 ghost use mathlib.Core.Logic.{_↔_};
 ghost use lib.ListN.{take};
@@ -18,7 +18,7 @@ ghost use Rattle.model.specs.Tape.{lentBy, readAnswer, readSamples, readWeights
 ghost use Rattle.model.specs.Calls.{pixelsOf};
 ghost use Rattle.model.specs.Accepted.{ReadAllowed};
 ghost use Rattle.roundtrip.specs.RoundTrip.{WritesBack, weightCount, flowCount};
-ghost use Rattle.tape_read.specs.Scan.{WholeRecords};
+ghost use Rattle.tape_scan.specs.Scan.{WholeRecords};
 ghost use Rattle.tape_read.specs.Answers.{readAnswerOf};
 
 // The job's terms and whether weights and whether a flow were there (no, where there are no pairs), or

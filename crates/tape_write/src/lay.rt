@@ -4,7 +4,7 @@ use integers::signed;
 use model::Entry;
 use model::Rounds;
 use model::Terms;
-use records::put::put_record;
+use record_write::put_record;
 ghost use mathlib.Core.Path.{_≡_};
 ghost use mathlib.Core.List.{_++_};
 ghost use Prim.Native.Nat.{_+_, _*_, _≤_};

@@ -4,10 +4,10 @@ use native.Mathlib.Omega.{arith}
 use Rattle.model.specs.declared.Lent.{Lent}
 use Rattle.model.specs.Tape.{lentBy}
 use Rattle.records.specs.declared.tally.Tally.{Tally}
-use Rattle.tape_read.specs.declared.scan.Scanned.{Scanned}
-use Rattle.tape_read.specs.Scan.{Reached, StopsAt}
+use Rattle.tape_scan.specs.declared.scan.Scanned.{Scanned}
+use Rattle.tape_scan.specs.Scan.{Reached, StopsAt}
 use Rattle.tape_read.proofs.Promised.{promised}
-use Rattle.tape_read.proofs.Reached.{start, whole-tape, refused}
+use Rattle.tape_scan.proofs.Reached.{start, whole-tape, refused}
 use Rattle.roundtrip.proofs.Judged.{refused-parse, answer-by, samples-by, weights-by, flow-by}
 use borrow.Author.Needs.{needs}
 use Rattle.tape_read.proofs.read.read.Statement.{statement}

@@ -1,0 +1,39 @@
+-- `record_write::put_four` meets its contract. Assumes nothing.
+use mathlib.Core.Path.{_≡_, ap, _∙_, subst}
+use mathlib.Core.List.{List, [], _∷_}
+use Prim.Native.Nat.{ℕ}
+use native.Mathlib.Omega.{arith}
+use mir.Facts.{toZ-ofZ}
+use Rattle.model.specs.Tape.{byteOf, complement}
+use Rattle.output.specs.Put.{Put}
+use Rattle.records.proofs.Digits.{four-halves}
+use Rattle.output.proofs.Laid.{put-then}
+use borrow.Author.Needs.{needs}
+use Rattle.record_write.proofs.put_four.Statement.{statement}
+use Rattle.record_write.proofs.put_four.Tie as tie
+
+complement-of-requires : tie.Need-complement-of-requires
+complement-of-requires c κs = search needs
+
+put-two-requires : tie.Need-put-two-requires
+put-two-requires c κs = search needs
+
+put-two-requires-2 : tie.Need-put-two-requires-2
+put-two-requires-2 c κs = search needs
+
+same-length : tie.Need-same-length
+same-length c = search needs
+
+returns : tie.Need-returns
+returns c =
+    let a = c .before .before .before .before .before .before .before .before .before .before .args in
+    let n : ℕ = c .before .before .before .before .before .before .before .before .complement-of .result in
+    let same : n ≡ complement (a .value) = c .before .before .before .before .before .before .before .before .complement-of .ensures ∙ ap complement (toZ-ofZ (c .before .before .before .before .before .before .before .before .before .before .fits .value)) in
+    subst (λ (b : List ℕ). Put (a .o) b (a .output .now) (c .before .before .put-two2 .result) (c .before .before .put-two2 .last .0))
+    (four-halves n ∙ ap (λ (m : ℕ). byteOf m 0 ∷ byteOf m 1 ∷ byteOf m 2 ∷ byteOf m 3 ∷ []) same)
+    (put-then (c .before .before .before .before .before .before .put-two .ensures) (c .before .before .put-two2 .ensures) (omega arith))
+
+pub put-four-spec : {M : Type 1} → statement M
+put-four-spec =
+    tie.close
+    (tie.spec complement-of-requires put-two-requires put-two-requires-2 same-length returns)

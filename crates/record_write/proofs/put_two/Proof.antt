@@ -1,0 +1,43 @@
+-- `record_write::put_two` meets its contract. Assumes nothing.
+use mathlib.Core.Path.{_≡_, subst}
+use mathlib.Core.List.{[], _∷_}
+use Prim.Native.Nat.{ℕ, _/_, _%_}
+use native.Mathlib.Omega.{arith}
+use Rattle.output.proofs.Laid.{put-then}
+use Rattle.output.specs.Put.{Put}
+use borrow.Author.Needs.{needs}
+use Rattle.record_write.proofs.put_two.Statement.{statement}
+use Rattle.record_write.proofs.put_two.Tie as tie
+
+cast-put-byte : tie.Need-cast-put-byte
+cast-put-byte c = search needs
+
+put-byte-requires : tie.Need-put-byte-requires
+put-byte-requires c κs = search needs
+
+cast-put-byte-2 : tie.Need-cast-put-byte-2
+cast-put-byte-2 c = search needs
+
+put-byte-requires-2 : tie.Need-put-byte-requires-2
+put-byte-requires-2 c κs = search needs
+
+same-length : tie.Need-same-length
+same-length c = search needs
+
+returns : tie.Need-returns
+returns c =
+    let a = c .before .before .before .before .before .before .before .before .before .args in
+    let low : a .n % 256 ≡ a .n / 1 % 256 = omega arith in
+    subst (λ (b : ℕ). Put (a .o) (b ∷ a .n / 256 % 256 ∷ []) (a .output .now) (c .before .before .put-byte2 .result) (c .before .before .put-byte2 .last .0)) low
+    (put-then (c .before .before .before .before .before .before .put-byte .ensures) (c .before .before .put-byte2 .ensures) (omega arith))
+
+pub put-two-spec : {M : Type 1} → statement M
+put-two-spec =
+    tie.close
+    (tie.spec
+    cast-put-byte
+    put-byte-requires
+    cast-put-byte-2
+    put-byte-requires-2
+    same-length
+    returns)
