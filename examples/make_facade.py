@@ -3,6 +3,7 @@
 
     python3 examples/make_facade.py > examples/facade.pgm
     python3 examples/make_facade.py --weights > examples/facade-weights.pgm
+    python3 examples/make_facade.py --size 1024x1024 --scale 16 > facade-1024.pgm
 
 Heights of the surface, in codes: courses of stones with joints between them, a window with its reveal,
 lintel and sill, stones that are worn, and the noise of a scanner. The weight picture has the joints in
@@ -68,12 +69,29 @@ def strength(height):
     return 0 if height == JOINT else 255
 
 
-def main():
+def size(word):
+    """What reads a size such as 64x48, for a command line."""
+    width, _, height = word.partition("x")
+    return script.number(1, 4096)(width), script.number(1, 4096)(height)
+
+
+def arguments():
     parser = script.Parser(prog="make_facade", description="Makes the scan of a small façade.")
     parser.add_argument("--weights", action="store_true", help="make its weight picture instead")
-    weights, source = parser.parse_args().weights, random.Random(1)
-    heights = [[facade(x, y) for x in range(WIDTH)] for y in range(HEIGHT)]
-    rows = [[strength(height) if weights else scanned(height, source) for height in row] for row in heights]
+    parser.add_argument("--size", type=size, default=(WIDTH, HEIGHT), metavar="WxH",
+                        help=f"how many pixels are scanned, from the upper left (else {WIDTH}x{HEIGHT})")
+    parser.add_argument("--scale", type=script.number(1, 64), default=1, metavar="N",
+                        help="how many times as finely it is scanned (else 1)")
+    return parser.parse_args()
+
+
+def main():
+    options, source = arguments(), random.Random(1)
+    width, height = options.size
+    rows = []
+    for y in range(height):
+        heights = [facade(x // options.scale, y // options.scale) for x in range(width)]
+        rows.append([strength(depth) if options.weights else scanned(depth, source) for depth in heights])
     sys.stdout.write(pgm.text(rows))
 
 

@@ -1,0 +1,79 @@
+"""What callers give, as arrays and numbers that the library can be lent; else a TypeError or a ValueError.
+
+An array that is contiguous, aligned and of the library's type is lent as it is. No array that is given is changed.
+"""
+
+from __future__ import annotations
+
+import operator
+from typing import Any, Tuple
+
+import numpy as np
+
+Shape = Tuple[int, int]
+
+
+def whole_number(name: str, value: Any, most: int, allowed: int) -> int:
+    """A whole number of 0 to the most that the library's type holds; what is allowed of these, the library says."""
+    try:
+        number = operator.index(value)
+    except TypeError:
+        raise TypeError(f"{name} is a whole number, not {_kind(value)}") from None
+    if not 0 <= number <= most:
+        raise ValueError(f"{name} is {number}: it must be 0 to {allowed:,}")
+    return number
+
+
+def box_ends(box: Any) -> Tuple[int, int]:
+    """The lowest and the highest level of a box."""
+    try:
+        low, high = box
+    except TypeError:
+        raise TypeError(f"box is a pair (low, high) of levels, not {_kind(box)}") from None
+    except ValueError:
+        raise ValueError(f"box is a pair (low, high) of levels, not {box!r}") from None
+    return whole_number("the low end of box", low, 255, 255), whole_number("the high end of box", high, 255, 255)
+
+
+def given(name: str, value: Any) -> np.ndarray:
+    """What is given as an array, without a mask that would be lost."""
+    if isinstance(value, np.ma.MaskedArray):
+        raise TypeError(f"{name} is a masked array, and the library knows no masks: fill it first")
+    return np.asarray(value)
+
+
+def raster(name: str, value: Any) -> np.ndarray:
+    """A 2-D array of bytes: codes, or strengths of a weight picture."""
+    array = given(name, value)
+    if array.dtype != np.uint8:
+        raise TypeError(f"{name} has dtype {array.dtype}: 8-bit codes, dtype uint8, are needed")
+    if array.ndim != 2:
+        raise ValueError(f"{name} has shape {array.shape}: a grey raster has 2 dimensions, (height, width)")
+    return np.require(array, requirements="CAE")
+
+
+def whole_numbers(name: str, value: Any, shape: Tuple[int, ...]) -> np.ndarray:
+    """An array of this shape as 32-bit numbers: as it is, or converted where its type is another of whole numbers."""
+    array = given(name, value)
+    if array.dtype.kind not in "iu":
+        raise TypeError(f"{name} has dtype {array.dtype}: whole numbers, best int32, are needed")
+    if array.shape != shape:
+        raise ValueError(f"{name} has shape {array.shape}: {shape} is needed")
+    if not np.can_cast(array.dtype, np.int32):
+        limits = np.iinfo(np.int32)
+        beyond = (array < limits.min) | (array > limits.max)
+        if beyond.any():
+            index = tuple(int(number) for number in np.argwhere(beyond)[0])
+            raise ValueError(f"{name} has {array[index]} at {list(index)}, which 32 bits do not hold")
+    return np.require(array, np.int32, "CAE")
+
+
+def frozen(array: np.ndarray) -> np.ndarray:
+    """The same values, not to be written to by this name."""
+    view = array.view()
+    view.flags.writeable = False
+    return view
+
+
+def _kind(value: Any) -> str:
+    return f"{value!r} of type {type(value).__name__}"

@@ -1,0 +1,117 @@
+"""relief-raster clean: a batch of scans."""
+
+from __future__ import annotations
+
+import io
+import os
+from typing import Any, Dict, List, Optional, Set
+
+import numpy as np
+
+from ..calls import clean
+from ..files import replace
+from ..pairs import Pairs
+from ..result import Result
+from ..wording import bounds, figures
+from .interrupt import in_background
+from .progress import Progress, estimated_seconds, share
+from .report import Report
+from .speech import complain, fault_of, tell
+from .terms import FAULTS, ask_same_size, read_scan, read_weights
+
+
+def clean_files(options: Any) -> int:
+    """Cleans each scan; one at fault is named and the others go on."""
+    try:
+        weights = read_weights(options)
+    except FAULTS as error:
+        complain(f"{options.weights}: {fault_of(error, options.weights)}")
+        return 1
+    try:
+        os.makedirs(options.output, exist_ok=True)
+        batch = _Batch(options, weights)
+    except OSError as error:
+        complain(f"{error.filename}: {error.strerror or error}")
+        return 1
+    return batch.clean_all()
+
+
+class _Batch:
+    """Scans that are cleaned with the same terms into one folder."""
+
+    def __init__(self, options: Any, weights: Optional[Pairs]) -> None:
+        self.options, self.weights = options, weights
+        self.progress = Progress(len(options.scans))
+        self.report = Report(options.report)
+        read = [*options.scans, *(path for path in (options.weights,) if path)]
+        self.read: Set[str] = {os.path.realpath(path) for path in read}
+        self.written: Set[str] = {os.path.realpath(path) for path in (options.report,) if path}
+
+    def clean_all(self) -> int:
+        """Cleans the scans one by one and gives the exit status."""
+        faults = 0
+        for number, path in enumerate(self.options.scans, 1):
+            try:
+                result, seconds = self.clean_one(number, path)
+            except FAULTS as error:
+                faults += 1
+                fault = fault_of(error, path)
+                self.progress.clear()
+                complain(f"{path}: {fault}")
+                self.report.add(path, self.options, fault=fault)
+            else:
+                self.progress.clear()
+                tell(f"{path}: {figures(result)}; {bounds(result)}")
+                self.report.add(path, self.options, result, seconds)
+        if faults or len(self.options.scans) > 1:
+            complain(f"{len(self.options.scans) - faults} of {len(self.options.scans)} scans cleaned"
+                     + (f", {faults} at fault" if faults else ""))
+        return 1 if faults else 0
+
+    def clean_one(self, number: int, path: str) -> Any:
+        """Cleans a scan, writes what is asked for, and gives the result with the seconds that the rounds took."""
+        outputs = self.claim(path)
+        self.progress.show(number, path, "reading")
+        scan = read_scan(path)
+        if self.weights is not None:
+            ask_same_size(self.options.weights, self.weights.shape, scan)
+        options, codes = self.options, scan.codes
+        estimate = estimated_seconds(codes, options.quick, options.steady) if self.progress.wanted else 1.0
+        result, seconds = in_background(
+            lambda: clean(codes, options.weight, options.box, options.quick, options.steady, self.weights),
+            lambda so_far: self.progress.show(number, path, share(so_far, estimate)))
+        self.progress.show(number, path, "writing")
+        data = {"picture": lambda: _picture(result), "flow": lambda: _array(result.flow.flat),
+                "scan": lambda: scan.encoded(result.codes(scan.maxval))}
+        replace({output: data[what]() for what, output in outputs.items()})
+        return result, seconds
+
+    def claim(self, path: str) -> Dict[str, str]:
+        """The files to be written for a scan: none that is read, nor one that is written for another."""
+        name = os.path.basename(path)
+        stem = os.path.splitext(name)[0]
+        names = {"scan": name}
+        if self.options.save_flow:
+            names["flow"] = f"{stem}.flow.npy"
+        if self.options.picture:
+            names["picture"] = f"{stem}.picture.png"
+        outputs = {what: os.path.join(self.options.output, name) for what, name in names.items()}
+        for output in outputs.values():
+            place = os.path.realpath(output)
+            if place in self.read:
+                raise ValueError(f"not cleaned, for {output} would replace a picture that is read: name another folder")
+            if place in self.written:
+                raise ValueError(f"not cleaned, for {output} is written for another scan: name another folder")
+        self.written.update(map(os.path.realpath, outputs.values()))
+        return outputs
+
+
+def _picture(result: Result) -> bytes:
+    from ..plots import png_of
+    return png_of(result)
+
+
+def _array(array: np.ndarray) -> memoryview:
+    file = io.BytesIO()
+    np.save(file, array)
+    return file.getbuffer()

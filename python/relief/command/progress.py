@@ -1,0 +1,65 @@
+"""A line of progress on a terminal, for what takes over a second; nothing in a pipe."""
+
+from __future__ import annotations
+
+import shutil
+import sys
+import time
+
+import numpy as np
+
+from ..calls import clean
+from .speech import one_line
+
+PATIENCE = 1.0  # seconds before the line is shown
+_SAMPLE = 64    # pixels a side, of the part that is timed for the estimate
+_ROUNDS = 16
+
+
+class Progress:
+    """The line, on standard error."""
+
+    def __init__(self, files: int) -> None:
+        self.files = files
+        self.start = time.perf_counter()
+        self.wanted = sys.stderr.isatty()
+        self.there = False
+
+    def show(self, number: int, name: str, doing: str) -> None:
+        """Says which file is being treated and what is done, once the command has taken a second."""
+        if not self.wanted or time.perf_counter() - self.start < PATIENCE:
+            return
+        text = one_line(f"[{number}/{self.files}] {name}: {doing}")
+        sys.stderr.write(f"\r\x1b[K{text[:shutil.get_terminal_size().columns - 1]}")
+        sys.stderr.flush()
+        self.there = True
+
+    def clear(self) -> None:
+        """Takes the line away, before another is printed."""
+        if self.there:
+            sys.stderr.write("\r\x1b[K")
+            sys.stderr.flush()
+            self.there = False
+
+
+def share(seconds: float, estimate: float) -> str:
+    """How much of a run's estimated time is over."""
+    return f"{min(int(100 * seconds / estimate), 99)} % of at most about {max(estimate, 0.1):.1f} s"
+
+
+def estimated_seconds(codes: np.ndarray, quick: int, steady: int) -> float:
+    """How long a run can take, from short ones on a part of the scan; it is shorter where the run settles early."""
+    part = codes[:_SAMPLE, :_SAMPLE]
+    rates = [_seconds(part, rounds) / (_ROUNDS * part.size) for rounds in ((_ROUNDS, 0), (0, _ROUNDS))]
+    # a large raster does not fit the processor's cache
+    return 1.25 * codes.size * (quick * rates[0] + steady * rates[1])
+
+
+def _seconds(part: np.ndarray, rounds: tuple) -> float:
+    """The shorter of two runs."""
+    times = []
+    for _ in range(2):
+        start = time.perf_counter()
+        clean(part, 1024, (0, 255), *rounds)
+        times.append(time.perf_counter() - start)
+    return min(times)

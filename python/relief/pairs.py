@@ -1,0 +1,119 @@
+"""A whole number for each pair of neighbours: a flow, or the pairs' weights."""
+
+from __future__ import annotations
+
+from typing import Any, Optional
+
+import numpy as np
+
+from . import boundary
+from .arrays import Shape, frozen, given, raster, whole_number, whole_numbers
+
+
+_NONE = np.zeros(0, np.int32)
+
+
+class Pairs:
+    """A number for each pair of neighbouring pixels of a raster of shape (h, w), as int32.
+
+    ``down[y, x]`` belongs to pixel (y, x) and the one below it, ``right[y, x]`` to pixel (y, x) and the one to its right.
+    ``flat`` has them in the library's order: all of ``down`` row by row, then all of ``right``. The three share their
+    memory and are not to be written to.
+
+    >>> Pairs([[1, 2]], [[3], [4]]).flat
+    array([1, 2, 3, 4], dtype=int32)
+    """
+
+    __slots__ = ("flat", "shape")
+    flat: np.ndarray
+    shape: Shape
+
+    def __init__(self, down: Any, right: Any) -> None:
+        below, beside = given("down", down), given("right", right)
+        if below.ndim != 2 or beside.ndim != 2:
+            raise ValueError(f"down and right have shapes {below.shape} and {beside.shape}: (h - 1, w) and (h, w - 1)"
+                             " are needed for a raster of h rows and w columns")
+        height, width = max(beside.shape[0], 1), max(below.shape[1], 1)
+        below = whole_numbers("down", below, (height - 1, width))
+        beside = whole_numbers("right", beside, (height, width - 1))
+        self.flat, self.shape = frozen(np.concatenate([below.ravel(), beside.ravel()])), (height, width)
+
+    @classmethod
+    def from_flat(cls, flat: Any, shape: Shape) -> "Pairs":
+        """The numbers in the library's order, of a raster of this shape; not copied where they are int32 already."""
+        return _named("flat", flat, shape)
+
+    @property
+    def down(self) -> np.ndarray:
+        """One number for each pixel and the one below it, of shape (h - 1, w)."""
+        height, width = self.shape
+        return self.flat[:(height - 1) * width].reshape(height - 1, width)
+
+    @property
+    def right(self) -> np.ndarray:
+        """One number for each pixel and the one to its right, of shape (h, w - 1)."""
+        height, width = self.shape
+        return self.flat[(height - 1) * width:].reshape(height, width - 1)
+
+    def name_of(self, index: int) -> str:
+        """A flat index as a person thinks of it, such as ``down[3, 5]``."""
+        height, width = self.shape
+        below = (height - 1) * width
+        row, column = divmod(index, width) if index < below else divmod(index - below, width - 1)
+        return f"{'down' if index < below else 'right'}[{row}, {column}]"
+
+    def __repr__(self) -> str:
+        return f"Pairs({self.flat.size} numbers, raster of shape {self.shape})"
+
+
+def pairs_of(name: str, value: Any, shape: Shape) -> Pairs:
+    """Pairs of a raster of this shape from what is given: Pairs, a tuple (down, right), or the flat order."""
+    if isinstance(value, tuple):
+        if len(value) != 2:
+            raise ValueError(f"{name} is a tuple of {len(value)}: (down, right) is meant, or one array in the flat order")
+        value = Pairs(*value)
+    if isinstance(value, Pairs):
+        if value.shape != shape:
+            raise ValueError(f"{name} is of a raster of shape {value.shape}, the scan's is {shape}")
+        return value
+    array = given(name, value)
+    if array.ndim != 1:
+        raise ValueError(f"{name} has shape {array.shape}: a tuple (down, right), or one array of {_count(shape)} numbers"
+                         " in the flat order, is needed")
+    return _named(name, array, shape)
+
+
+def lent(pairs: Optional[Pairs]) -> np.ndarray:
+    """The numbers as the library takes them: none of them, length 0, where there are no such pairs."""
+    return _NONE if pairs is None else pairs.flat
+
+
+def weights_from_picture(strengths: Any, weight: int, maxval: int = 255) -> Pairs:
+    """A weight for each pair from a weight picture: black where nothing is to be smoothed, white for the whole weight.
+
+    A pair's weight is the weight times the smaller value of its two pixels, divided by maxval and rounded down.
+
+    Args:
+        strengths: 2-D uint8 array as large as the scan, values 0 to maxval.
+        weight: the whole weight, in sub-units.
+        maxval: the value that stands for the whole weight.
+    """
+    grey = raster("strengths", strengths).astype(np.int64)
+    whole = whole_number("weight", weight, 2**32 - 1, boundary.max_weight())
+    white = whole_number("maxval", maxval, 255, 255)
+    if not white or grey.max(initial=0) > white:
+        raise ValueError(f"strengths go from 0 to maxval, which is {white}: the largest is {grey.max(initial=0)}")
+    down, right = np.minimum(grey[:-1], grey[1:]), np.minimum(grey[:, :-1], grey[:, 1:])
+    return Pairs(whole * down // white, whole * right // white)
+
+
+def _count(shape: Shape) -> int:
+    height, width = shape
+    return boundary.pairs(width, height)
+
+
+def _named(name: str, flat: Any, shape: Shape) -> Pairs:
+    """Pairs from the flat order, by the name that a message gives it."""
+    pairs = Pairs.__new__(Pairs)
+    pairs.flat, pairs.shape = frozen(whole_numbers(name, flat, (_count(shape),))), shape
+    return pairs

@@ -1,0 +1,79 @@
+"""Job tapes: the form in which the cleaning program and the season report take jobs."""
+
+from __future__ import annotations
+
+import os
+import sys
+from typing import Any, BinaryIO, List, Tuple, Union
+
+import numpy as np
+
+from . import boundary
+from .files import replace
+from .job import Job
+from .pairs import Pairs, lent
+from .refused import Refused
+
+
+def read_tape(source: Union[str, "os.PathLike[str]", BinaryIO, bytes, bytearray, memoryview]) -> Job:
+    """The job of a tape.
+
+    Args:
+        source: the tape's file, by its name or opened for binary reading, or its bytes.
+
+    Raises:
+        OSError: of a file that cannot be read.
+        Refused: of bytes that are no tape of one job, or a job that is not allowed.
+    """
+    if isinstance(source, (bytes, bytearray, memoryview)):
+        data: Any = source
+    elif isinstance(source, (str, os.PathLike)):
+        with open(source, "rb") as file:
+            data = file.read()
+    elif hasattr(source, "read"):
+        data = source.read()
+    else:
+        raise TypeError(f"a tape is read from a name, a file or bytes, not from {type(source).__name__}")
+    return _job(np.frombuffer(data, np.uint8) if len(data) else np.zeros(0, np.uint8))
+
+
+def write_tape(target: Union[str, "os.PathLike[str]", BinaryIO], job: Job) -> None:
+    """Writes a job's tape. With a flow the job is one to be checked, else one to be run.
+
+    Args:
+        target: a file by its name, which then holds all of the tape or is as it was, or one opened for binary writing.
+        job: the job; ``dataclasses.replace(result.job, flow=result.flow)`` is one with a result's flow.
+
+    Raises:
+        OSError: of a file that cannot be written.
+        Refused: of a job that is not allowed.
+    """
+    weights, flow = lent(job.weights), lent(job.flow)
+    tape = np.empty(boundary.tape_bytes(job.codes.size, weights.size, flow.size), np.uint8)
+    refusal, place, count = boundary.write(job.terms, job.quick, job.steady, job.codes, weights, flow, tape)
+    if refusal:
+        raise job.refused(refusal, place)
+    if isinstance(target, (str, os.PathLike)):
+        replace({target: tape[:count].data})
+    else:
+        target.write(tape[:count].data)
+
+
+def _job(tape: np.ndarray) -> Job:
+    refusal, place, read, buffers = _read(tape, *boundary.read_lengths(tape.size))
+    if refusal == 16:  # its size asks for more samples than its bytes can hold: with the longest buffers we are told why
+        refusal, place, read, buffers = _read(tape, *boundary.read_lengths(sys.maxsize))
+    if refusal:
+        raise Refused(refusal, place)
+    codes, weights, flow = buffers
+    width, height, weight, low, high = read.terms
+    shape, count = (height, width), boundary.pairs(width, height)
+    return Job(codes[:width * height].reshape(shape), weight, (low, high), read.quick, read.steady,
+               Pairs.from_flat(weights[:count], shape) if read.weighted else None,
+               Pairs.from_flat(flow[:count], shape) if read.flowed else None)
+
+
+def _read(tape: np.ndarray, samples: int, pairs: int) -> Tuple[int, int, boundary.Read, List[np.ndarray]]:
+    """Refusal, place, numbers and the buffers, of these lengths: codes, weights and flow."""
+    buffers = [np.empty(samples, np.uint8), np.empty(pairs, np.int32), np.empty(pairs, np.int32)]
+    return (*boundary.read(tape, *buffers), buffers)

@@ -1,0 +1,3 @@
+"""The version: that of include/relief.h."""
+
+__version__ = "0.4.0"
