@@ -19,31 +19,32 @@ def plot_result(result: Result) -> Figure:
     scan = result.job.codes + 0.5  # each code at the centre of its level
     difference = result.levels - scan
     beside = width < 2 * height  # the three side by side, else one below the other
-    panel = 4.6 if beside else min(4.6 * height / width + 0.7, 4.6)
-    size = (15.0, min(max(4.4 * height / width, 2.6), 9.0) + 1.5) if beside else (10.0, 3 * panel + 1.0)
-    figure = Figure(figsize=size, layout="constrained")
+    shape = min(max(height / width, 0.1), 2.0)
+    figure = Figure(figsize=(15.0, 4.2 * shape + 1.2) if beside else (10.0, 26.0 * shape + 2.6), layout="constrained")
     before, after, change = np.ravel(figure.subplots(*((1, 3) if beside else (3, 1))))
     grey = dict(cmap="gray", vmin=min(scan.min(), result.levels.min()), vmax=max(scan.max(), result.levels.max()))
     _panel(figure, before, scan, "scan", "depth in levels", grey)
     _panel(figure, after, result.levels, "cleaned", "depth in levels", grey)
-    most = max(float(np.abs(difference).max()), 1 / 256)
-    _panel(figure, change, difference, "cleaned − scan", "levels", dict(cmap="RdBu_r", vmin=-most, vmax=most))
-    figure.supxlabel(_caption(result, 120 if beside else 82), fontsize=10, family="monospace")
+    most = max(float(np.quantile(np.abs(difference), 0.99)), 1 / 256)
+    _panel(figure, change, difference, "cleaned − scan", "levels", dict(cmap="RdBu_r", vmin=-most, vmax=most), "nearest",
+           extend="both" if np.abs(difference).max() > most else "neither")
+    figure.supxlabel(_caption(result, 120 if beside else 104), fontsize=10, family="monospace")
     return figure
 
 
 def png_of(result: Result) -> bytes:
     """The plot as the bytes of a PNG file."""
     file = io.BytesIO()
-    plot_result(result).savefig(file, format="png", dpi=110)
+    plot_result(result).savefig(file, format="png", dpi=120)
     return file.getvalue()
 
 
-def _panel(figure: Figure, axes: Any, values: np.ndarray, title: str, label: str, colours: Any) -> None:
-    shown = axes.imshow(values, interpolation="nearest" if values.size <= 65536 else "antialiased", **colours)
+def _panel(figure: Figure, axes: Any, values: np.ndarray, title: str, label: str, colours: Any,
+           interpolation: str = "antialiased", extend: str = "neither") -> None:
+    shown = axes.imshow(values, interpolation=interpolation, **colours)
     axes.set_title(title)
     axes.tick_params(labelsize=8)
-    figure.colorbar(shown, ax=axes, label=label, shrink=0.8)
+    figure.colorbar(shown, ax=axes, label=label, extend=extend, fraction=0.046, pad=0.03)
 
 
 def _caption(result: Result, columns: int) -> str:

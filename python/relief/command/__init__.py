@@ -22,11 +22,10 @@ def main(words: Optional[List[str]] = None) -> int:
             sys.stdout.flush()
             return status
     except Interrupted as interrupted:
-        complain("interrupted; what is written is whole")
         return die_of(interrupted.signal)
     except BrokenPipeError:
         os.dup2(os.open(os.devnull, os.O_WRONLY), sys.stdout.fileno())  # nobody reads: nothing more to flush
         return 1
     except OSError as error:
-        complain(f"standard output: {error.strerror or error}")
+        complain(f"{error.filename or 'standard output'}: {error.strerror or error}")
         return 1

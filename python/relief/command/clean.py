@@ -4,7 +4,7 @@ from __future__ import annotations
 
 import io
 import os
-from typing import Any, Dict, List, Optional, Set
+from typing import Any, Dict, Iterable, Optional, Set, Tuple
 
 import numpy as np
 
@@ -13,7 +13,7 @@ from ..files import replace
 from ..pairs import Pairs
 from ..result import Result
 from ..wording import bounds, figures
-from .interrupt import in_background
+from .interrupt import Interrupted, in_background
 from .progress import Progress, estimated_seconds, share
 from .report import Report
 from .speech import complain, fault_of, tell
@@ -41,50 +41,63 @@ class _Batch:
 
     def __init__(self, options: Any, weights: Optional[Pairs]) -> None:
         self.options, self.weights = options, weights
-        self.progress = Progress(len(options.scans))
+        self.read = _places([*options.scans, options.weights])
+        self.written = _places([options.report])
+        if self.read & self.written:
+            raise OSError(None, "the report would replace a picture that is read", options.report)
         self.report = Report(options.report)
-        read = [*options.scans, *(path for path in (options.weights,) if path)]
-        self.read: Set[str] = {os.path.realpath(path) for path in read}
-        self.written: Set[str] = {os.path.realpath(path) for path in (options.report,) if path}
+        self.progress = Progress(len(options.scans))
+        self.cleaned = self.faulty = 0
 
     def clean_all(self) -> int:
-        """Cleans the scans one by one and gives the exit status."""
-        faults = 0
-        for number, path in enumerate(self.options.scans, 1):
-            try:
-                result, seconds = self.clean_one(number, path)
-            except FAULTS as error:
-                faults += 1
-                fault = fault_of(error, path)
-                self.progress.clear()
-                complain(f"{path}: {fault}")
-                self.report.add(path, self.options, fault=fault)
-            else:
-                self.progress.clear()
-                tell(f"{path}: {figures(result)}; {bounds(result)}")
-                self.report.add(path, self.options, result, seconds)
-        if faults or len(self.options.scans) > 1:
-            complain(f"{len(self.options.scans) - faults} of {len(self.options.scans)} scans cleaned"
-                     + (f", {faults} at fault" if faults else ""))
-        return 1 if faults else 0
+        """Cleans the scans one by one, and gives the exit status."""
+        scans = self.options.scans
+        try:
+            for number, path in enumerate(scans, 1):
+                self.clean_or_complain(number, path)
+        except Interrupted:
+            self.complain(f"interrupted; {self.cleaned} of {len(scans)} scans are cleaned, and what is written is whole")
+            raise
+        if self.faulty or len(scans) > 1:
+            self.complain(f"{self.cleaned} of {len(scans)} scans cleaned" + f", {self.faulty} at fault" * bool(self.faulty))
+        return 1 if self.faulty else 0
 
-    def clean_one(self, number: int, path: str) -> Any:
+    def clean_or_complain(self, number: int, path: str) -> None:
+        """Cleans a scan, or says what is wrong with it; either is told and put into the report."""
+        try:
+            result, seconds = self.clean_one(number, path)
+        except FAULTS as error:
+            fault = fault_of(error, path)
+            self.faulty += 1
+            self.complain(f"{path}: {fault}")
+            self.report.add(path, self.options, fault=fault)
+        else:
+            self.cleaned += 1
+            self.progress.clear()
+            tell(f"{path}: {figures(result)}; {bounds(result)}")
+            self.report.add(path, self.options, result, seconds)
+
+    def clean_one(self, number: int, path: str) -> Tuple[Result, float]:
         """Cleans a scan, writes what is asked for, and gives the result with the seconds that the rounds took."""
         outputs = self.claim(path)
         self.progress.show(number, path, "reading")
-        scan = read_scan(path)
-        if self.weights is not None:
-            ask_same_size(self.options.weights, self.weights.shape, scan)
+        scan = read_scan(path, self.complain)
+        ask_same_size(self.weights, scan)
         options, codes = self.options, scan.codes
         estimate = estimated_seconds(codes, options.quick, options.steady) if self.progress.wanted else 1.0
         result, seconds = in_background(
             lambda: clean(codes, options.weight, options.box, options.quick, options.steady, self.weights),
             lambda so_far: self.progress.show(number, path, share(so_far, estimate)))
         self.progress.show(number, path, "writing")
-        data = {"picture": lambda: _picture(result), "flow": lambda: _array(result.flow.flat),
-                "scan": lambda: scan.encoded(result.codes(scan.maxval))}
-        replace({output: data[what]() for what, output in outputs.items()})
+        made = {"scan": lambda: scan.encoded(result.codes(scan.maxval)), "flow": lambda: _array(result.flow.flat),
+                "picture": lambda: _picture(result)}
+        replace({output: made[what]() for what, output in outputs.items()})
         return result, seconds
+
+    def complain(self, text: str) -> None:
+        """One line on standard error, in place of the line of progress."""
+        self.progress.clear()
+        complain(text)
 
     def claim(self, path: str) -> Dict[str, str]:
         """The files to be written for a scan: none that is read, nor one that is written for another."""
@@ -102,8 +115,13 @@ class _Batch:
                 raise ValueError(f"not cleaned, for {output} would replace a picture that is read: name another folder")
             if place in self.written:
                 raise ValueError(f"not cleaned, for {output} is written for another scan: name another folder")
-        self.written.update(map(os.path.realpath, outputs.values()))
+        self.written |= _places(outputs.values())
         return outputs
+
+
+def _places(paths: Iterable[Optional[str]]) -> Set[str]:
+    """Where the files are, by whatever name; None is no file."""
+    return {os.path.realpath(path) for path in paths if path is not None}
 
 
 def _picture(result: Result) -> bytes:

@@ -3,11 +3,12 @@
 from __future__ import annotations
 
 import contextlib
-from typing import Any, Iterator
+from typing import Any, Callable, Iterator, Optional
 
 import numpy as np
 
 from ..calls import check, price
+from ..pairs import Pairs
 from ..pictures import read_picture
 from ..wording import bounds, figures
 from .speech import complain, fault_of, tell
@@ -16,40 +17,19 @@ from .terms import FAULTS, ask_same_size, read_array, read_scan, read_weights
 
 def check_file(options: Any) -> int:
     """Judges a flow of one's own."""
-    try:
-        with _naming(options.weights):
-            weights = read_weights(options)
-        with _naming(options.scan):
-            scan = read_scan(options.scan)
-        if weights is not None:
-            with _naming(options.weights):
-                ask_same_size("it", weights.shape, scan)
-        with _naming(options.flow):
-            flow = read_array(options.flow)
-            result = check(scan.codes, flow, options.weight, options.box, weights)
-    except _Told:
-        return 1
-    tell(f"{options.scan}: {figures(result)}; {bounds(result)}")
-    return 0
+    def judge(codes: np.ndarray, weights: Optional[Pairs]) -> str:
+        result = check(codes, read_array(options.flow), options.weight, options.box, weights)
+        return f"{options.scan}: {figures(result)}; {bounds(result)}"
+
+    return _judge(options, options.flow, judge)
 
 
 def price_file(options: Any) -> int:
     """Prices a raster of the box."""
-    try:
-        with _naming(options.weights):
-            weights = read_weights(options)
-        with _naming(options.scan):
-            scan = read_scan(options.scan)
-        if weights is not None:
-            with _naming(options.weights):
-                ask_same_size("it", weights.shape, scan)
-        with _naming(options.cleaned):
-            image = _image(options.cleaned)
-            found = price(scan.codes, image, options.weight, options.box, weights)
-    except _Told:
-        return 1
-    tell(f"{options.cleaned}: price {found}")
-    return 0
+    def judge(codes: np.ndarray, weights: Optional[Pairs]) -> str:
+        return f"{options.cleaned}: price {price(codes, _image(options.cleaned), options.weight, options.box, weights)}"
+
+    return _judge(options, options.cleaned, judge)
 
 
 def _image(path: str) -> np.ndarray:
@@ -57,6 +37,22 @@ def _image(path: str) -> np.ndarray:
     if path.endswith(".npy"):
         return read_array(path)
     return 256 * read_picture(path).codes.astype(np.int32) + 128
+
+
+def _judge(options: Any, path: str, judge: Callable[[np.ndarray, Optional[Pairs]], str]) -> int:
+    """Tells what is said of the scan, its weights and the file at the path; gives the exit status."""
+    try:
+        with _naming(options.scan):
+            scan = read_scan(options.scan, complain)
+        with _naming(options.weights):
+            weights = read_weights(options)
+            ask_same_size(weights, scan)
+        with _naming(path):
+            said = judge(scan.codes, weights)
+    except _Told:
+        return 1
+    tell(said)
+    return 0
 
 
 class _Told(Exception):

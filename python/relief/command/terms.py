@@ -2,23 +2,22 @@
 
 from __future__ import annotations
 
-from typing import Any, Optional, Tuple
+from typing import Any, Callable, Optional
 
 import numpy as np
 
 from ..pairs import Pairs, weights_from_picture
 from ..pictures import Picture, read_picture
 from ..refused import Refused
-from .speech import complain
 
 FAULTS = (OSError, ValueError, TypeError, Refused, MemoryError)
 
 
-def read_scan(path: str) -> Picture:
-    """A scan; where its codes are scaled, it is said."""
+def read_scan(path: str, note: Callable[[str], None]) -> Picture:
+    """A scan; where its codes are scaled, that is noted."""
     picture = read_picture(path)
     if picture.maxval < 255:
-        complain(f"{path}: maxval {picture.maxval}: samples scaled to the codes 0 to 255, in whose levels weight and box are")
+        note(f"{path}: maxval {picture.maxval}: samples scaled to the codes 0 to 255, in whose levels weight and box are")
     return picture
 
 
@@ -30,11 +29,11 @@ def read_weights(options: Any) -> Optional[Pairs]:
     return weights_from_picture(picture.samples, options.weight, picture.maxval)
 
 
-def ask_same_size(what: str, shape: Tuple[int, ...], scan: Picture) -> None:
-    """A ValueError where something is not as large as the scan."""
-    if shape != scan.samples.shape:
-        (height, width), (rows, columns) = shape, scan.samples.shape
-        raise ValueError(f"{width} x {height} pixels in {what}, but the scan has {columns} x {rows}")
+def ask_same_size(weights: Optional[Pairs], scan: Picture) -> None:
+    """A ValueError where the weight picture is not as large as the scan."""
+    if weights is not None and weights.shape != scan.samples.shape:
+        (height, width), (rows, columns) = weights.shape, scan.samples.shape
+        raise ValueError(f"the weight picture has {width} x {height} pixels, but the scan has {columns} x {rows}")
 
 
 def read_array(path: str) -> np.ndarray:
