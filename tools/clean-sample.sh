@@ -1,8 +1,10 @@
 #!/usr/bin/env bash
 # The main job on a sample: cleans the scanned façade examples/facade.tape with the program and shows the answer, then the
-# same scan with its joints kept, examples/facade-joints.tape. The program is proved before it is built: some minutes the
-# first time, a second after that. The prover's lines go to target/program.log. RELIEF_BIN, if set, is the path of another
-# program: that is taken as it is, and nothing is built.
+# same scan with its joints kept, examples/facade-joints.tape; then the façade as a picture file of 1,024 by 1,024 pixels,
+# with the command relief-raster (tools/python.sh sets it up). Program and library are proved before they are built: some
+# minutes the first time, a few seconds after that. The prover's lines go to target/program.log and target/library.log.
+# RELIEF_BIN, if set, is the path of another program, RELIEF_LIB_DIR the folder of another library: these are taken as
+# they are, and nothing is built.
 set -euo pipefail
 if [ -n "${RELIEF_BIN:-}" ]; then
     program=$(realpath "$RELIEF_BIN")
@@ -29,3 +31,11 @@ clean() {
 
 clean facade "the scan examples/facade.pgm, cleaned"
 clean facade-joints "the same with its joints kept, by the weights of examples/facade-weights.pgm"
+
+bash tools/python.sh > /dev/null
+scan=target/examples/facade-1024.pgm folder=target/examples/cleaned
+python3 examples/make_facade.py --size 1024x1024 --scale 16 > "$scan.part"
+mv "$scan.part" "$scan"
+echo "the façade as a picture file of 1,024 by 1,024 pixels, cleaned by relief-raster:"
+target/bin/relief-raster clean "$scan" -o "$folder" --weight 640 --box 0:255 --report "$folder.csv" --picture
+echo "cleaned: $folder/facade-1024.pgm; before, after and difference: $folder/facade-1024.picture.png; report: $folder.csv"

@@ -2,8 +2,8 @@
 # All tests. First the layout, the header and the second implementation's own tests; then every proof from nothing, with
 # the must-fail edits and the programs' stored answers (`rt ci`); then what was proved there is compared with the second
 # implementation on a part of the inputs, called with guard pages behind its buffers, and called through the Rust
-# wrapper; the picture scripts are tested, and the examples run and compared with what is stored. Any step that fails ends
-# it. The last line is the last line of `rt ci`: `N passed, 0 failed`.
+# wrapper and the Python package; the picture scripts are tested, and the examples run and compared with what is stored. Any
+# step that fails ends it. The last line is the last line of `rt ci`: `N passed, 0 failed`.
 set -euo pipefail
 cd "$(dirname "$0")/.."
 # what is tested is built here, not another library or program that the caller names
@@ -35,6 +35,11 @@ bash tools/guard.sh
 
 echo "== the Rust wrapper"
 (cd rust && cargo test --offline --quiet -p relief)
+
+echo "== the Python package and the command relief-raster"
+python=$(bash tools/python.sh)
+(cd rust && cargo build --offline --quiet --release -p relief-reference)
+PYTHONPATH=python "$python" -B -W error -m unittest discover -s python/tests
 
 echo "== the program beside the second implementation"
 bash tools/program.sh quick
