@@ -44,7 +44,7 @@ mv "$library.part" "$library"
 
 mkdir -p target/bin
 command=target/bin/relief-raster
-printf '#!/bin/sh\n# written by tools/python.sh\nPYTHONPATH=%q${PYTHONPATH:+:$PYTHONPATH} exec %q -m relief "$@"\n' \
+printf '#!/usr/bin/env bash\n# written by tools/python.sh\nPYTHONPATH=%q${PYTHONPATH:+:$PYTHONPATH} exec %q -m relief "$@"\n' \
     "$PWD/python" "$python" > "$command.part"
 chmod +x "$command.part"
 mv "$command.part" "$command"

@@ -49,7 +49,7 @@ def raster(name: str, value: Any) -> np.ndarray:
         raise TypeError(f"{name} has dtype {array.dtype}: 8-bit codes, dtype uint8, are needed")
     if array.ndim != 2:
         raise ValueError(f"{name} has shape {array.shape}: a grey raster has 2 dimensions, (height, width)")
-    return np.require(array, requirements="CAE")
+    return np.require(array, requirements=["C", "A"])
 
 
 def whole_numbers(name: str, value: Any, shape: Tuple[int, ...]) -> np.ndarray:
@@ -65,7 +65,7 @@ def whole_numbers(name: str, value: Any, shape: Tuple[int, ...]) -> np.ndarray:
         if beyond.any():
             index = tuple(int(number) for number in np.argwhere(beyond)[0])
             raise ValueError(f"{name} has {array[index]} at {list(index)}, which 32 bits do not hold")
-    return np.require(array, np.int32, "CAE")
+    return np.require(array, np.int32, ["C", "A"])
 
 
 def frozen(array: np.ndarray) -> np.ndarray:

@@ -45,11 +45,12 @@ class Job:
                     weight=whole_number("weight", self.weight, 2**32 - 1, boundary.max_weight()),
                     quick=whole_number("quick", self.quick, 2**32 - 1, 4096),
                     steady=whole_number("steady", self.steady, 2**16 - 1, 65535))
-        if not boundary.pixels(codes.shape[1], codes.shape[0]):
+        height, width = codes.shape
+        if not boundary.pixels(width, height):
             raise Refused(1)
         for name in "weights", "flow":
             value: Any = getattr(self, name)
-            kept[name] = None if value is None else pairs_of(name, value, codes.shape)
+            kept[name] = None if value is None else pairs_of(name, value, (height, width))
         for name, value in kept.items():
             object.__setattr__(self, name, value)
 

@@ -75,5 +75,5 @@ def _job(tape: np.ndarray) -> Job:
 
 def _read(tape: np.ndarray, samples: int, pairs: int) -> Tuple[int, int, boundary.Read, List[np.ndarray]]:
     """Refusal, place, numbers and the buffers, of these lengths: codes, weights and flow."""
-    buffers = [np.empty(samples, np.uint8), np.empty(pairs, np.int32), np.empty(pairs, np.int32)]
+    buffers: List[np.ndarray] = [np.empty(samples, np.uint8), np.empty(pairs, np.int32), np.empty(pairs, np.int32)]
     return (*boundary.read(tape, *buffers), buffers)
