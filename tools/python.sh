@@ -18,22 +18,21 @@ missing() {
     done
 }
 
-absent=$(missing | tr '\n' ' ')
-if [ -n "$absent" ]; then
-    if [ -z "${RELIEF_PYTHON:-}" ] && [ "$(id -u)" = 0 ] && command -v apt-get > /dev/null; then
-        echo "installing $absent(target/python.log)" >&2
-        # shellcheck disable=SC2086 # a list of names
-        DEBIAN_FRONTEND=noninteractive bash tools/quiet.sh target/python.log bash -c \
-            "apt-get install -y --no-install-recommends $absent ||
-             { apt-get update && apt-get install -y --no-install-recommends $absent; }"
-        absent=$(missing | tr '\n' ' ')
-    fi
-    if [ -n "$absent" ]; then
-        echo "$python lacks what these packages of Debian have: $absent" >&2
-        echo "install them (as root: apt-get install $absent), or let RELIEF_PYTHON name an interpreter that has NumPy," \
-            "Pillow and Matplotlib" >&2
-        exit 1
-    fi
+absent=$(missing | paste -sd ' ')
+if [ -n "$absent" ] && [ -z "${RELIEF_PYTHON:-}" ] && [ "$(id -u)" = 0 ] && command -v apt-get > /dev/null; then
+    echo "installing $absent (target/python.log)" >&2
+    install="apt-get install -y --no-install-recommends $absent"
+    DEBIAN_FRONTEND=noninteractive bash tools/quiet.sh target/python.log bash -c "$install || { apt-get update && $install; }" ||
+        true # what is still missing is said below
+    absent=$(missing | paste -sd ' ')
+fi
+if [ -n "$absent" ] && [ -n "${RELIEF_PYTHON:-}" ]; then
+    echo "$python, which RELIEF_PYTHON names, lacks what Debian has as $absent: install it for that interpreter" >&2
+    exit 1
+elif [ -n "$absent" ]; then
+    echo "$python lacks packages: as root, apt-get install $absent" >&2
+    echo "(or let RELIEF_PYTHON name an interpreter that has NumPy, Pillow and Matplotlib)" >&2
+    exit 1
 fi
 
 bash tools/library.sh > /dev/null
