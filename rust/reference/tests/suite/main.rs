@@ -1,7 +1,9 @@
-//! Tests of the reference: the documents' values, guarantees, tape, refusals and seasons.
+//! Tests of the reference: the documents' values, guarantees, tape, refusals, seasons and
+//! whole answers.
 
 mod support;
 
+mod answer;
 mod guarantees;
 mod plain;
 mod program;

@@ -160,9 +160,15 @@ pub fn multiplied(k: i64, values: &[i64]) -> Vec<i64> {
     values.iter().map(|value| k * value).collect()
 }
 
-/// What the program of this path prints for `input`.
+/// The text that the program of this path prints for `input`.
 pub fn printed(path: &str, input: &[u8]) -> String {
+    String::from_utf8(written(path, &[], input)).unwrap()
+}
+
+/// What the program of this path, with these arguments, writes for `input`.
+pub fn written(path: &str, arguments: &[&str], input: &[u8]) -> Vec<u8> {
     let mut program = Command::new(path)
+        .args(arguments)
         .stdin(Stdio::piped())
         .stdout(Stdio::piped())
         .spawn()
@@ -173,5 +179,5 @@ pub fn printed(path: &str, input: &[u8]) -> String {
     drop(stdin);
     let output = program.wait_with_output().unwrap();
     assert!(output.status.success());
-    String::from_utf8(output.stdout).unwrap()
+    output.stdout
 }
