@@ -10,6 +10,9 @@ from typing import Any, Tuple
 
 import numpy as np
 
+from . import boundary
+from .refused import Refused
+
 Shape = Tuple[int, int]
 
 
@@ -39,16 +42,27 @@ def given(name: str, value: Any) -> np.ndarray:
     """What is given as an array, without a mask that would be lost."""
     if isinstance(value, np.ma.MaskedArray):
         raise TypeError(f"{name} is a masked array, and the library knows no masks: fill it first")
-    return np.asarray(value)
+    try:
+        return np.asarray(value)
+    except ValueError as error:
+        raise ValueError(f"{name} is no array: {error}") from None
+
+
+def ask_size(height: int, width: int) -> None:
+    """Refusal 1 of a raster that is too large or has no pixel."""
+    if not boundary.pixels(width, height):
+        raise Refused(1)
 
 
 def raster(name: str, value: Any) -> np.ndarray:
-    """A 2-D array of bytes: codes, or strengths of a weight picture."""
+    """A 2-D array of bytes: codes, or strengths of a weight picture. One of a size that is not allowed is not copied."""
     array = given(name, value)
     if array.dtype != np.uint8:
         raise TypeError(f"{name} has dtype {array.dtype}: 8-bit codes, dtype uint8, are needed")
     if array.ndim != 2:
         raise ValueError(f"{name} has shape {array.shape}: a grey raster has 2 dimensions, (height, width)")
+    height, width = array.shape
+    ask_size(height, width)
     return np.require(array, requirements=["C", "A"])
 
 

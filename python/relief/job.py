@@ -46,8 +46,6 @@ class Job:
                     quick=whole_number("quick", self.quick, 2**32 - 1, 4096),
                     steady=whole_number("steady", self.steady, 2**16 - 1, 65535))
         height, width = codes.shape
-        if not boundary.pixels(width, height):
-            raise Refused(1)
         for name in "weights", "flow":
             value: Any = getattr(self, name)
             kept[name] = None if value is None else pairs_of(name, value, (height, width))

@@ -7,7 +7,7 @@ from typing import Any, Optional
 import numpy as np
 
 from . import boundary
-from .arrays import Shape, frozen, given, raster, whole_number, whole_numbers
+from .arrays import Shape, ask_size, frozen, given, raster, whole_number, whole_numbers
 
 
 _NONE = np.zeros(0, np.int32)
@@ -34,6 +34,7 @@ class Pairs:
             raise ValueError(f"down and right have shapes {below.shape} and {beside.shape}: (h - 1, w) and (h, w - 1)"
                              " are needed for a raster of h rows and w columns")
         height, width = max(beside.shape[0], 1), max(below.shape[1], 1)
+        ask_size(height, width)
         below = whole_numbers("down", below, (height - 1, width))
         beside = whole_numbers("right", beside, (height, width - 1))
         self.flat, self.shape = frozen(np.concatenate([below.ravel(), beside.ravel()])), (height, width)
@@ -41,7 +42,9 @@ class Pairs:
     @classmethod
     def from_flat(cls, flat: Any, shape: Shape) -> "Pairs":
         """The numbers in the library's order, of a raster of this shape; not copied where they are int32 already."""
-        return _named("flat", flat, shape)
+        height, width = shape
+        ask_size(height, width)
+        return _named("flat", flat, (height, width))
 
     @property
     def down(self) -> np.ndarray:

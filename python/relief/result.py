@@ -10,7 +10,7 @@ from typing import TYPE_CHECKING, Any
 
 import numpy as np
 
-from .arrays import given, whole_number
+from .arrays import frozen, given, whole_number
 from .job import Job
 from .pairs import Pairs
 
@@ -51,7 +51,7 @@ class Result:
     @cached_property
     def levels(self) -> np.ndarray:
         """The image as depths in levels: a float array. A code s is read at s + 0.5."""
-        return self.image / SUB_UNITS
+        return frozen(self.image / SUB_UNITS)
 
     def codes(self, maxval: int = 255) -> np.ndarray:
         """The image as codes, uint8: each value's own level, or the one of maxval + 1 equal levels.
