@@ -2,6 +2,7 @@
 
 from __future__ import annotations
 
+import io
 import os
 import sys
 from typing import Any, BinaryIO, List, Tuple, Union
@@ -48,15 +49,28 @@ def write_tape(target: Union[str, "os.PathLike[str]", BinaryIO], job: Job) -> No
         OSError: of a file that cannot be written.
         Refused: of a job that is not allowed.
     """
+    named = isinstance(target, (str, os.PathLike))
+    if not named and not hasattr(target, "write"):
+        raise TypeError(f"a tape is written to a name or a file, not to {type(target).__name__}")
     weights, flow = lent(job.weights), lent(job.flow)
     tape = np.empty(boundary.tape_bytes(job.codes.size, weights.size, flow.size), np.uint8)
     refusal, place, count = boundary.write(job.terms, job.quick, job.steady, job.codes, weights, flow, tape)
     if refusal:
         raise job.refused(refusal, place)
-    if isinstance(target, (str, os.PathLike)):
+    if named:
         replace({target: tape[:count].data})
     else:
-        target.write(tape[:count].data)
+        _write_all(target, tape[:count].data)
+
+
+def _write_all(file: Any, data: memoryview) -> None:
+    """Writes all of the bytes, also to a file without a buffer, which may take a part of them at a time."""
+    written = file.write(data)
+    while isinstance(file, io.RawIOBase) and written != len(data):
+        if not written:
+            raise BlockingIOError("the file takes no more bytes now")
+        data = data[written:]
+        written = file.write(data)
 
 
 def _job(tape: np.ndarray) -> Job:
