@@ -135,7 +135,8 @@ def write(terms: Terms, quick: int, steady: int, samples: np.ndarray, weights: n
           output: np.ndarray) -> Tuple[int, int, int]:
     """Writes a tape into the front of the output, and gives the number of its bytes."""
     place, count = c_uint64(), c_uint64()
-    refusal = _library.relief_write(*terms, quick, steady, *_lent(samples, weights, flow, output), byref(place), byref(count))
+    buffers = _lent(samples, weights, flow, output)
+    refusal = _library.relief_write(*terms, quick, steady, *buffers, byref(place), byref(count))
     return refusal, place.value, count.value
 
 

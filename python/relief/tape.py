@@ -15,6 +15,9 @@ from .job import Job
 from .pairs import Pairs, lent
 from .refused import Refused
 
+_MOST = boundary.read_lengths(sys.maxsize)  # samples, and weights or flow numbers, of any tape
+_LONGEST = boundary.tape_bytes(_MOST[0], _MOST[1], _MOST[1])
+
 
 def read_tape(source: Union[str, "os.PathLike[str]", BinaryIO, bytes, bytearray, memoryview]) -> Job:
     """The job of a tape.
@@ -30,7 +33,7 @@ def read_tape(source: Union[str, "os.PathLike[str]", BinaryIO, bytes, bytearray,
         data: Any = source
     elif isinstance(source, (str, os.PathLike)):
         with open(source, "rb") as file:
-            data = file.read()
+            data = file.read(_LONGEST + 1)  # of a longer file this is enough: it is refused
     elif hasattr(source, "read"):
         data = source.read()
     else:
@@ -76,7 +79,7 @@ def _write_all(file: Any, data: memoryview) -> None:
 def _job(tape: np.ndarray) -> Job:
     refusal, place, read, buffers = _read(tape, *boundary.read_lengths(tape.size))
     if refusal == 16:  # its size asks for more samples than its bytes can hold: with the longest buffers we are told why
-        refusal, place, read, buffers = _read(tape, *boundary.read_lengths(sys.maxsize))
+        refusal, place, read, buffers = _read(tape, *_MOST)
     if refusal:
         raise Refused(refusal, place)
     codes, weights, flow = buffers
