@@ -4,8 +4,10 @@ RELIEF_BIN, if set, is the path of the cleaning program, and RELIEF_REFERENCE_BI
 programs. What is not there makes tests fail, not pass.
 """
 
+import contextlib
 import io
 import os
+import resource
 import subprocess
 import sys
 from pathlib import Path
@@ -79,6 +81,18 @@ def tape_of(job):
 def figures_of(result):
     """The figures of a result as the cleaning program prints them."""
     return f"{result.outcome} {result.moved} {result.price} {result.floor} {result.slack}"
+
+
+@contextlib.contextmanager
+def limited_memory(more=2**28):
+    """The process may take no more bytes than it has and these."""
+    before = resource.getrlimit(resource.RLIMIT_AS)
+    pages = int(Path("/proc/self/statm").read_text().split()[0])
+    resource.setrlimit(resource.RLIMIT_AS, (pages * resource.getpagesize() + more, before[1]))
+    try:
+        yield
+    finally:
+        resource.setrlimit(resource.RLIMIT_AS, before)
 
 
 def run_program(test, path, data, *words):

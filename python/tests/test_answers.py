@@ -1,12 +1,13 @@
 """The package's answers beside those of the cleaning program and of the second implementation (rust/reference)."""
 
+import itertools
 import unittest
 
 import numpy as np
 
 import relief
-from jobs import (MAX_WEIGHT, TOP, clean_tape, figures_of, random_flow, random_job, random_weights, reference_answer, tape_of,
-                  treated)
+from jobs import (MAX_WEIGHT, TOP, clean_tape, figures_of, random_flow, random_job, random_weights, reference_answer,
+                  tape_of, treated)
 
 EXAMPLES = "two-by-one", "two-by-one-flow", "facade", "facade-joints"
 
@@ -39,13 +40,12 @@ class Program(unittest.TestCase):
     def test_random(self):
         rng = np.random.default_rng(1)
         outcomes = set()
-        for shape in [(1, 1), (1, 2), (2, 1), (1, 9), (9, 1), (2, 2), (3, 5), (7, 4), (13, 17), (1, 512), (512, 1), (31, 29)]:
-            for weighted in False, True:
-                for flowing in False, True:
-                    for _ in range(2):
-                        job = random_job(rng, shape, weighted, flowing)
-                        with self.subTest(job=job):
-                            outcomes.add(self.compare(job).outcome)
+        shapes = (1, 1), (1, 2), (2, 1), (1, 9), (9, 1), (2, 2), (3, 5), (7, 4), (13, 17), (1, 512), (512, 1), (31, 29)
+        for shape, weighted, flowing in itertools.product(shapes, [False, True], [False, True]):
+            for _ in range(2):
+                job = random_job(rng, shape, weighted, flowing)
+                with self.subTest(job=job):
+                    outcomes.add(self.compare(job).outcome)
         self.assertEqual(outcomes, {"settled", "spent", "checked"})
 
     def test_every_weight_and_box(self):

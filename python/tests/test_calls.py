@@ -3,17 +3,17 @@
 import _ctypes
 import pickle
 import re
-import resource
 import subprocess
 import sys
 import threading
 import time
+import tracemalloc
 import unittest
 
 import numpy as np
 
 import relief
-from jobs import TOP, figures_of, random_codes, random_flow, random_weights, tape_of
+from jobs import TOP, figures_of, limited_memory, random_codes, random_flow, random_weights, tape_of
 from relief import boundary
 from relief.calls import check_job, run_job
 
@@ -63,6 +63,11 @@ class Refusals(unittest.TestCase):
         with limited_memory():
             huge = np.broadcast_to(np.int8(0), (10**6, 10**6))
             self.refused(1, 0, "", relief.Pairs, huge[1:], huge[:, 1:])
+        codes = np.asfortranarray(np.zeros((2000, 2000), np.uint8))  # a copy would be needed to lend it
+        tracemalloc.start()
+        self.addCleanup(tracemalloc.stop)
+        self.refused(1, 0, "", relief.clean, codes, 1024, BOX)
+        self.assertLess(tracemalloc.get_traced_memory()[1], 2**18)
 
     def test_largest_sizes(self):
         """What is just allowed."""
@@ -198,19 +203,6 @@ class Refusals(unittest.TestCase):
 
     def test_version(self):
         self.assertIn(f'#define RELIEF_VERSION_STRING "{relief.__version__}"', HEADER)
-
-
-class limited_memory:
-    """The process may take no more than 256 MiB more than it has."""
-
-    def __enter__(self):
-        self.before = resource.getrlimit(resource.RLIMIT_AS)
-        with open("/proc/self/statm") as file:
-            pages = int(file.read().split()[0])
-        resource.setrlimit(resource.RLIMIT_AS, (pages * resource.getpagesize() + 2**28, self.before[1]))
-
-    def __exit__(self, *error):
-        resource.setrlimit(resource.RLIMIT_AS, self.before)
 
 
 class WrongArguments(unittest.TestCase):
@@ -509,7 +501,8 @@ class Threads(unittest.TestCase):
         codes = np.random.default_rng(22).integers(0, 256, (64, 64), np.uint8)
         expected = relief.clean(codes, 900, BOX, 20, 20)
         results = []
-        threads = [threading.Thread(target=lambda: results.append(relief.clean(codes, 900, BOX, 20, 20))) for _ in range(8)]
+        call = lambda: results.append(relief.clean(codes, 900, BOX, 20, 20))  # noqa: E731
+        threads = [threading.Thread(target=call) for _ in range(8)]
         for thread in threads:
             thread.start()
         for thread in threads:
@@ -523,20 +516,27 @@ class Threads(unittest.TestCase):
 class Library(unittest.TestCase):
     """The shared library that the package loads."""
 
-    def imported(self, **environment):
-        command = [sys.executable, "-B", "-c", "import relief"]
-        done = subprocess.run(command, env={"PYTHONPATH": str(TOP / "python"), **environment}, capture_output=True, text=True)
+    def imported(self, before="", **environment):
+        """The status and the last line of an interpreter that imports the package."""
+        environment["PYTHONPATH"] = str(TOP / "python")
+        command = [sys.executable, "-B", "-c", f"{before}import relief"]
+        done = subprocess.run(command, env=environment, capture_output=True, text=True)
         return done.returncode, done.stderr.splitlines()[-1:]
 
     def test_another_library(self):
         self.assertEqual(self.imported(RELIEF_LIBRARY=str(TOP / "python/relief/librelief.so")), (0, []))
-        status, said = self.imported(RELIEF_LIBRARY="/no/such.so")
-        self.assertEqual((status, said), (1, ["ImportError: there is no /no/such.so: `bash tools/python.sh`, at the top of the"
-                                              " repository, makes it"]))
+        said = "ImportError: there is no /no/such.so: `bash tools/python.sh`, at the top of the repository, makes it"
+        self.assertEqual(self.imported(RELIEF_LIBRARY="/no/such.so"), (1, [said]))
         for path in str(TOP / "README.md"), _ctypes.__file__:  # no library, and one of other functions
             status, said = self.imported(RELIEF_LIBRARY=path)
             self.assertEqual(status, 1)
             self.assertIn(f"ImportError: {path} is not the library of this package: ", said[0])
+
+    def test_another_version(self):
+        other = "import sys, types; sys.modules['relief.version'] = types.SimpleNamespace(__version__='9.9.9'); "
+        status, said = self.imported(other)
+        self.assertEqual(status, 1)
+        self.assertIn(f"librelief.so is version {relief.__version__}, the package is 9.9.9: `bash tools/python.sh`", said[0])
 
 
 if __name__ == "__main__":

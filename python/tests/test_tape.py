@@ -17,7 +17,7 @@ from unittest import mock
 import numpy as np
 
 import relief
-from jobs import MAX_WEIGHT, TOP, figures_of, random_job, tape_of, treated
+from jobs import MAX_WEIGHT, TOP, figures_of, limited_memory, random_job, tape_of, treated
 from relief.calls import check_job
 
 import pgm2tape  # of examples/, which jobs has put on the path
@@ -64,8 +64,8 @@ class Bytes(Tapes):
                     self.assertEqual(tape_of(again), tape)
 
     def test_ends_of_the_ranges(self):
-        for weight, box, quick, steady in (0, (0, 0), 0, 0), (MAX_WEIGHT, (255, 255), 4096, 65535), (258, (1, 254), 772, 1286):
-            job = relief.Job(CODES, weight, box, quick, steady, FLOW + MAX_WEIGHT, FLOW - MAX_WEIGHT)
+        for terms in (0, (0, 0), 0, 0), (MAX_WEIGHT, (255, 255), 4096, 65535), (258, (1, 254), 772, 1286):
+            job = relief.Job(CODES, *terms, FLOW + MAX_WEIGHT, FLOW - MAX_WEIGHT)
             self.same(relief.read_tape(tape_of(job)), job)
 
     def test_one_pixel(self):
@@ -97,9 +97,10 @@ class Bytes(Tapes):
 
     def test_largest(self):
         job = random_job(np.random.default_rng(51), (1024, 1024), True, True)
-        tape = tape_of(job)
-        self.assertEqual(len(tape), 18858000)
-        again = relief.read_tape(tape)
+        path = self.folder / "a.tape"
+        relief.write_tape(path, job)
+        self.assertEqual(path.stat().st_size, 18858000)
+        again = relief.read_tape(path)
         np.testing.assert_array_equal(again.codes, job.codes)
         np.testing.assert_array_equal(again.weights.flat, job.weights.flat)
         np.testing.assert_array_equal(again.flow.flat, job.flow.flat)
@@ -138,7 +139,7 @@ class Sources(Tapes):
         tape = tape_of(JOB)
         path = self.folder / "a.tape"
         path.write_bytes(tape)
-        for source in str(path), path, tape, bytearray(tape), memoryview(tape), io.BytesIO(tape), np.frombuffer(tape, "u1").data:
+        for source in str(path), path, tape, bytearray(tape), memoryview(tape), io.BytesIO(tape):
             self.same(relief.read_tape(source), JOB)
         for buffering in 0, -1:
             with open(path, "rb", buffering=buffering) as file:
@@ -147,6 +148,15 @@ class Sources(Tapes):
         job = relief.read_tape(data)
         data[:] = bytes(len(data))  # the job keeps nothing of the bytes
         self.same(job, JOB)
+
+    def test_longer_file(self):
+        """Of a file that is far longer than any tape, no more is read than is needed to refuse it."""
+        path = self.folder / "a.tape"
+        path.write_bytes(tape_of(JOB))
+        os.truncate(path, 2**33)  # zeros behind the tape, which take no room
+        with limited_memory(), self.assertRaises(relief.Refused) as caught:
+            relief.read_tape(path)
+        self.assertEqual((caught.exception.number, caught.exception.place), (15, len(tape_of(JOB))))
 
     def test_read_faults(self):
         for name, kind in ("no/such", FileNotFoundError), ("", IsADirectoryError):
