@@ -1,4 +1,4 @@
-"""What callers give, as arrays and numbers that the library can be lent; else a TypeError or a ValueError.
+"""What callers give, as arrays and numbers that the library can be lent; else a TypeError, a ValueError or refusal 1.
 
 An array that is contiguous, aligned and of the library's type is lent as it is. No array that is given is changed.
 """

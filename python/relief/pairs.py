@@ -37,7 +37,7 @@ class Pairs:
         ask_size(height, width)
         below = whole_numbers("down", below, (height - 1, width))
         beside = whole_numbers("right", beside, (height, width - 1))
-        self.flat, self.shape = frozen(np.concatenate([below.ravel(), beside.ravel()])), (height, width)
+        self._hold(np.concatenate([below.ravel(), beside.ravel()]), (height, width))
 
     @classmethod
     def from_flat(cls, flat: Any, shape: Shape) -> "Pairs":
@@ -64,6 +64,16 @@ class Pairs:
         below = (height - 1) * width
         row, column = divmod(index, width) if index < below else divmod(index - below, width - 1)
         return f"{'down' if index < below else 'right'}[{row}, {column}]"
+
+    def _hold(self, flat: np.ndarray, shape: Shape) -> None:
+        object.__setattr__(self, "flat", frozen(flat))
+        object.__setattr__(self, "shape", shape)
+
+    def __setattr__(self, name: str, value: Any) -> None:
+        raise AttributeError(f"{name} cannot be set: the library is lent what Pairs hold, so make others")
+
+    def __reduce__(self) -> Any:
+        return Pairs.from_flat, (self.flat, self.shape)
 
     def __repr__(self) -> str:
         return f"Pairs({self.flat.size} numbers, raster of shape {self.shape})"
@@ -118,5 +128,5 @@ def _count(shape: Shape) -> int:
 def _named(name: str, flat: Any, shape: Shape) -> Pairs:
     """Pairs from the flat order, by the name that a message gives it."""
     pairs = Pairs.__new__(Pairs)
-    pairs.flat, pairs.shape = frozen(whole_numbers(name, flat, (_count(shape),))), shape
+    pairs._hold(whole_numbers(name, flat, (_count(shape),)), shape)
     return pairs
