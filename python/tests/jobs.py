@@ -87,8 +87,10 @@ def figures_of(result):
 def limited_memory(more=2**28):
     """The process may take no more bytes than it has and these."""
     before = resource.getrlimit(resource.RLIMIT_AS)
-    pages = int(Path("/proc/self/statm").read_text().split()[0])
-    resource.setrlimit(resource.RLIMIT_AS, (pages * resource.getpagesize() + more, before[1]))
+    most = int(Path("/proc/self/statm").read_text().split()[0]) * resource.getpagesize() + more
+    if before[0] != resource.RLIM_INFINITY:
+        most = min(most, before[0])
+    resource.setrlimit(resource.RLIMIT_AS, (most, before[1]))
     try:
         yield
     finally:

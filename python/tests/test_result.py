@@ -1,10 +1,12 @@
 """What a result says: levels, codes, flow, bounds and plot; the guarantee tried; weight pictures; the doctests."""
 
+import copy
 import dataclasses
 import doctest
 import importlib
 import io
 import math
+import pickle
 import unittest
 import warnings
 from fractions import Fraction
@@ -159,6 +161,16 @@ class PairsOfNeighbours(unittest.TestCase):
                 for index in range(flat.size):
                     name, row, column = again.name_of(index).replace("[", " ").replace(",", "").strip("]").split()
                     self.assertEqual(getattr(again, name)[int(row), int(column)], index)
+
+    def test_not_to_be_changed(self):
+        """The library is lent the numbers as they are, so nothing else may take their place."""
+        pairs = relief.Pairs.from_flat(np.arange(7), (2, 3))
+        for name in "flat", "shape", "down", "right", "other":
+            with self.assertRaises(AttributeError):
+                setattr(pairs, name, np.arange(7))
+        for again in pickle.loads(pickle.dumps(pairs)), copy.copy(pairs), copy.deepcopy(pairs):
+            self.assertEqual((again.flat.tolist(), again.shape), (list(range(7)), (2, 3)))
+            self.assertFalse(again.flat.flags.writeable)
 
     def test_given_alike(self):
         """A flow as pairs, as a tuple and in the flat order is one flow."""
@@ -361,14 +373,24 @@ class WeightPictures(unittest.TestCase):
         np.testing.assert_array_equal(pairs.flat, job.weights.flat)
 
 
-class Doctests(unittest.TestCase):
-    def test_modules(self):
+class Representations(unittest.TestCase):
+    def test_doctests(self):
         attempted = 0
         for path in sorted(Path(relief.__file__).parent.glob("[!_]*.py")):
             failed, tried = doctest.testmod(importlib.import_module(f"relief.{path.stem}"))
             self.assertEqual(failed, 0, path.name)
             attempted += tried
         self.assertGreaterEqual(attempted, 4)
+
+    def test_pickled(self):
+        """A result comes back from another process with all that it has."""
+        for _, result in random_results(44, 4):
+            again = pickle.loads(pickle.dumps(result))
+            self.assertEqual(repr(again), repr(result))
+            np.testing.assert_array_equal(again.image, result.image)
+            np.testing.assert_array_equal(again.flow.flat, result.flow.flat)
+            np.testing.assert_array_equal(again.job.codes, result.job.codes)
+            self.assertEqual(again.job.terms, result.job.terms)
 
     def test_representations(self):
         result = relief.clean(np.array([[0, 2]], np.uint8), 256, (0, 255), 0, 100)
