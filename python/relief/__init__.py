@@ -9,7 +9,7 @@ and weights are whole numbers of them. Everything is computed by the library, wh
 promise is said at Result and in the README.
 """
 
-from .calls import QUICK, STEADY, check, clean, price
+from .calls import QUICK, STEADY, check, check_job, clean, clean_job, price
 from .job import Job
 from .pairs import Pairs, weights_from_picture
 from .refused import Refused
@@ -17,5 +17,5 @@ from .result import Result
 from .tape import read_tape, write_tape
 from .version import __version__
 
-__all__ = ["QUICK", "STEADY", "Job", "Pairs", "Refused", "Result", "__version__", "check", "clean", "price", "read_tape",
-           "weights_from_picture", "write_tape"]
+__all__ = ["QUICK", "STEADY", "Job", "Pairs", "Refused", "Result", "__version__", "check", "check_job", "clean", "clean_job",
+           "price", "read_tape", "weights_from_picture", "write_tape"]

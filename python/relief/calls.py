@@ -36,7 +36,7 @@ def clean(codes: Any, weight: int, box: Tuple[int, int], quick: int = QUICK, ste
     >>> clean(np.array([[0, 2]], np.uint8), weight=256, box=(0, 255), quick=0, steady=100)
     Result(2 x 1 pixels: settled 17, price 131080, floor 131064, slack 16)
     """
-    return run_job(Job(codes, weight, box, quick, steady, weights))
+    return clean_job(Job(codes, weight, box, quick, steady, weights))
 
 
 def check(codes: Any, flow: Any, weight: int, box: Tuple[int, int], weights: Any = None) -> Result:
@@ -80,7 +80,7 @@ def price(codes: Any, image: Any, weight: int, box: Tuple[int, int], weights: An
     return figures.price
 
 
-def run_job(job: Job) -> Result:
+def clean_job(job: Job) -> Result:
     """Does the rounds of a job; a flow that it has is left aside."""
     pairs = boundary.pairs(*job.terms[:2])
     image, flow, work = np.empty(job.shape, np.int32), np.empty(pairs, np.int32), np.empty(2 * pairs, np.int32)

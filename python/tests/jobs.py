@@ -15,7 +15,7 @@ from pathlib import Path
 import numpy as np
 
 import relief
-from relief.calls import check_job, run_job
+from relief.calls import check_job, clean_job
 
 sys.dont_write_bytecode = True
 TOP = Path(__file__).resolve().parents[2]
@@ -68,7 +68,7 @@ def random_flow(rng, weights, count):
 
 def treated(job):
     """What the cleaning program does with a job: checks its flow, or else runs it."""
-    return run_job(job) if job.flow is None else check_job(job)
+    return clean_job(job) if job.flow is None else check_job(job)
 
 
 def tape_of(job):

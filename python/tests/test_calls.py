@@ -15,7 +15,7 @@ import numpy as np
 import relief
 from jobs import TOP, figures_of, limited_memory, random_codes, random_flow, random_weights, tape_of
 from relief import boundary
-from relief.calls import check_job, run_job
+from relief.calls import check_job, clean_job
 
 HEADER = (TOP / "include/relief.h").read_text()
 BOX = 0, 255
@@ -488,7 +488,7 @@ class Threads(unittest.TestCase):
             while not counted[0]:
                 time.sleep(0.001)
             before, begun = counted[0], time.perf_counter()
-            run_job(job)
+            clean_job(job)
             during, seconds = counted[0] - before, time.perf_counter() - begun
         finally:
             stop.set()
