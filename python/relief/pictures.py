@@ -5,18 +5,20 @@ What is kept of a picture when it is written again: its form, its maxval (PGM) a
 
 from __future__ import annotations
 
+import contextlib
 import io
+import os
 import re
 import struct
 import warnings
 import zlib
 from dataclasses import dataclass, field
-from typing import Any, BinaryIO, Dict
+from typing import Any, BinaryIO, Dict, Iterator, Tuple
 
 import numpy as np
 
-from . import boundary
-from .arrays import raster
+from . import boundary, tiff
+from .arrays import Shape, raster
 from .refused import Refused
 
 _PGM_COMMENT = rb"#[^\r\n]*[\r\n]"
@@ -26,9 +28,9 @@ _PGM_HEADING_BYTES = 65536  # as far as a heading may go, with its comments
 
 _PNG_SIGNATURE = b"\x89PNG\r\n\x1a\n"
 _PNG_COLOURS = {2: "colour", 3: "a palette", 4: "transparency", 6: "colour and transparency"}
-_TIFF_SIGNATURES = b"II*\0", b"MM\0*"
-_TIFF_RESOLUTION = 282, 283, 296  # along x, along y, their unit
-_TIFF_LOSSLESS = "raw", "packbits", "tiff_lzw", "tiff_adobe_deflate"
+_PNG_CUT = "cut off or damaged, not a whole PNG picture"
+_PNG_PASSES = (0, 0, 8, 8), (0, 4, 8, 8), (4, 0, 8, 4), (0, 2, 4, 4), (2, 0, 4, 2), (0, 1, 2, 2), (1, 0, 2, 1)
+_TIFF_LOSSLESS = {5: "tiff_lzw", 8: "tiff_adobe_deflate", 32946: "tiff_adobe_deflate", 32773: "packbits"}
 
 
 @dataclass(frozen=True, eq=False)
@@ -66,10 +68,9 @@ def read_picture(path: Any) -> Picture:
             raise ValueError("empty, not a picture")
         if heading.startswith((b"P2", b"P5")):
             return _read_pgm(heading, file)
-        file.seek(0)
         if heading.startswith(_PNG_SIGNATURE):
-            return _read_png(file.read())
-        if heading.startswith(_TIFF_SIGNATURES):
+            return _read_png(heading, file)
+        if heading.startswith(tuple(tiff.SIGNATURES)):
             return _read_tiff(file)
     raise ValueError("not a PGM (P2 or P5), PNG or TIFF picture")
 
@@ -116,35 +117,67 @@ def _pgm(picture: Picture, samples: np.ndarray) -> bytes:
     return heading + b"".join(b" ".join(b"%d" % sample for sample in row) + b"\n" for row in samples.tolist())
 
 
-def _read_png(data: bytes) -> Picture:
+def _read_png(heading: bytes, file: BinaryIO) -> Picture:
+    width, height, size = _png_size(heading)
+    data = heading + file.read()
     kept: Dict[str, Any] = {}
-    for kind, body in _png_chunks(data):
-        if kind == b"IHDR":
-            width, height, bits, colour = struct.unpack(">IIBB", body[:10])
-            if colour:
-                raise ValueError(f"has {_PNG_COLOURS.get(colour, 'an unknown kind of colour')}: a grey picture is needed")
-            if bits != 8:
-                raise ValueError(f"has {bits} bits for a sample: 8 are needed")
-            _ask_size(width, height)
+    needed, packed = [_PNG_SIGNATURE], []
+    for kind, body, chunk in _png_chunks(data):
+        if kind in (b"IHDR", b"IDAT", b"IEND"):
+            needed.append(chunk)
+        if kind == b"IDAT":
+            packed.append(body)
         elif kind == b"pHYs":
             kept["pHYs"] = body
         elif kind == b"tRNS":
             raise ValueError("has a transparent value: a grey picture without one is needed")
         elif kind == b"acTL":
             raise ValueError("is animated: one picture is needed")
-    return Picture("PNG", _decoded(io.BytesIO(data), "PNG"), kept=kept)
+    _ask_unpacked(b"".join(packed), size)
+    return Picture("PNG", _decoded(b"".join(needed), "PNG", (height, width)), kept=kept)
 
 
-def _png_chunks(data: bytes):
-    """Kind and body of each chunk, from the first to the end."""
+def _png_size(heading: bytes) -> Tuple[int, int, int]:
+    """Width, height, and how many bytes that is unpacked: a filter's number and the samples for each row of each pass."""
+    start = len(_PNG_SIGNATURE)
+    if heading[start:start + 8] != b"\0\0\0\x0dIHDR" or len(heading) < start + 25:
+        raise ValueError(_PNG_CUT)
+    width, height, bits, colour, _, _, interlaced = struct.unpack(">IIBBBBB", heading[start + 8:start + 21])
+    if colour:
+        raise ValueError(f"has {_PNG_COLOURS.get(colour, 'an unknown kind of colour')}: a grey picture is needed")
+    if bits != 8:
+        raise ValueError(f"has {bits} bits for a sample: 8 are needed")
+    _ask_size(width, height)
+    passes = _PNG_PASSES if interlaced else [(0, 0, 1, 1)]
+    sizes = [(len(range(top, height, down)), len(range(left, width, right))) for top, left, down, right in passes]
+    return width, height, sum(rows * (columns + 1) for rows, columns in sizes if columns)
+
+
+def _png_chunks(data: bytes) -> Iterator[Tuple[bytes, bytes, bytes]]:
+    """Kind, body and all bytes of each chunk, from the first to the end, which are whole by their checksums."""
     start, kind = len(_PNG_SIGNATURE), b""
     while kind != b"IEND":
-        length = int.from_bytes(data[start:start + 4], "big")
-        kind, body = data[start + 4:start + 8], data[start + 8:start + 8 + length]
-        if len(data) < start + 12 + length or (start == len(_PNG_SIGNATURE)) != (kind == b"IHDR"):
-            raise ValueError("cut off or damaged, not a whole PNG picture")
-        yield kind, body
-        start += 12 + length
+        end = start + 12 + int.from_bytes(data[start:start + 4], "big")
+        if len(data) < end:
+            raise ValueError(_PNG_CUT)
+        chunk = data[start:end]
+        kind, body = chunk[4:8], chunk[8:-4]
+        again = kind == b"IHDR" and start > len(_PNG_SIGNATURE)
+        if again or zlib.crc32(chunk[4:-4]) != int.from_bytes(chunk[-4:], "big"):
+            raise ValueError(_PNG_CUT)
+        yield kind, body, chunk
+        start = end
+
+
+def _ask_unpacked(packed: bytes, size: int) -> None:
+    """A ValueError of data that do not unpack to so many bytes: Pillow would leave the rest of the picture black."""
+    unpacking = zlib.decompressobj()
+    try:
+        unpacked = unpacking.decompress(packed, size + 1)
+    except zlib.error:
+        raise ValueError(_PNG_CUT) from None
+    if len(unpacked) != size or not unpacking.eof:
+        raise ValueError(_PNG_CUT)
 
 
 def _png(picture: Picture, samples: np.ndarray) -> bytes:
@@ -158,56 +191,60 @@ def _png(picture: Picture, samples: np.ndarray) -> bytes:
 
 
 def _read_tiff(file: BinaryIO) -> Picture:
-    kept: Dict[str, Any] = {}
-    samples = _decoded(file, "TIFF", kept)
-    return Picture("TIFF", samples, kept=kept)
-
-
-def _ask_tiff(image: Any, kept: Dict[str, Any]) -> None:
-    """A ValueError of a TIFF picture that is not one grey picture of 8 bits as it stands; notes what is kept of it."""
-    bits, tags = image.tag_v2.get(258, (1,)), image.tag_v2
-    if tags.get(262) not in (0, 1):
-        raise ValueError("has colour: a grey picture is needed")
-    if len(bits) != 1:
-        raise ValueError("has transparency or several values for a pixel: a grey picture is needed")
-    if bits[0] != 8 or image.mode != "L":
-        raise ValueError(f"has {bits[0]} bits for a sample, or signed ones: 8 bits, 0 to 255, are needed")
-    if tags.get(262) == 0:
-        raise ValueError("is stored with 0 for white: save it with 0 for black")
-    if tags.get(274, 1) != 1:
-        raise ValueError("is stored turned or mirrored: save it upright")
-    if image.n_frames != 1:
-        raise ValueError(f"has {image.n_frames} pictures: one is needed")
-    _ask_size(*image.size)
-    kept["tags"] = {tag: tags[tag] for tag in _TIFF_RESOLUTION if tag in tags}
-    compression = image.info.get("compression", "raw")
-    kept["compression"] = compression if compression in _TIFF_LOSSLESS else "raw"
+    directory = tiff.Directory(file)
+    directory.ask_grey()
+    width, height = directory.numbers(tiff.WIDTH)[0], directory.numbers(tiff.HEIGHT)[0]
+    _ask_size(width, height)
+    directory.ask_whole()
+    compression = directory.numbers(tiff.COMPRESSION, 1)[0]
+    kept = {"resolution": directory.resolution(), "compression": _TIFF_LOSSLESS.get(compression, "raw")}
+    file.seek(0)
+    return Picture("TIFF", _decoded(file.read(), "TIFF", (height, width)), kept=kept)
 
 
 def _tiff(picture: Picture, samples: np.ndarray) -> bytes:
     from PIL import TiffImagePlugin
-    tags = TiffImagePlugin.ImageFileDirectory_v2()
-    for tag, value in picture.kept["tags"].items():
-        tags[tag] = value
-    return _saved(samples, "TIFF", tiffinfo=tags, compression=picture.kept["compression"])
+    tags, resolution = TiffImagePlugin.ImageFileDirectory_v2(), picture.kept["resolution"]
+    for tag in resolution:
+        tags[tag] = 1  # libtiff would round a fraction: it is put in afterwards
+    data = _saved(samples, "TIFF", tiffinfo=tags, compression=picture.kept["compression"])
+    return tiff.with_resolution(data, resolution)
 
 
-def _decoded(file: Any, form: str, kept: Any = None) -> np.ndarray:
-    """The samples of a picture that Pillow decodes."""
+def _decoded(data: bytes, form: str, shape: Shape) -> np.ndarray:
+    """The samples of a picture that Pillow decodes, which has this shape."""
     from PIL import Image
-    with warnings.catch_warnings():
-        warnings.simplefilter("ignore")  # what is wrong is told by an error
-        try:
-            with Image.open(file, formats=[form]) as image:
-                if form == "TIFF":
-                    _ask_tiff(image, kept)
-                return np.asarray(image)
-        except (Refused, ValueError):
-            raise
-        except Image.DecompressionBombError:
-            raise Refused(1) from None
-        except Exception as error:  # Pillow raises errors of many kinds on damaged files
-            raise ValueError(f"cut off or damaged, not a whole {form} picture ({error})") from None
+    try:
+        with warnings.catch_warnings(), _quiet():
+            warnings.simplefilter("ignore")  # what is wrong is told by an error
+            with Image.open(io.BytesIO(data), formats=[form]) as image:
+                image.load()
+                samples = np.asarray(image)
+    except MemoryError:
+        raise
+    except Exception:  # Pillow raises errors of many kinds on damaged files
+        samples = np.zeros(0)
+    if samples.dtype != np.uint8 or samples.shape != shape:
+        raise ValueError(f"cut off or damaged, not a whole {form} picture")
+    return samples
+
+
+@contextlib.contextmanager
+def _quiet() -> Iterator[None]:
+    """Lets nothing through to standard error for this moment: libtiff writes there by itself what is wrong."""
+    try:
+        former = os.dup(2)
+    except OSError:  # it is closed
+        yield
+        return
+    nowhere = os.open(os.devnull, os.O_WRONLY)
+    try:
+        os.dup2(nowhere, 2)
+        yield
+    finally:
+        os.dup2(former, 2)
+        os.close(former)
+        os.close(nowhere)
 
 
 def _saved(samples: np.ndarray, form: str, **options: Any) -> bytes:
