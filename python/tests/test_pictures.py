@@ -1,0 +1,432 @@
+"""Pictures: what is read, what is kept when one is written again, and the fault of each that is not taken."""
+
+import io
+import os
+import random
+import struct
+import sys
+import tempfile
+import unittest
+import zlib
+from pathlib import Path
+
+import numpy as np
+from PIL import Image, TiffImagePlugin
+
+from relief.pictures import read_picture
+from relief.refused import Refused
+
+TOP = Path(__file__).resolve().parents[2]
+sys.path.insert(0, str(TOP / "examples"))
+
+import answer2pgm  # noqa: E402
+import pgm  # noqa: E402
+import pgm2tape  # noqa: E402
+
+GREY = np.random.default_rng(1).integers(0, 256, (13, 11), dtype=np.uint8)
+DEEP = np.arange(12, dtype=np.uint16).reshape(3, 4)
+COMPRESSIONS = "raw", "packbits", "tiff_lzw", "tiff_adobe_deflate"
+PASSES = (0, 0, 8, 8), (0, 4, 8, 8), (4, 0, 8, 4), (0, 2, 4, 4), (2, 0, 4, 2), (0, 1, 2, 2), (1, 0, 2, 1)
+
+
+def saved(picture, form, **options):
+    """The bytes of a picture as Pillow saves it."""
+    if isinstance(picture, np.ndarray):
+        picture = Image.fromarray(picture)
+    file = io.BytesIO()
+    picture.save(file, form, **options)
+    return file.getvalue()
+
+
+def chunk(kind, body):
+    """A chunk of a PNG file."""
+    return struct.pack(">I", len(body)) + kind + body + struct.pack(">I", zlib.crc32(kind + body))
+
+
+def png(samples=GREY, *chunks, heading=None, rows=None, interlaced=False):
+    """A PNG picture made by hand: with chunks before its data, another heading, or other rows."""
+    height, width = samples.shape
+    if heading is None:
+        heading = struct.pack(">IIBBBBB", width, height, 8, 0, 0, 0, interlaced)
+    if rows is None:
+        parts = [samples[top::down, left::right] for top, left, down, right in PASSES] if interlaced else [samples]
+        rows = b"".join(b"\0" + row.tobytes() for part in parts if part.size for row in part)
+    return b"".join([b"\x89PNG\r\n\x1a\n", chunk(b"IHDR", heading), *chunks, chunk(b"IDAT", zlib.compress(rows)),
+                     chunk(b"IEND", b"")])
+
+
+def tiff(samples=GREY, order="<", rows=None, tile=None, gap=b"", **fields):
+    """An uncompressed TIFF picture made by hand, its directory at the end: in strips of some rows or in square tiles."""
+    height, width = samples.shape
+    if tile:
+        wide = np.zeros((-(-height // tile) * tile, -(-width // tile) * tile), np.uint8)
+        wide[:height, :width] = samples
+        parts = [wide[y:y + tile, x:x + tile] for y in range(0, height, tile) for x in range(0, width, tile)]
+        fixed = {322: ("H", [tile]), 323: ("H", [tile])}
+    else:
+        parts = [samples[y:y + (rows or height)] for y in range(0, height, rows or height)]
+        fixed = {278: ("H", [rows or height])}
+    data, starts = b"", []
+    for part in parts:
+        data += gap
+        starts.append(8 + len(data))
+        data += part.tobytes()
+    where, how_long = (324, 325) if tile else (273, 279)
+    fixed.update({256: ("H", [width]), 257: ("H", [height]), 258: ("H", [8]), 259: ("H", [1]), 262: ("H", [1]),
+                  277: ("H", [1]), where: ("L", starts), how_long: ("L", [part.size for part in parts])})
+    fixed.update({int(name[1:]): value for name, value in fields.items()})
+    return directory(order, data, {tag: value for tag, value in fixed.items() if value is not None})
+
+
+def directory(order, data, fields, following=0):
+    """A TIFF file: the data from byte 8 on, then the directory of these fields and what does not fit into it."""
+    kinds = {"B": 1, "H": 3, "L": 4, "R": 5}
+    start = 8 + len(data)
+    behind, entries = start + 6 + 12 * len(fields), b""
+    extra = b""
+    for tag, (letter, numbers) in sorted(fields.items()):
+        count = len(numbers) // (2 if letter == "R" else 1)
+        body = struct.pack(order + len(numbers) * letter.replace("R", "L"), *numbers)
+        if len(body) > 4:
+            place, extra = behind + len(extra), extra + body
+            body = struct.pack(order + "L", place)
+        entries += struct.pack(order + "HHL", tag, kinds[letter], count) + body.ljust(4, b"\0")
+    mark = b"II*\0" if order == "<" else b"MM\0*"
+    return b"".join([mark, struct.pack(order + "L", start), data, struct.pack(order + "H", len(fields)), entries,
+                     struct.pack(order + "L", following), extra])
+
+
+def resolution(data):
+    """The fields of a TIFF file's resolution, as Pillow reads them: fractions as two numbers."""
+    with Image.open(io.BytesIO(data)) as image:
+        image.load()
+        found = {tag: image.tag_v2[tag] for tag in (282, 283, 296) if tag in image.tag_v2}
+    return {tag: value if tag == 296 else (value._numerator, value._denominator) for tag, value in found.items()}
+
+
+class Pictures(unittest.TestCase):
+    """Pictures are read from a file in a folder of the test's own; standard error is watched."""
+
+    def setUp(self):
+        folder = tempfile.TemporaryDirectory()
+        self.addCleanup(folder.cleanup)
+        self.folder, self.files = folder.name, 0
+        self.said, self.former = tempfile.TemporaryFile(), os.dup(2)
+        self.addCleanup(self.hear)
+
+    def hear(self):
+        """Nothing has come to standard error."""
+        os.close(self.former)
+        with self.said:
+            self.said.seek(0)
+            self.assertEqual(self.said.read(), b"")
+
+    def read(self, data):
+        self.files += 1
+        path = os.path.join(self.folder, str(self.files))
+        with open(path, "wb") as file:
+            file.write(data)
+        sys.stderr.flush()
+        os.dup2(self.said.fileno(), 2)
+        try:
+            return read_picture(path)
+        finally:
+            sys.stderr.flush()
+            os.dup2(self.former, 2)
+            os.unlink(path)
+
+    def fails(self, data, words, error=ValueError):
+        with self.assertRaises(error) as raised:
+            self.read(data)
+        self.assertIs(type(raised.exception), error)
+        self.assertIn(words, str(raised.exception))
+        self.assertNotIn("\n", str(raised.exception))
+
+    def comes_back(self, data, samples=GREY, form=None):
+        """The picture, which has these samples, and again when it is written with them and others; and those bytes."""
+        picture = self.read(data)
+        self.assertEqual((picture.samples.tolist(), picture.samples.dtype), (samples.tolist(), np.uint8))
+        self.assertEqual(picture.form, form or picture.form)
+        other = picture.maxval - samples
+        written = picture.encoded(other)
+        again = self.read(written)
+        self.assertEqual(again.samples.tolist(), other.tolist())
+        self.assertEqual((again.form, again.maxval, again.kept), (picture.form, picture.maxval, picture.kept))
+        return picture, written
+
+    def fault_or_same(self, data, samples=GREY):
+        """A damaged picture is a fault that is told, or its samples are the same."""
+        try:
+            found = self.read(data).samples
+        except (ValueError, Refused) as error:
+            self.assertNotIn("0x", str(error))
+            return False
+        self.assertEqual(found.tolist(), samples.tolist())
+        return True
+
+
+class Pgm(Pictures):
+    def test_forms(self):
+        plain = b"P2 # a\n#b\n2 # c\r\n1#d\n\n255 # e\n7 # f\n9\n# g"
+        picture, written = self.comes_back(plain, np.array([[7, 9]], np.uint8), "PGM")
+        self.assertEqual(written, b"P2\n2 1\n255\n248 246\n")
+        binary = b"P5\n# made by hand\n2 1\n# once more\n255\n##"
+        picture, written = self.comes_back(binary, np.array([[35, 35]], np.uint8), "PGM")
+        self.assertEqual(written, b"P5\n2 1\n255\n\xdc\xdc")
+        self.comes_back(b"P5 11 13 255 " + GREY.tobytes())
+
+    def test_scaled_as_the_scripts_do(self):
+        """Codes as pgm2tape.py has them, and samples of an image as answer2pgm.py."""
+        for maxval in 1, 63, 254, 255:
+            samples = (np.arange(2 * (maxval + 1)).reshape(2, -1) % (maxval + 1)).astype(np.uint8)
+            values = np.arange(2 * (maxval + 1)).reshape(2, -1) * 65535 // (2 * maxval + 1)
+            text = pgm.text(samples.tolist(), maxval).encode()
+            for data in text, b"P5 %d 2 %d\n" % (maxval + 1, maxval) + samples.tobytes():
+                picture, _ = self.comes_back(data, samples)
+                self.assertEqual(picture.maxval, maxval)
+                self.assertEqual((picture.codes.tolist(), picture.maxval), pgm2tape.read(data))
+                self.assertEqual(picture.codes.dtype, np.uint8)
+                due = [[answer2pgm.sample(int(value), maxval) for value in row] for row in values]
+                found = self.read(picture.encoded((values * (maxval + 1) // 65536).astype(np.uint8)))
+                self.assertEqual(found.samples.tolist(), due)
+
+    def test_faults(self):
+        for data, words in [
+            (b"", "empty, not a picture"),
+            (b"P", "not a PGM (P2 or P5), PNG or TIFF picture"),
+            (b"some text\n", "not a PGM (P2 or P5), PNG or TIFF picture"),
+            (b"P6 1 1 255\n000", "not a PGM (P2 or P5), PNG or TIFF picture"),
+            (b"P5 1 1", "its heading is damaged"),
+            (b"P2 -1 1 255 1", "its heading is damaged"),
+            (b"P5 #" + 70000 * b"x" + b"\n1 1 255\n1", "its heading is damaged"),
+            (b"P2 1 1 255 # open", "0 samples, but 1 x 1 pixels need 1"),
+            (b"P5 2 2 255\n123", "3 samples, but 2 x 2 pixels need 4"),
+            (b"P2 2 2 255\n1 2 3", "3 samples, but 2 x 2 pixels need 4"),
+            (b"P2 2 2 255\n1 2 3 4 5", "5 samples, but 2 x 2 pixels need 4"),
+            (b"P5 2 1 255\n123", "3 samples at least, but 2 x 1 pixels need 2"),
+            (b"P2 1 1 0\n0", "maxval 0"),
+            (b"P2 2 1 63\n1 64\n", "a sample is not a number from 0 to 63"),
+            (b"P2 2 1 255\n1 256\n", "a sample is not a number from 0 to 255"),
+            (b"P5 1 1 63\n\x40", "a sample is not a number from 0 to 63"),
+            (b"P2 2 1 255\n1 -1\n", "a sample is not a whole number"),
+            (b"P2 1 1 255\n" + 9999 * b"1", "a sample is not a whole number"),
+            (b"P5 1 1 256\n\0\0", "maxval 256: samples of 16 bits are not taken"),
+            (b"P2 1 1 65535\n0", "maxval 65535: samples of 16 bits are not taken"),
+        ]:
+            with self.subTest(data[:20]):
+                self.fails(data, words)
+
+    def test_sizes(self):
+        """By the heading alone."""
+        for size in "0 5", "5 0", "4097 1", "1 4097", "1025 1024", "999999999 999999999":
+            for kind in "P2", "P5":
+                self.fails(f"{kind} {size} 255\n".encode(), f"refused 1 at 0 ({size.replace(' ', ' x ')} pixels)", Refused)
+
+    def test_cut(self):
+        samples = GREY[:5]
+        binary = b"P5\n# a\n11 5\n255\n" + samples.tobytes()
+        for length in range(len(binary)):
+            self.assertFalse(self.fault_or_same(binary[:length], samples))
+        plain = pgm.text((100 + samples % 100).tolist()).encode()  # what is left of a number shows that it was cut
+        for length in range(len(plain) - 4):
+            self.assertFalse(self.fault_or_same(plain[:length], samples))
+
+
+class Png(Pictures):
+    def test_resolution(self):
+        for unit in 0, 1:
+            body = struct.pack(">IIB", 11811, 2**31 - 1, unit)
+            _, written = self.comes_back(png(GREY, chunk(b"pHYs", body)), form="PNG")
+            self.assertEqual(written.count(chunk(b"pHYs", body)), 1)
+        for data in png(), saved(GREY, "PNG"):
+            self.assertNotIn(b"pHYs", self.comes_back(data)[1])
+        data = saved(GREY, "PNG", dpi=(300, 300.3))
+        with Image.open(io.BytesIO(self.comes_back(data)[1])) as image:
+            self.assertEqual(image.info["dpi"], Image.open(io.BytesIO(data)).info["dpi"])
+
+    def test_forms(self):
+        """Interlaced, of every small size; in several pieces; with words beside it."""
+        for height in range(1, 10):
+            for width in range(1, 10):
+                samples = GREY[:height, :width]
+                self.assertEqual(self.read(png(samples, interlaced=True)).samples.tolist(), samples.tolist())
+        self.comes_back(png(interlaced=True))
+        large = np.random.default_rng(2).integers(0, 256, (300, 400), dtype=np.uint8)
+        self.assertGreater(saved(large, "PNG").count(b"IDAT"), 1)
+        self.comes_back(saved(large, "PNG"), large)
+        words = chunk(b"zTXt", b"long\0\0" + zlib.compress(bytes(2000000)))
+        self.comes_back(png(GREY, chunk(b"gAMA", struct.pack(">I", 45455)), words))
+
+    def test_faults(self):
+        still = Image.fromarray(GREY)
+        for data, words in [
+            (saved(DEEP, "PNG"), "has 16 bits for a sample: 8 are needed"),
+            (saved(still.convert("1"), "PNG"), "has 1 bits"),
+            (png(heading=struct.pack(">IIBBBBB", 11, 13, 2, 0, 0, 0, 0)), "has 2 bits"),
+            (png(heading=struct.pack(">IIBBBBB", 11, 13, 4, 0, 0, 0, 0)), "has 4 bits"),
+            (saved(still.convert("P"), "PNG"), "has a palette: a grey picture is needed"),
+            (saved(still.convert("RGB"), "PNG"), "has colour: a grey picture is needed"),
+            (saved(still.convert("LA"), "PNG"), "has transparency: a grey picture is needed"),
+            (saved(still.convert("RGBA"), "PNG"), "has colour and transparency: a grey picture is needed"),
+            (png(heading=struct.pack(">IIBBBBB", 11, 13, 8, 7, 0, 0, 0)), "has an unknown kind of colour"),
+            (saved(GREY, "PNG", transparency=7), "has a transparent value"),
+            (saved(still, "PNG", save_all=True, append_images=[Image.fromarray(255 - GREY)]), "is animated"),
+            (png(heading=b"short"), "cut off or damaged, not a whole PNG picture"),
+            (png(heading=struct.pack(">IIBBBBB", 11, 13, 8, 0, 9, 9, 9)), "cut off or damaged"),
+            (png(rows=b"\0" + GREY[0].tobytes()), "cut off or damaged"),
+            (png(rows=(b"\0" + GREY[0].tobytes()) * 14), "cut off or damaged"),
+            (png(rows=(b"\7" + GREY[0].tobytes()) * 13), "cut off or damaged"),
+            (png(GREY, chunk(b"IHDR", struct.pack(">IIBBBBB", 7, 7, 8, 0, 0, 0, 0))), "cut off or damaged"),
+            (png(GREY, chunk(b"IEND", b"")), "cut off or damaged"),
+            (saved(GREY, "JPEG"), "not a PGM (P2 or P5), PNG or TIFF picture"),
+            (saved(GREY, "GIF"), "not a PGM (P2 or P5), PNG or TIFF picture"),
+        ]:
+            with self.subTest(words):
+                self.fails(data, words)
+
+    def test_sizes(self):
+        """By the heading alone, without the memory that such a picture needs."""
+        for size in (0, 5), (5, 0), (4097, 1), (1025, 1024), (60000, 60000), (2**32 - 1, 2**32 - 1):
+            heading = struct.pack(">IIBBBBB", *size, 8, 0, 0, 0, 0)
+            self.fails(png(heading=heading), "refused 1 at 0 ({} x {} pixels)".format(*size), Refused)
+
+    def test_cut(self):
+        for data in png(GREY, chunk(b"pHYs", bytes(9))), saved(GREY, "PNG"):
+            for length in range(len(data)):
+                self.assertFalse(self.fault_or_same(data[:length]))
+
+    def test_flipped(self):
+        """A bit that is not as it was, at any place, does not go unseen."""
+        data = saved(GREY, "PNG", dpi=(300, 300))
+        for place in range(len(data)):
+            with self.subTest(place):
+                flipped = bytearray(data)
+                flipped[place] ^= 1 << place % 8
+                self.assertFalse(self.fault_or_same(flipped))
+
+
+class Tiff(Pictures):
+    def test_forms(self):
+        for compression in COMPRESSIONS:
+            data = saved(GREY, "TIFF", compression=compression)
+            picture, written = self.comes_back(data, form="TIFF")
+            with Image.open(io.BytesIO(written)) as image:
+                self.assertEqual(image.info["compression"], compression)
+            self.assertEqual(resolution(written), {})
+        for order in "<", ">":
+            for layout in {}, {"rows": 5}, {"rows": 1, "gap": b"?"}, {"tile": 16}, {"tile": 16, "gap": b"??"}:
+                with self.subTest(order=order, **layout):
+                    self.comes_back(tiff(order=order, **layout))
+        large = np.random.default_rng(3).integers(0, 256, (300, 400), dtype=np.uint8)
+        for compression in COMPRESSIONS:
+            self.comes_back(saved(large, "TIFF", compression=compression), large)
+        self.comes_back(tiff(large, ">", tile=64), large)
+
+    def test_resolution(self):
+        """As it stands in the file, whatever its unit and compression."""
+        due = {282: (3003, 10), 283: (1234567891, 1000003), 296: 3}
+        for order in "<", ">":
+            for unit in 1, 2, 3, None:
+                fields = {"_282": ("R", due[282]), "_283": ("R", due[283]), "_296": unit and ("H", [unit])}
+                _, written = self.comes_back(tiff(order=order, **fields))
+                kept = {tag: value for tag, value in {**due, 296: unit}.items() if value is not None}
+                self.assertEqual(resolution(written), kept)
+        tags = TiffImagePlugin.ImageFileDirectory_v2()
+        for tag, value in due.items():
+            tags[tag] = value if tag == 296 else TiffImagePlugin.IFDRational(*value)
+        for compression in COMPRESSIONS[1:]:
+            data = saved(GREY, "TIFF", compression=compression, tiffinfo=tags)
+            _, written = self.comes_back(data)
+            self.assertEqual(resolution(written), resolution(data))
+            picture = self.read(tiff(_282=("R", due[282]), _283=("R", due[283]), _296=("H", [3])))
+            picture.kept["compression"] = compression
+            self.assertEqual(resolution(picture.encoded(GREY)), due)
+        for odd in (0, 0), (5, 0), (0, 7), (2**32 - 1, 1), (600, 2):
+            picture, _ = self.comes_back(tiff(_282=("R", odd)))
+            self.assertEqual(picture.kept["resolution"], {282: odd})
+
+    def test_faults(self):
+        still = Image.fromarray(GREY)
+        cut = "cut off or damaged, not a whole TIFF picture"
+        for data, words in [
+            (saved(DEEP, "TIFF"), "has 16 bits for a sample: 8 are needed"),
+            (saved(still.convert("1"), "TIFF"), "has 1 bits for a sample: 8 are needed"),
+            (saved(GREY.astype(np.float32), "TIFF"), "has 32 bits for a sample: 8 are needed"),
+            (saved(GREY.astype(np.int32), "TIFF"), "has 32 bits for a sample: 8 are needed"),
+            (tiff(_339=("H", [2])), "has signed samples"),
+            (tiff(_339=("H", [3])), "has signed samples, or of an unknown kind"),
+            (saved(still.convert("P"), "TIFF"), "has colour: a grey picture is needed"),
+            (saved(still.convert("RGB"), "TIFF"), "has colour: a grey picture is needed"),
+            (saved(still.convert("LA"), "TIFF"), "has transparency or several values for a pixel"),
+            (tiff(_262=("H", [0])), "is stored with 0 for white"),
+            (tiff(_274=("H", [3])), "is stored turned or mirrored"),
+            (saved(still, "TIFF", save_all=True, append_images=[still]), "has more than one picture: one is needed"),
+            (tiff(_262=None), cut),
+            (tiff(_256=None), cut),
+            (tiff(_273=None), cut),
+            (tiff(_279=None), cut),
+            (tiff(_279=("L", [GREY.size - 1])), cut),
+            (tiff(_273=("L", [5000])), cut),
+            (tiff(rows=5, _273=("L", [8, 63])), cut),
+            (tiff(rows=5, _278=None), cut),
+            (tiff(_278=("H", [0])), cut),
+            (tiff(tile=16, _322=("H", [0])), cut),
+            (tiff(tile=16, _325=("L", [255])), cut),
+            (tiff(_259=("H", [5])), cut),
+            (tiff(_259=("H", [8])), cut),
+            (tiff(0 * GREY, _259=("H", [32773])), cut),
+            (tiff(_259=("H", [4711])), cut),
+            (b"II+\0" + bytes(100), "not a PGM (P2 or P5), PNG or TIFF picture"),
+        ]:
+            with self.subTest(words, data=data[-200:]):
+                self.fails(data, words)
+
+    def test_sizes(self):
+        """By the directory alone."""
+        for size in (0, 5), (5, 0), (4097, 1), (1025, 1024), (60000, 60000), (2**32 - 1, 2**32 - 1):
+            data = tiff(_256=("L", size[:1]), _257=("L", size[1:]))
+            self.fails(data, "refused 1 at 0 ({} x {} pixels)".format(*size), Refused)
+
+    def test_cut(self):
+        """With the directory in front and at the end; nothing of the resolution is lost without a word either."""
+        for data in [*(saved(GREY, "TIFF", compression=compression, dpi=(300, 300)) for compression in COMPRESSIONS),
+                     tiff(rows=5, _282=("R", (300, 1))), tiff(order=">", tile=16)]:
+            for length in range(len(data)):
+                self.assertFalse(self.fault_or_same(data[:length]))
+
+    def test_damaged(self):
+        """Bytes that are not as they were: a fault that is told or other samples, and no word of libtiff's."""
+        source = random.Random(4)
+        for data in [saved(GREY, "TIFF", compression=compression, dpi=(300, 300)) for compression in COMPRESSIONS]:
+            faults = 0
+            for place in range(len(data)):
+                damaged = bytearray(data)
+                damaged[place] = source.randrange(256)
+                try:
+                    self.assertEqual(self.read(damaged).samples.dtype, np.uint8)
+                except (ValueError, Refused):
+                    faults += 1
+            self.assertGreater(faults, 50)
+
+
+class Files(Pictures):
+    def test_not_there(self):
+        for path, error in [("no/such", FileNotFoundError), (self.folder, IsADirectoryError)]:
+            with self.assertRaises(error):
+                read_picture(path)
+
+    def test_closed_standard_error(self):
+        """Pictures are decoded all the same."""
+        path = os.path.join(self.folder, "in.tif")
+        with open(path, "wb") as file:
+            file.write(saved(GREY, "TIFF", compression="tiff_lzw"))
+        os.close(2)
+        try:
+            found = read_picture(path).samples
+        finally:
+            os.dup2(self.former, 2)
+        self.assertEqual(found.tolist(), GREY.tolist())
+
+
+if __name__ == "__main__":
+    unittest.main()
