@@ -13,19 +13,35 @@ from .speech import complain
 
 def main(words: Optional[List[str]] = None) -> int:
     """Runs the command and gives its exit status: 0, or 1 where a file or the output was at fault; 2 for wrong options."""
-    for stream in sys.stdout, sys.stderr:
-        stream.reconfigure(errors="backslashreplace")  # names of files need not be text
-    options = parse(words)
+    _ready_streams()
     try:
         with interruptible():
+            try:
+                options = parse(words)
+            finally:
+                sys.stdout.flush()  # help
             status = options.command(options)
             sys.stdout.flush()
             return status
     except Interrupted as interrupted:
         return die_of(interrupted.signal)
     except BrokenPipeError:
-        os.dup2(os.open(os.devnull, os.O_WRONLY), sys.stdout.fileno())  # nobody reads: nothing more to flush
+        _leave_output()
         return 1
     except OSError as error:
         complain(f"{error.filename or 'standard output'}: {error.strerror or error}")
+        _leave_output()
         return 1
+
+
+def _ready_streams() -> None:
+    """Lets names of files that are no text be printed; a stream that was closed by the caller leads nowhere."""
+    for name in "stdout", "stderr":
+        if getattr(sys, name) is None:
+            setattr(sys, name, open(os.devnull, "w"))
+        getattr(sys, name).reconfigure(errors="backslashreplace")
+
+
+def _leave_output() -> None:
+    """Nobody takes what is left to be flushed: it goes nowhere."""
+    os.dup2(os.open(os.devnull, os.O_WRONLY), sys.stdout.fileno())

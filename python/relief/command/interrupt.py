@@ -47,7 +47,8 @@ def interruptible() -> Iterator[None]:
 
 def die_of(number: int) -> int:
     """Ends the process by the signal, as its parent expects; a call of the library that still runs ends with it."""
-    sys.stdout.flush()
+    with contextlib.suppress(OSError):
+        sys.stdout.flush()
     signal.signal(number, signal.SIG_DFL)
     os.kill(os.getpid(), number)
     return 128 + number
