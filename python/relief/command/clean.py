@@ -48,6 +48,7 @@ class _Batch:
         self.report = Report(options.report)
         self.progress = Progress(len(options.scans))
         self.cleaned = self.faulty = 0
+        self.unsaved = False
 
     def clean_all(self) -> int:
         """Cleans the scans one by one, and gives the exit status."""
@@ -56,11 +57,12 @@ class _Batch:
             for number, path in enumerate(scans, 1):
                 self.clean_or_complain(number, path)
         except Interrupted:
+            self.save_report()
             self.complain(f"interrupted; {self.cleaned} of {len(scans)} scans are cleaned, and what is written is whole")
             raise
         if self.faulty or len(scans) > 1:
             self.complain(f"{self.cleaned} of {len(scans)} scans cleaned" + f", {self.faulty} at fault" * bool(self.faulty))
-        return 1 if self.faulty else 0
+        return 1 if self.faulty or self.unsaved else 0
 
     def clean_or_complain(self, number: int, path: str) -> None:
         """Cleans a scan, or says what is wrong with it; either is told and put into the report."""
@@ -69,13 +71,25 @@ class _Batch:
         except FAULTS as error:
             fault = fault_of(error, path)
             self.faulty += 1
-            self.complain(f"{path}: {fault}")
             self.report.add(path, self.options, fault=fault)
+            self.save_report()
+            self.complain(f"{path}: {fault}")
         else:
             self.cleaned += 1
+            self.report.add(path, self.options, result, seconds)
+            self.save_report()
             self.progress.clear()
             tell(f"{path}: {figures(result)}; {bounds(result)}")
-            self.report.add(path, self.options, result, seconds)
+
+    def save_report(self) -> None:
+        """Writes the report; where that fails, it is told once, and the scans are cleaned all the same."""
+        try:
+            self.report.save()
+            self.unsaved = False
+        except OSError as error:
+            if not self.unsaved:
+                self.complain(f"{error.filename}: {error.strerror or error}")
+            self.unsaved = True
 
     def clean_one(self, number: int, path: str) -> Tuple[Result, float]:
         """Cleans a scan, writes what is asked for, and gives the result with the seconds that the rounds took."""
@@ -114,7 +128,7 @@ class _Batch:
             if place in self.read:
                 raise ValueError(f"not cleaned, for {output} would replace a picture that is read: name another folder")
             if place in self.written:
-                raise ValueError(f"not cleaned, for {output} is written for another scan: name another folder")
+                raise ValueError(f"not cleaned, for {output} is the report or is written for another scan")
         self.written |= _places(outputs.values())
         return outputs
 

@@ -15,12 +15,12 @@ COLUMNS = ["file", "width", "height", "weight", "low", "high", "quick", "steady"
 
 
 class Report:
-    """The rows so far; with a path, the file holds them after each one, and is whole at any time."""
+    """The rows so far; with a path, the file holds those that were saved, and is whole at any time."""
 
     def __init__(self, path: Optional[str]) -> None:
         self.path = path
         self.rows: List[Dict[str, Any]] = []
-        self._save()
+        self.save()
 
     def add(self, file: str, options: Any, result: Optional[Result] = None, seconds: float = 0, fault: str = "") -> None:
         """A row: the terms and, of a file that was cleaned, its figures and the bounds in levels; of another its fault."""
@@ -33,9 +33,9 @@ class Report:
                        floor=result.floor, slack=result.slack, rms_bound=rounded_up(result.rms_bound),
                        pixel_bound=rounded_up(result.pixel_bound), seconds=f"{seconds:.3f}")
         self.rows.append(row)
-        self._save()
 
-    def _save(self) -> None:
+    def save(self) -> None:
+        """Writes the rows so far."""
         if self.path is None:
             return
         text = io.StringIO()
