@@ -40,9 +40,8 @@ def read_array(path: str) -> np.ndarray:
     """The array in an .npy file."""
     with open(path, "rb") as file:
         try:
-            array = np.load(file, allow_pickle=False)
-        except (ValueError, EOFError) as error:
+            return np.lib.format.read_array(file, allow_pickle=False)
+        except (OSError, MemoryError):
+            raise
+        except Exception as error:  # NumPy raises errors of many kinds on damaged files
             raise ValueError(f"not a whole .npy file of numbers ({error})") from None
-    if not isinstance(array, np.ndarray):
-        raise ValueError("not an .npy file of one array")
-    return array
