@@ -2,7 +2,7 @@
 
 from __future__ import annotations
 
-import shutil
+import os
 import sys
 import time
 
@@ -30,7 +30,8 @@ class Progress:
         if not self.wanted or time.perf_counter() - self.start < PATIENCE:
             return
         text = one_line(f"[{number}/{self.files}] {name}: {doing}")
-        sys.stderr.write(f"\r\x1b[K{text[:shutil.get_terminal_size().columns - 1]}")
+        columns = os.get_terminal_size(sys.stderr.fileno()).columns or 80
+        sys.stderr.write(f"\r\x1b[K{text[:columns - 1]}")
         sys.stderr.flush()
         self.there = True
 
@@ -44,7 +45,8 @@ class Progress:
 
 def share(seconds: float, estimate: float) -> str:
     """How much of a run's estimated time is over."""
-    return f"{min(int(100 * seconds / estimate), 99)} % of at most about {max(estimate, 0.1):.1f} s"
+    estimate = max(estimate, 0.1)
+    return f"{min(int(100 * seconds / estimate), 99)} % of at most about {estimate:.1f} s"
 
 
 def estimated_seconds(codes: np.ndarray, quick: int, steady: int) -> float:
