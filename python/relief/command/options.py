@@ -16,32 +16,37 @@ from .judge import check_file, price_file
 from .speech import NAME
 
 _TERMS = """\
-A scan is an 8-bit grey picture: PGM, PNG or TIFF, at most 1,048,576 pixels, no side over 4,096. Weight and box are in its
-codes: --weight 1024 is 4 levels, --box 30:200 keeps depths within the levels 30 to 200.
+A scan is an 8-bit grey picture: PGM, PNG or TIFF, at most 1,048,576 pixels, no
+side over 4,096. Weight and box are in its codes: --weight 1024 is 4 levels,
+--box 30:200 keeps depths within the levels 30 to 200.
 """
 
 _EXAMPLES = {
     "clean": """\
 example:
-  relief-raster clean scans/*.png -o cleaned --weight 640 --box 0:255 --report cleaned.csv --picture
+  relief-raster clean scans/*.png -o cleaned --weight 640 --box 0:255 \\
+      --report cleaned.csv --picture
 
-Writes DIR/NAME for each scan, with its form, maxval and resolution kept; NAME.flow.npy beside it with --save-flow, and
-NAME.picture.png with --picture. A file that is there already is replaced. A scan at fault is named in one line and the
-others are cleaned; the exit status is then 1.
+Writes DIR/NAME for each scan, with its form, maxval and resolution kept;
+NAME.flow.npy beside it with --save-flow, and NAME.picture.png with --picture. A
+file that is there already is replaced. A scan at fault is named in one line and
+the others are cleaned; the exit status is then 1.
 """,
     "check": """\
 example:
   relief-raster check wall.png --flow wall.flow.npy --weight 640 --box 0:255
 
-The flow is an array of whole numbers, one for each pair in the library's order: every pixel with the one below, row by
-row, then every pixel with the one to its right.
+The flow is an array of whole numbers, one for each pair in the library's order:
+every pixel with the one below, row by row, then every pixel with the one to its
+right.
 """,
     "price": """\
 example:
   relief-raster price wall.png cleaned/wall.png --weight 640 --box 0:255
 
-Of a picture, each code is priced at the centre of its level; that is not the price of the image that it was rounded from.
-An array of sub-units, as Python's result.image, is priced as it is: save it with numpy.save and give the .npy file.
+Of a picture, each code is priced at the centre of its level; that is not the
+price of the image that it was rounded from. An array of sub-units, as Python's
+result.image, is priced as it is: save it with numpy.save and give the .npy file.
 """,
 }
 
