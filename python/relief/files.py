@@ -29,7 +29,10 @@ def replace(outputs: Mapping[Any, Any]) -> None:
                 raise _named(error, path) from None
         while parts:
             part, target = parts[-1]
-            os.replace(part, target)
+            try:
+                os.replace(part, target)
+            except OSError as error:
+                raise _named(error, target) from None
             parts.pop()
     finally:
         for part, _ in parts:
