@@ -127,7 +127,7 @@ def _read_png(heading: bytes, file: BinaryIO) -> Picture:
             needed.append(chunk)
         if kind == b"IDAT":
             packed.append(body)
-        elif kind == b"pHYs":
+        elif kind == b"pHYs" and len(body) == 9:
             kept["pHYs"] = body
         elif kind == b"tRNS":
             raise ValueError("has a transparent value: a grey picture without one is needed")
