@@ -2,11 +2,12 @@
 
 from __future__ import annotations
 
+import contextlib
 import itertools
 import os
 import shutil
 import stat
-from typing import Any, List, Mapping, Tuple
+from typing import Any, Iterator, List, Mapping, Tuple
 
 _numbers = itertools.count()
 
@@ -19,40 +20,39 @@ def replace(outputs: Mapping[Any, Any]) -> None:
     Raises:
         OSError: of a path that cannot be written, which it names.
     """
-    parts: List[Tuple[str, str]] = []
+    parts: List[Tuple[str, str, Any]] = []
     try:
         for path, data in outputs.items():
-            target = os.path.realpath(path)
-            try:
-                _write_part(parts, target, data)
-            except OSError as error:
-                raise _named(error, path) from None
+            _write_part(parts, path, data)
         while parts:
-            part, target = parts[-1]
-            try:
-                os.replace(part, target)
-            except OSError as error:
-                raise _named(error, target) from None
+            _put_in_place(*parts[-1])
             parts.pop()
     finally:
-        for part, _ in parts:
+        for part, _, _ in parts:
             if os.path.exists(part):
                 os.unlink(part)
 
 
-def _write_part(parts: List[Tuple[str, str]], target: str, data: Any) -> None:
-    """Writes the bytes into a new file beside the target, and notes it."""
-    there = os.path.exists(target)
-    if there:
-        _ask_to_write(target)
+def _write_part(parts: List[Tuple[str, str, Any]], path: Any, data: Any) -> None:
+    """Writes the bytes into a new file beside the one that the path leads to, and notes it: part, target and path."""
+    target = os.path.realpath(path)
     part = os.path.join(os.path.dirname(target), f".relief-{os.getpid()}-{next(_numbers)}.part")
-    parts.append((part, target))
-    with open(part, "xb") as file:
-        file.write(data)
-        file.flush()
-        os.fsync(file.fileno())
-    if there:
-        shutil.copymode(target, part)
+    with _naming(path):
+        there = os.path.exists(target)
+        if there:
+            _ask_to_write(target)
+        parts.append((part, target, path))
+        with open(part, "xb") as file:
+            file.write(data)
+            file.flush()
+            os.fsync(file.fileno())
+        if there:
+            shutil.copymode(target, part)
+
+
+def _put_in_place(part: str, target: str, path: Any) -> None:
+    with _naming(path):
+        os.replace(part, target)
 
 
 def _ask_to_write(target: str) -> None:
@@ -62,6 +62,10 @@ def _ask_to_write(target: str) -> None:
     open(target, "ab").close()
 
 
-def _named(error: OSError, path: Any) -> OSError:
-    """The same error, of the path that the caller knows."""
-    return type(error)(error.errno, error.strerror, os.fspath(path))
+@contextlib.contextmanager
+def _naming(path: Any) -> Iterator[None]:
+    """Lets an OSError inside be of the path that the caller knows."""
+    try:
+        yield
+    except OSError as error:
+        raise type(error)(error.errno, error.strerror, os.fspath(path)) from None
