@@ -46,7 +46,7 @@ example:
 
 Of a picture, each code is priced at the centre of its level; that is not the
 price of the image that it was rounded from. An array of sub-units, as Python's
-result.image, is priced as it is: save it with numpy.save and give the .npy file.
+result.image, is priced as it is: save it with numpy.save, give the .npy file.
 """,
 }
 
