@@ -47,22 +47,22 @@ class _Batch:
             raise OSError(None, "the report would replace a picture that is read", options.report)
         self.report = Report(options.report)
         self.progress = Progress(len(options.scans))
-        self.cleaned = self.faulty = 0
         self.unsaved = False
 
     def clean_all(self) -> int:
         """Cleans the scans one by one, and gives the exit status."""
-        scans = self.options.scans
+        scans, report = self.options.scans, self.report
         try:
             for number, path in enumerate(scans, 1):
                 self.clean_or_complain(number, path)
         except Interrupted:
             self.save_report()
-            self.complain(f"interrupted; {self.cleaned} of {len(scans)} scans are cleaned, and what is written is whole")
+            self.complain(f"interrupted; {report.cleaned} of {len(scans)} scans are cleaned, and what is written is whole")
             raise
-        if self.faulty or len(scans) > 1:
-            self.complain(f"{self.cleaned} of {len(scans)} scans cleaned" + f", {self.faulty} at fault" * bool(self.faulty))
-        return 1 if self.faulty or self.unsaved else 0
+        if report.faulty or len(scans) > 1:
+            at_fault = f", {report.faulty} at fault" if report.faulty else ""
+            self.complain(f"{report.cleaned} of {len(scans)} scans cleaned{at_fault}")
+        return 1 if report.faulty or self.unsaved else 0
 
     def clean_or_complain(self, number: int, path: str) -> None:
         """Cleans a scan, or says what is wrong with it; either is told and put into the report."""
@@ -70,12 +70,10 @@ class _Batch:
             result, seconds = self.clean_one(number, path)
         except FAULTS as error:
             fault = fault_of(error, path)
-            self.faulty += 1
             self.report.add(path, self.options, fault=fault)
             self.save_report()
             self.complain(f"{path}: {fault}")
         else:
-            self.cleaned += 1
             self.report.add(path, self.options, result, seconds)
             self.save_report()
             self.progress.clear()

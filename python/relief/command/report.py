@@ -34,6 +34,16 @@ class Report:
                        pixel_bound=rounded_up(result.pixel_bound), seconds=f"{seconds:.3f}")
         self.rows.append(row)
 
+    @property
+    def faulty(self) -> int:
+        """How many of the rows are of files at fault."""
+        return sum(bool(row["fault"]) for row in self.rows)
+
+    @property
+    def cleaned(self) -> int:
+        """How many of the rows are of files that were cleaned."""
+        return len(self.rows) - self.faulty
+
     def save(self) -> None:
         """Writes the rows so far."""
         if self.path is None:
