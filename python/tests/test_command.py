@@ -87,7 +87,7 @@ class Command(unittest.TestCase):
 
     def start(self, *words, **more):
         """A process of the command."""
-        env = {**os.environ, "PYTHONPATH": str(TOP / "python"), **more.pop("env", {})}
+        env = {**os.environ, "PYTHONPATH": str(TOP / "python"), "PYTHONUNBUFFERED": "", **more.pop("env", {})}
         return subprocess.Popen([sys.executable, "-B", "-m", "relief", *words], env=env, **more)
 
     def run_apart(self, *words, **more):
@@ -151,14 +151,16 @@ class Clean(Command):
     def test_defaults(self):
         """The rounds of the library's own defaults; one scan needs no summary."""
         result = relief.clean(GREY, 640, (70, 180))
-        self.assertEqual(self.main("clean", self.scan(), "-o", "out", *TERMS), (0, said_of("a.pgm", result), ""))
+        words = ["clean", self.scan(), "-o", "out", *TERMS, "--report", "report.csv"]
+        self.assertEqual(self.main(*words), (0, said_of("a.pgm", result), ""))
+        self.assertEqual([(row["quick"], row["steady"]) for row in self.rows()], [(str(relief.QUICK), str(relief.STEADY))])
         self.assertEqual(self.names("out"), ["a.pgm"])
 
     def test_weights(self):
         """A weight picture: the weights are those of Python, whatever its maxval."""
         strengths = np.full(GREY.shape, 63, np.uint8)
         strengths[:, 9] = 0
-        strengths[5] = 20
+        strengths[5] = 50
         self.write("w.pgm", binary(strengths, 63))
         weights = relief.weights_from_picture(strengths, 640, 63)
         result = cleaned(GREY, weights=weights)
@@ -190,16 +192,17 @@ class Clean(Command):
 
     def test_report(self):
         """A row for each scan: figures as in Python, bounds that are never below, and what is wrong."""
-        self.scan()
-        self.scan("b.pgm", GREY[:2, :5])
+        parts = {"a.pgm": GREY, "b.pgm": GREY[:2, :5], **{f"{size}.pgm": GREY[:size, :size] for size in range(8, 20)}}
+        for name, codes in parts.items():
+            self.scan(name, codes)
         self.write("bad.pgm", b"some text")
         start = time.perf_counter()
-        words = ["clean", "a.pgm", "bad.pgm", "b.pgm", "-o", "out", *TERMS, *ROUNDS, "--report", "report.csv"]
+        words = ["clean", "bad.pgm", *parts, "-o", "out", *TERMS, *ROUNDS, "--report", "report.csv"]
         self.assertEqual(self.main(*words)[0], 1)
         rows = self.rows()
-        self.assertEqual([row["file"] for row in rows], ["a.pgm", "bad.pgm", "b.pgm"])
+        self.assertEqual([row["file"] for row in rows], ["bad.pgm", *parts])
         terms = dict(weight="640", low="70", high="180", quick="7", steady="9", weights="")
-        for row, codes in zip([rows[0], rows[2]], [GREY, GREY[:2, :5]]):
+        for row, codes in zip(rows[1:], parts.values(), strict=True):
             result = cleaned(codes)
             due = dict(terms, height=codes.shape[0], width=codes.shape[1], outcome=result.outcome, moved=result.moved,
                        price=result.price, floor=result.floor, slack=result.slack, fault="")
@@ -211,7 +214,7 @@ class Clean(Command):
             self.assertLess(float(row["seconds"]), time.perf_counter() - start)
         due = dict.fromkeys(COLUMNS, "")
         due.update(terms, file="bad.pgm", fault="not a PGM (P2 or P5), PNG or TIFF picture")
-        self.assertEqual(rows[1], due)
+        self.assertEqual(rows[0], due)
 
     def test_picture(self):
         """Before, after, difference and the error column, of scans of any shape, without a warning."""
@@ -576,13 +579,34 @@ class Signals(Command):
 
     def test_ignored(self):
         """A signal that the caller ignores, as nohup does, stays ignored."""
-        process = self.start("clean", "small.pgm", "-o", "out", *TERMS, "--steady", "65535", stdout=subprocess.PIPE,
-                             stderr=subprocess.PIPE, preexec_fn=lambda: signal.signal(signal.SIGHUP, signal.SIG_IGN))
-        for _ in range(5):
-            process.send_signal(signal.SIGHUP)
-            time.sleep(0.03)
-        self.assertTrue(process.communicate()[0].startswith(b"small.pgm: "))
-        self.assertEqual(process.returncode, 0)
+        process = self.start("clean", "small.pgm", "large.pgm", "-o", "out", *TERMS, "--quick", "80", "--steady", "0",
+                             stdout=subprocess.PIPE, stderr=subprocess.PIPE,
+                             preexec_fn=lambda: signal.signal(signal.SIGHUP, signal.SIG_IGN))
+        self.assertTrue(process.stdout.readline().startswith(b"small.pgm: "))
+        process.send_signal(signal.SIGHUP)
+        out, err = process.communicate()
+        self.assertTrue(out.startswith(b"large.pgm: "))
+        self.assertEqual((process.returncode, err), (0, b"relief-raster: 2 of 2 scans cleaned\n"))
+
+    def test_report(self):
+        """A signal while the report is written: it has the row of the scan that was cleaned, and of no other."""
+        for number in signal.SIGINT, signal.SIGTERM, signal.SIGHUP:
+            self.addCleanup(signal.signal, number, signal.getsignal(number))
+        calls = []
+
+        def replace(outputs):
+            calls.append(outputs)
+            if len(calls) == 2:
+                signal.raise_signal(signal.SIGTERM)
+            files.replace(outputs)
+
+        with mock.patch("relief.command.report.replace", replace), mock.patch("relief.command.die_of") as die_of:
+            self.main("clean", "small.pgm", "other.pgm", "-o", "out", *TERMS, *ROUNDS, "--report", "report.csv")
+        die_of.assert_called_once_with(signal.SIGTERM)
+        for number in signal.SIGINT, signal.SIGTERM, signal.SIGHUP:
+            self.assertEqual(signal.getsignal(number), signal.SIG_IGN)  # until it has died
+        self.assertEqual([row["file"] for row in self.rows()], ["small.pgm"])
+        self.assertEqual(self.names("out"), ["small.pgm"])
 
     def test_every_moment(self):
         """Files that are written together, interrupted at each line of that: whole or as before, and no other left."""

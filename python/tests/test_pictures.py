@@ -55,8 +55,8 @@ def png(samples=GREY, *chunks, heading=None, rows=None, interlaced=False):
                      chunk(b"IEND", b"")])
 
 
-def tiff(samples=GREY, order="<", rows=None, tile=None, gap=b"", **fields):
-    """An uncompressed TIFF picture made by hand, its directory at the end: in strips of some rows or in square tiles."""
+def tiff(samples=GREY, order="<", rows=None, tile=None, gap=b"", packed=False, **fields):
+    """A TIFF picture made by hand, its directory at the end: in strips of some rows or in square tiles, deflated or not."""
     height, width = samples.shape
     if tile:
         wide = np.zeros((-(-height // tile) * tile, -(-width // tile) * tile), np.uint8)
@@ -66,27 +66,28 @@ def tiff(samples=GREY, order="<", rows=None, tile=None, gap=b"", **fields):
     else:
         parts = [samples[y:y + (rows or height)] for y in range(0, height, rows or height)]
         fixed = {278: ("H", [rows or height])}
+    bodies = [zlib.compress(part.tobytes()) if packed else part.tobytes() for part in parts]
     data, starts = b"", []
-    for part in parts:
+    for body in bodies:
         data += gap
         starts.append(8 + len(data))
-        data += part.tobytes()
+        data += body
     where, how_long = (324, 325) if tile else (273, 279)
-    fixed.update({256: ("H", [width]), 257: ("H", [height]), 258: ("H", [8]), 259: ("H", [1]), 262: ("H", [1]),
-                  277: ("H", [1]), where: ("L", starts), how_long: ("L", [part.size for part in parts])})
+    fixed.update({256: ("H", [width]), 257: ("H", [height]), 258: ("H", [8]), 259: ("H", [8 if packed else 1]), 262: ("H", [1]),
+                  277: ("H", [1]), where: ("L", starts), how_long: ("L", [len(body) for body in bodies])})
     fixed.update({int(name[1:]): value for name, value in fields.items()})
     return directory(order, data, {tag: value for tag, value in fixed.items() if value is not None})
 
 
 def directory(order, data, fields, following=0):
     """A TIFF file: the data from byte 8 on, then the directory of these fields and what does not fit into it."""
-    kinds = {"B": 1, "H": 3, "L": 4, "R": 5}
+    kinds = {"B": 1, "s": 2, "H": 3, "L": 4, "R": 5}
     start = 8 + len(data)
     behind, entries = start + 6 + 12 * len(fields), b""
     extra = b""
     for tag, (letter, numbers) in sorted(fields.items()):
         count = len(numbers) // (2 if letter == "R" else 1)
-        body = struct.pack(order + len(numbers) * letter.replace("R", "L"), *numbers)
+        body = numbers if letter == "s" else struct.pack(order + len(numbers) * letter.replace("R", "L"), *numbers)
         if len(body) > 4:
             place, extra = behind + len(extra), extra + body
             body = struct.pack(order + "L", place)
@@ -315,12 +316,19 @@ class Tiff(Pictures):
             self.assertEqual(resolution(written), {})
         for order in "<", ">":
             for layout in {}, {"rows": 5}, {"rows": 1, "gap": b"?"}, {"tile": 16}, {"tile": 16, "gap": b"??"}:
-                with self.subTest(order=order, **layout):
-                    self.comes_back(tiff(order=order, **layout))
+                for packed in False, True:
+                    with self.subTest(order=order, packed=packed, **layout):
+                        self.comes_back(tiff(order=order, packed=packed, **layout))
         large = np.random.default_rng(3).integers(0, 256, (300, 400), dtype=np.uint8)
         for compression in COMPRESSIONS:
             self.comes_back(saved(large, "TIFF", compression=compression), large)
         self.comes_back(tiff(large, ">", tile=64), large)
+        differences = TiffImagePlugin.ImageFileDirectory_v2()
+        differences[317] = 2
+        self.comes_back(saved(large, "TIFF", compression="tiff_lzw", tiffinfo=differences), large)
+        data = saved(large, "TIFF", compression="jpeg")
+        with Image.open(io.BytesIO(data)) as image:
+            self.comes_back(data, np.array(image))
 
     def test_resolution(self):
         """As it stands in the file, whatever its unit and compression."""
@@ -390,7 +398,7 @@ class Tiff(Pictures):
     def test_cut(self):
         """With the directory in front and at the end; nothing of the resolution is lost without a word either."""
         for data in [*(saved(GREY, "TIFF", compression=compression, dpi=(300, 300)) for compression in COMPRESSIONS),
-                     tiff(rows=5, _282=("R", (300, 1))), tiff(order=">", tile=16)]:
+                     tiff(rows=5, _282=("R", (300, 1))), tiff(order=">", tile=16), tiff(_305=("s", b"made by hand"))]:
             for length in range(len(data)):
                 self.assertFalse(self.fault_or_same(data[:length]))
 
