@@ -3,6 +3,7 @@
 from __future__ import annotations
 
 import io
+import logging
 import os
 from typing import Any, Dict, Iterable, Optional, Set, Tuple
 
@@ -137,6 +138,7 @@ def _places(paths: Iterable[Optional[str]]) -> Set[str]:
 
 
 def _picture(result: Result) -> bytes:
+    logging.getLogger("matplotlib").setLevel(logging.ERROR)  # where it keeps its cache is nothing to tell
     from ..plots import png_of
     return png_of(result)
 
