@@ -4,6 +4,7 @@ import contextlib
 import csv
 import ctypes
 import io
+import logging
 import os
 import pty
 import re
@@ -223,6 +224,7 @@ class Clean(Command):
             self.scan(name, samples)
         status, _, err = self.main("clean", "a.pgm", "b.pgm", "c.pgm", "-o", "out", *TERMS, *ROUNDS, "--picture")
         self.assertEqual((status, err), (0, "relief-raster: 3 of 3 scans cleaned\n"))
+        self.assertFalse(logging.getLogger("matplotlib").isEnabledFor(logging.WARNING))  # as that its cache is elsewhere
         for name in "abc":
             with Image.open(f"out/{name}.picture.png") as image:
                 image.load()
