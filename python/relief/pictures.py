@@ -30,7 +30,8 @@ _PNG_SIGNATURE = b"\x89PNG\r\n\x1a\n"
 _PNG_COLOURS = {2: "colour", 3: "a palette", 4: "transparency", 6: "colour and transparency"}
 _PNG_CUT = "cut off or damaged, not a whole PNG picture"
 _PNG_PASSES = (0, 0, 8, 8), (0, 4, 8, 8), (4, 0, 8, 4), (0, 2, 4, 4), (2, 0, 4, 2), (0, 1, 2, 2), (1, 0, 2, 1)
-_TIFF_LOSSLESS = {5: "tiff_lzw", 8: "tiff_adobe_deflate", 32946: "tiff_adobe_deflate", 32773: "packbits"}
+_TIFF_PACKED = {1: "raw", 5: "tiff_lzw", 7: "raw", 8: "tiff_adobe_deflate", 32946: "tiff_adobe_deflate",
+                32773: "packbits"}  # how each is packed when it is written again: JPEG, 7, is not
 
 
 @dataclass(frozen=True, eq=False)
@@ -197,7 +198,9 @@ def _read_tiff(file: BinaryIO) -> Picture:
     _ask_size(width, height)
     directory.ask_whole()
     compression = directory.numbers(tiff.COMPRESSION, 1)[0]
-    kept = {"resolution": directory.resolution(), "compression": _TIFF_LOSSLESS.get(compression, "raw")}
+    if compression not in _TIFF_PACKED:
+        raise ValueError(f"is compressed by method {compression}: save it without compression, or with LZW or deflate")
+    kept = {"resolution": directory.resolution(), "compression": _TIFF_PACKED[compression]}
     file.seek(0)
     return Picture("TIFF", _decoded(file.read(), "TIFF", (height, width)), kept=kept)
 

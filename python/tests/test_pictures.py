@@ -383,7 +383,7 @@ class Tiff(Pictures):
             (tiff(_259=("H", [5])), cut),
             (tiff(_259=("H", [8])), cut),
             (tiff(0 * GREY, _259=("H", [32773])), cut),
-            (tiff(_259=("H", [4711])), cut),
+            (tiff(_259=("H", [4711])), "is compressed by method 4711: save it without compression"),
             (b"II+\0" + bytes(100), "not a PGM (P2 or P5), PNG or TIFF picture"),
         ]:
             with self.subTest(words, data=data[-200:]):
