@@ -14,7 +14,7 @@ from ..files import replace
 from ..pairs import Pairs
 from ..result import Result
 from ..wording import bounds, figures
-from .interrupt import Interrupted, in_background
+from .interrupt import Interrupted, ask_interrupted, in_background
 from .progress import Progress, estimated_seconds, share
 from .report import Report
 from .speech import complain, fault_of, tell
@@ -56,6 +56,7 @@ class _Batch:
         try:
             for number, path in enumerate(scans, 1):
                 self.clean_or_complain(number, path)
+                ask_interrupted()
         except Interrupted:
             self.save_report()
             self.complain(f"interrupted; {report.cleaned} of {len(scans)} scans are cleaned, and what is written is whole")

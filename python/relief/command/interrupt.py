@@ -11,6 +11,7 @@ import time
 from typing import Any, Callable, Iterator, List, Tuple
 
 _SIGNALS = signal.SIGINT, signal.SIGTERM, signal.SIGHUP
+_came: List[int] = []  # the signal that came inside interruptible()
 
 
 class Interrupted(BaseException):
@@ -24,11 +25,13 @@ class Interrupted(BaseException):
 @contextlib.contextmanager
 def interruptible() -> Iterator[None]:
     """The first signal inside raises Interrupted; those that follow are ignored, for the little that is left to do."""
+    _came.clear()
     caught = [number for number in _SIGNALS if signal.getsignal(number) != signal.SIG_IGN]
 
     def interrupt(number: int, _: Any) -> None:
         for other in caught:
             signal.signal(other, signal.SIG_IGN)
+        _came.append(number)
         raise Interrupted(number)
 
     former = {number: signal.signal(number, interrupt) for number in caught}
@@ -43,6 +46,12 @@ def interruptible() -> Iterator[None]:
     else:
         for number, handler in former.items():
             signal.signal(number, handler)
+
+
+def ask_interrupted() -> None:
+    """Raises Interrupted again after a signal. The first may be lost: what a destructor raises goes nowhere."""
+    if _came:
+        raise Interrupted(_came[0])
 
 
 def die_of(number: int) -> int:
@@ -71,6 +80,7 @@ def in_background(call: Callable[[], Any], meanwhile: Callable[[float], None]) -
     thread.start()
     while thread.is_alive():
         thread.join(0.1)
+        ask_interrupted()
         if thread.is_alive():
             meanwhile(time.perf_counter() - start)
     seconds = time.perf_counter() - start
