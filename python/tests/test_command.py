@@ -590,10 +590,45 @@ class Signals(Command):
         self.assertTrue(out.startswith(b"large.pgm: "))
         self.assertEqual((process.returncode, err), (0, b"relief-raster: 2 of 2 scans cleaned\n"))
 
+    def interrupted(self, *words):
+        """Runs a batch here, in which a signal comes; its figures are in the report, and the command dies of it."""
+        former = {number: signal.getsignal(number) for number in (signal.SIGINT, signal.SIGTERM, signal.SIGHUP)}
+        with mock.patch("relief.command.die_of") as die_of:
+            _, _, err = self.main("clean", "small.pgm", "other.pgm", "-o", "out", *words, "--report", "report.csv")
+        die_of.assert_called_once_with(signal.SIGTERM)
+        for number, handler in former.items():
+            self.assertEqual(signal.signal(number, handler), signal.SIG_IGN)  # until it has died
+        names = [row["file"] for row in self.rows()]
+        self.assertEqual(self.names("out"), names)
+        self.assertIn(f"interrupted; {len(names)} of 2 scans are cleaned", err)
+        return names
+
+    def test_lost(self):
+        """A signal whose exception is lost, as in a destructor: at the next occasion it is raised again."""
+        def lose(*_):
+            with contextlib.suppress(BaseException):
+                signal.raise_signal(signal.SIGTERM)
+
+        with mock.patch("relief.command.clean.ask_same_size", lose):
+            self.assertEqual(self.interrupted(*TERMS, "--quick", "4096", "--steady", "65535"), [])
+        with mock.patch("relief.command.clean.tell", lose):
+            self.assertEqual(self.interrupted(*TERMS, *ROUNDS), ["small.pgm"])
+
+    def test_killed_while_writing(self):
+        """Nothing takes its place before all is written: the names hold what they held."""
+        self.write("out/one", b"old one")
+        child = os.fork()
+        if not child:
+            os.fsync = lambda _: len(os.listdir("out")) == 3 and os.kill(os.getpid(), signal.SIGKILL)
+            files.replace({"out/one": b"new one", "out/two": b"new two"})
+            os._exit(0)
+        self.assertEqual(os.waitpid(child, 0)[1], signal.SIGKILL)
+        names = self.names("out")
+        self.assertEqual((len(names), names[2]), (3, "one"))
+        self.assertEqual(Path("out/one").read_bytes(), b"old one")
+
     def test_report(self):
         """A signal while the report is written: it has the row of the scan that was cleaned, and of no other."""
-        for number in signal.SIGINT, signal.SIGTERM, signal.SIGHUP:
-            self.addCleanup(signal.signal, number, signal.getsignal(number))
         calls = []
 
         def replace(outputs):
@@ -602,13 +637,8 @@ class Signals(Command):
                 signal.raise_signal(signal.SIGTERM)
             files.replace(outputs)
 
-        with mock.patch("relief.command.report.replace", replace), mock.patch("relief.command.die_of") as die_of:
-            self.main("clean", "small.pgm", "other.pgm", "-o", "out", *TERMS, *ROUNDS, "--report", "report.csv")
-        die_of.assert_called_once_with(signal.SIGTERM)
-        for number in signal.SIGINT, signal.SIGTERM, signal.SIGHUP:
-            self.assertEqual(signal.getsignal(number), signal.SIG_IGN)  # until it has died
-        self.assertEqual([row["file"] for row in self.rows()], ["small.pgm"])
-        self.assertEqual(self.names("out"), ["small.pgm"])
+        with mock.patch("relief.command.report.replace", replace):
+            self.assertEqual(self.interrupted(*TERMS, *ROUNDS), ["small.pgm"])
 
     def test_every_moment(self):
         """Files that are written together, interrupted at each line of that: whole or as before, and no other left."""
