@@ -15,9 +15,11 @@ _STRIPS, _TURN, _ROWS, _STRIP_BYTES = 273, 274, 278, 279
 _TILE_WIDTH, _TILE_HEIGHT, _TILES, _TILE_BYTES = 322, 323, 324, 325
 _KINDS_OF_NUMBER = 339
 RESOLUTION = {282: "2L", 283: "2L", 296: "1H"}  # along x, along y, their unit: a fraction each, and a number
+_TAGS = {WIDTH, HEIGHT, BITS, COMPRESSION, COLOUR, _STRIPS, _TURN, _ROWS, _STRIP_BYTES, _TILE_WIDTH, _TILE_HEIGHT, _TILES,
+         _TILE_BYTES, _KINDS_OF_NUMBER, *RESOLUTION}  # of the fields that are looked at
 
 _LENGTHS = {1: 1, 2: 1, 3: 2, 4: 4, 5: 8, 6: 1, 7: 1, 8: 2, 9: 4, 10: 8, 11: 4, 12: 8, 13: 4}  # of a value, in bytes
-_FORMS = {1: (1, "B"), 3: (1, "H"), 4: (1, "L"), 5: (2, "L")}  # of the types of values that are looked at
+_FORMS = {1: (1, "B"), 3: (1, "H"), 4: (1, "L"), 5: (2, "L")}  # of the types that these fields have
 
 
 class Values(NamedTuple):
@@ -97,13 +99,13 @@ class Directory:
         return struct.unpack(self.order + form, self._read(place, struct.calcsize(self.order + form)))
 
     def _add(self, place: int) -> None:
-        """Notes a field, of which all values are there."""
+        """Notes a field that is looked at; of any field, all values are there."""
         tag, kind, count = self.unpacked("HHL", place)
         length = count * _LENGTHS.get(kind, 0)
         place = place + 8 if length <= 4 else self.unpacked("L", place + 8)[0]
         if place + length > self.bytes:
             raise ValueError(CUT)
-        if kind in _FORMS:
+        if tag in _TAGS and kind in _FORMS:
             each, letter = _FORMS[kind]
             form = f"{count * each}{letter}"
             self.fields[tag] = Values(self.unpacked(form, place), form, place)
