@@ -724,15 +724,14 @@ class Streams(Command):
         *steps, last = shown.split("\r\x1b[K")
         self.assertEqual(last, "relief-raster: 2 of 2 scans cleaned\r\n")
         self.assertEqual(steps.pop(0), "")
-        self.assertIn("% of at", steps[0])
+        self.assertIn("% of at", "".join(steps))
         shares = []
         for step in steps:
             self.assertLess(len(step), 60)
-            found = re.match(re.escape(f"[2/2] {name}: ") + r"(?:(\d+) % of at|writing)", step)
+            found = re.match(re.escape(f"[2/2] {name}: ") + r"(?:(\d+) % of at|reading|(writing))", step)
             self.assertTrue(found, step)
-            shares.append(int(found[1] or 100))
+            shares.append(100 if found[2] else int(found[1] or 0))
         self.assertEqual(shares, sorted(shares))
-        self.assertLess(0, shares[0])
 
     def test_short_on_terminal(self):
         self.scan()
