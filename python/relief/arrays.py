@@ -51,7 +51,7 @@ def given(name: str, value: Any) -> np.ndarray:
 def ask_size(height: int, width: int) -> None:
     """Refusal 1 of a raster that is too large or has no pixel."""
     if not boundary.pixels(width, height):
-        raise Refused(1)
+        raise Refused(1, 0, f"{width} x {height} pixels")
 
 
 def raster(name: str, value: Any) -> np.ndarray:

@@ -53,20 +53,21 @@ class Refusals(unittest.TestCase):
                   (2**32 + 1, 1)]
         for shape in shapes:
             codes = np.broadcast_to(one, shape)
+            where = f"{shape[1]} x {shape[0]} pixels"
             with self.subTest(shape), limited_memory():
-                self.refused(1, 0, "", relief.clean, codes, 1024, BOX)
-                self.refused(1, 0, "", relief.check, codes, FLOW, 1024, BOX)
-                self.refused(1, 0, "", relief.price, codes, np.zeros((2, 3), np.int32), 1024, BOX)
-                self.refused(1, 0, "", relief.Job, codes, 1024, BOX)
-                self.refused(1, 0, "", relief.weights_from_picture, codes, 1024)
-                self.refused(1, 0, "", relief.Pairs.from_flat, np.zeros(0, np.int32), shape)
+                self.refused(1, 0, where, relief.clean, codes, 1024, BOX)
+                self.refused(1, 0, where, relief.check, codes, FLOW, 1024, BOX)
+                self.refused(1, 0, where, relief.price, codes, np.zeros((2, 3), np.int32), 1024, BOX)
+                self.refused(1, 0, where, relief.Job, codes, 1024, BOX)
+                self.refused(1, 0, where, relief.weights_from_picture, codes, 1024)
+                self.refused(1, 0, where, relief.Pairs.from_flat, np.zeros(0, np.int32), shape)
         with limited_memory():
             huge = np.broadcast_to(np.int8(0), (10**6, 10**6))
-            self.refused(1, 0, "", relief.Pairs, huge[1:], huge[:, 1:])
+            self.refused(1, 0, "1000000 x 1000000 pixels", relief.Pairs, huge[1:], huge[:, 1:])
         codes = np.asfortranarray(np.zeros((2000, 2000), np.uint8))  # a copy would be needed to lend it
         tracemalloc.start()
         self.addCleanup(tracemalloc.stop)
-        self.refused(1, 0, "", relief.clean, codes, 1024, BOX)
+        self.refused(1, 0, "2000 x 2000 pixels", relief.clean, codes, 1024, BOX)
         self.assertLess(tracemalloc.get_traced_memory()[1], 2**18)
 
     def test_largest_sizes(self):

@@ -7,7 +7,7 @@ import os
 import struct
 from typing import Any, BinaryIO, Dict, Mapping, NamedTuple, Tuple
 
-SIGNATURES = {b"II*\0": "<", b"MM\0*": ">"}
+ORDERS = {b"II*\0": "<", b"MM\0*": ">"}
 CUT = "cut off or damaged, not a whole TIFF picture"
 
 WIDTH, HEIGHT, BITS, COMPRESSION, COLOUR = 256, 257, 258, 259, 262
@@ -39,7 +39,7 @@ class Directory:
 
     def __init__(self, file: BinaryIO) -> None:
         self.file, self.bytes = file, file.seek(0, os.SEEK_END)
-        self.order = SIGNATURES[self._read(0, 4)]
+        self.order = ORDERS[self._read(0, 4)]
         self.fields: Dict[int, Values] = {}
         start, = self.unpacked("L", 4)
         count, = self.unpacked("H", start)
