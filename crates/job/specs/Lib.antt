@@ -1,7 +1,3 @@
 -- What the contracts cite beside the model's definitions.
---     Tables     a job whose numbers stand in the fronts of tables
---     Cleaned    a tape cleaned in tables
---     Answered   the answer of a tape whose records have passed
+--     Tables   a job whose numbers stand in the fronts of tables
 pub mod Tables
-pub mod Cleaned
-pub mod Answered

@@ -22,7 +22,7 @@ pub fn clean(input: &[u8], output: &mut [u8; 98304]) -> usize
     let mut flow = [0i32; 8064];
     let mut image = [0i32; 4096];
     let mut work = [0i32; 16128];
-    job::clean::clean(
+    job_text::clean(
         input,
         &mut samples,
         &mut weights,

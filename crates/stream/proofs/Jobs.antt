@@ -23,7 +23,7 @@ use Rattle.tape_scan.specs.Scan.{recordsOf, WholeRecords, Reached}
 use Rattle.tape_scan.proofs.Reached as scan
 use Rattle.roundtrip.proofs.Accepted.{accepted-job}
 use Rattle.roundtrip.proofs.Judged.{passed-parse}
-use Rattle.job.proofs.Slacks.{front-bytes}
+use Rattle.job_answer.proofs.Slacks.{front-bytes}
 use Rattle.stream.specs.Taken.{lentIn, Short, Refused, CountedAs, Counted, TakenFrom}
 use Rattle.stream.specs.declared.take.Taken.{Taken}
 

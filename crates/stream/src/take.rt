@@ -1,7 +1,7 @@
 // One job, taken from bytes that may end before it does.
 
-use job::answer::Answered;
-use job::answer::answer_of;
+use job_answer::Answered;
+use job_answer::answer_of;
 use model::Lent;
 use model::Totals;
 use records::record::too_short;

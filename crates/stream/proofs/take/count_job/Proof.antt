@@ -8,8 +8,8 @@ use Rattle.model.specs.Calls.{Answer}
 use Rattle.model.specs.Tape.{lentBy, parse}
 use Rattle.model.specs.Season.{treated}
 use Rattle.calls.specs.Slack.{mostSlack}
-use Rattle.job.specs.declared.answer.Answered.{Answered}
-use Rattle.job.specs.Answered.{AnswerTo}
+use Rattle.job_answer.specs.declared.Answered.{Answered}
+use Rattle.job_answer.specs.Answered.{AnswerTo}
 use Rattle.totals.specs.Counted.{withJob, Bounded}
 use Rattle.totals.proofs.Season.{countable-more}
 use borrow.Author.Needs.{needs}

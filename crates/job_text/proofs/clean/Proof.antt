@@ -1,4 +1,4 @@
--- `job::clean::clean` meets its contract. Assumes nothing.
+-- `job_text::clean` meets its contract. Assumes nothing.
 use native.Mathlib.Omega.{arith}
 use mathlib.Core.Path.{refl, sym, ap, _∙_}
 use mathlib.Core.List.{List}
@@ -10,11 +10,12 @@ use Rattle.model.specs.Program.{answerText}
 use Rattle.calls.specs.Answers.{answerOf}
 use Rattle.output.proofs.Laid.{put-as}
 use Rattle.tape_read.specs.Answers.{readAnswerOf}
 use Rattle.job.specs.Tables.{flowIn, imageIn, workIn}
-use Rattle.job.proofs.Texts.{Taken, taken, refused-text, refused-keeps, refused-flow, allowed, tables, enough, read-text, left-in}
+use Rattle.job.proofs.Tapes.{Taken, taken, allowed, tables}
+use Rattle.job_text.proofs.Texts.{refused-text, refused-keeps, refused-flow, enough, read-text, left-in}
 use borrow.Author.Needs.{needs}
-use Rattle.job.proofs.clean.clean.Statement.{statement}
-use Rattle.job.proofs.clean.clean.Tie as tie
+use Rattle.job_text.proofs.clean.Statement.{statement}
+use Rattle.job_text.proofs.clean.Tie as tie
 
 read-requires : tie.Need-read-requires
 read-requires c κs = search needs

@@ -1,10 +1,9 @@
--- A tape that has been read into tables: what is shown of its job's answer and image, and so its text. Assumes nothing.
+-- A tape that has been read into tables: what is shown of its job's answer and image. Assumes nothing.
 use mathlib.Core.Path.{_≡_, refl, sym, ap, ap₂, _∙_, subst}
 use mathlib.Core.Bool.{Bool, true, false, not, cond, true≢false}
 use mathlib.Core.List.{List}
 use mathlib.Core.Logic.{_⊎_, ⊎-elim}
-use Prim.Native.Nat.{ℕ, _+_, _*_, _≤_, _<_}
-use native.Mathlib.Nat.{mul-le-mul-right}
+use Prim.Native.Nat.{ℕ, _*_, _≤_, _<_}
 use native.Mathlib.Omega.{arith}
 use lib.Dec.{eqb}
 use lib.IntN.{ℤ}
@@ -17,19 +16,17 @@ use Rattle.model.specs.declared.Verdict.{Verdict}
 use Rattle.model.specs.Lists.{zeros, overwritten}
 use Rattle.model.specs.Grid.{sizeAllowed}
 use Rattle.model.specs.Verdict.{left}
-use Rattle.model.specs.Calls.{Answer, refusal, pixelsOf, pairsOf, imageOf, checkVerdict, checkAnswer, checkImage, runVerdict, runAnswer, runImage}
+use Rattle.model.specs.Calls.{Answer, pixelsOf, pairsOf, imageOf, checkVerdict, checkAnswer, checkImage, runVerdict, runAnswer, runImage}
 use Rattle.model.specs.Tape.{Progress, Parse, turned, whole, parse, ReadAnswer, readOf, readAnswer, readSamples, readWeights, readFlow, lentBy}
 use Rattle.tape_read.specs.declared.read.ReadResult.{ReadResult}
 use Rattle.tape_read.specs.Answers.{readAnswerOf}
-use Rattle.model.specs.Program.{refusalText, jobAnswer, jobImage, answerText, readText}
+use Rattle.model.specs.Program.{jobAnswer, jobImage}
 use Rattle.model.proofs.Lists.{length-table}
-use Rattle.terms.proofs.Size.{allowed-size}
 use Rattle.roundtrip.proofs.Accepted.{accepted-job}
 use Rattle.roundtrip.proofs.Judged.{accepted-parse, passed-parse, answer-by, samples-by, weights-by, flow-by}
 use Rattle.roundtrip.proofs.RoundTrip.{counted}
 use Rattle.roundtrip.specs.RoundTrip.{allOf}
 use Rattle.job.specs.Tables.{Tables, Holds, answerIn, imageFront, imageIn}
-use Rattle.job.specs.Cleaned.{after}
 use Rattle.job.proofs.Formers.{Shows, ofCheck, same-check, ofRun, same-run}
 
 -- the image that a call leaves is as long as the one it was lent, if that has a value for each pixel
@@ -177,14 +174,6 @@ module _ {X : Type 0} (shown : Answer → List ℤ → X) (shows : Shows shown) 
       go true h = ran (eqb-true _ _ h)
       go false h = checked (listed h)
 
--- of its text, of its answer alone
-text-shows : (t : Terms) → Shows (λ a values. answerText a t values)
-unfolding answerText
-text-shows t = record { alike = λ _ _ _ _. refl }
-
-answer-shows : Shows (λ (a : Answer) (_ : List ℤ). a)
-answer-shows = record { alike = λ _ _ _ _. refl }
-
 -- ---- what read's answer says of the tape
 
 none-small : sizeAllowed 0 0 ≡ false
@@ -237,33 +226,6 @@ module _ (input samples : List ℕ) (weights flow : List ℤ) (byte : (i : ℕ) 
           (whole-fits input samples weights flow byte p h .size) in
           absurd (true≢false (sym small ∙ none-small))
 
-  module _ (number place : ℕ) (e : readAnswerOf (ReadResult.Refused number place) ≡ readAnswer input samples weights flow) where
-    refused : eqb (readAnswer input samples weights flow .number) 0 ≡ false
-    refused = go (eqb (readAnswer input samples weights flow .number) 0) refl
-      where
-        clash : (p : Progress) × (tape ≡ whole p) → ⊥
-        clash (p, h) =
-            let y : _≡_ {A = Parse} (turned number place) (whole p) = sym (turned-back number place e) ∙ h in
-            let z : _≡_ {A = ℕ} 0 1 = cc in
-            absurd (omega arith)
-
-        go : (b : Bool) → eqb (readAnswer input samples weights flow .number) 0 ≡ b → b ≡ false
-        go true h = absurd (clash (accepted-parse input samples weights flow (eqb-true _ _ h)))
-        go false h = refl
-
-    -- the text, and the tables as they were
-    pub refused-text : refusalText (refusal number place) ≡ readText tape
-    refused-text = ap readText (sym (turned-back number place e))
-
-    pub refused-keeps : (left former : List ℤ) →
-        former ≡ cond (eqb (readAnswer input samples weights flow .number) 0) left former
-    refused-keeps left former = ap (λ (b : Bool). cond b left former) (sym refused)
-
-    pub refused-flow : (left : List ℤ) {values : List ℤ} → values ≡ readFlow input samples weights flow →
-        values ≡ cond (eqb (readAnswer input samples weights flow .number) 0) left flow
-    refused-flow left g =
-        g ∙ flow-by input samples weights flow (turned-back number place e) ∙ refused-keeps left flow
-
 -- ---- a job in the tables
 
 module _ {input samples : List ℕ} {weights flow : List ℤ} {byte : (i : ℕ) → getD input i 0 < 256} {t : Terms} {r : Rounds}
@@ -271,7 +233,7 @@ module _ {input samples : List ℕ} {weights flow : List ℤ} {byte : (i : ℕ) 
   pub allowed : sizeAllowed (t .width) (t .height) ≡ true
   allowed = subst (λ (u : Terms). sizeAllowed (u .width) (u .height) ≡ true) (sym (k .terms)) (k .fits .size)
 
-  held : (pixelsOf t ≤ length samples) × (pairsOf t ≤ length weights) × (pairsOf t ≤ length flow)
+  pub held : (pixelsOf t ≤ length samples) × (pairsOf t ≤ length weights) × (pairsOf t ≤ length flow)
   held =
       subst (λ (u : Terms). (pixelsOf u ≤ length samples) × (pairsOf u ≤ length weights) × (pairsOf u ≤ length flow))
       (sym (k .terms)) (k .fits .samplesHold, k .fits .weightsHold, k .fits .flowHolds)
@@ -288,18 +250,11 @@ module _ {input samples : List ℕ} {weights flow : List ℤ} {byte : (i : ℕ) 
           workHolds = omega (arith, held, holds .workHolds);
         }
 
-  -- the room that the text asks
-  pub enough : {output : ℕ} → 125 + 23 * length samples ≤ output → 125 + t .height * (22 * t .width + 1) ≤ output
-  enough room =
-      let size = allowed-size allowed in
-      let low : 1 * t .height ≤ t .width * t .height = mul-le-mul-right (t .height) (size .broad) in
-      omega (arith, held)
-
-  -- what is shown of the job, and what is left in the tables
+  -- what is shown of the job
   module _ (image work : List ℤ) (holds : Holds (length samples) (length flow) (length image) (length work))
       {S : List ℕ} {W F : List ℤ} (s : S ≡ readSamples input samples weights flow)
       (w : W ≡ readWeights input samples weights flow) (f : F ≡ readFlow input samples weights flow) where
-    read-shown : {X : Type 0} (shown : Terms → Answer → List ℤ → X) → ((u : Terms) → Shows (shown u)) →
+    pub read-shown : {X : Type 0} (shown : Terms → Answer → List ℤ → X) → ((u : Terms) → Shows (shown u)) →
         {a : Answer} {values : List ℤ} → a ≡ answerIn t r weighted flowed S W F image work →
         values ≡ imageIn t r weighted flowed S W F image work →
         shown t a (take (pixelsOf t) values) ≡ shown (k .p .terms) (jobAnswer (k .p)) (jobImage (k .p))
@@ -316,29 +271,3 @@ module _ {input samples : List ℕ} {weights flow : List ℤ} {byte : (i : ℕ) 
         there x l m n =
             shown (x .terms) (answerIn (x .terms) (x .rounds) (x .weighted) (x .flowed) l m n image work)
             (take (pixelsOf (x .terms)) (imageIn (x .terms) (x .rounds) (x .weighted) (x .flowed) l m n image work))
-
-    pub read-text : {a : Answer} {values : List ℤ} → a ≡ answerIn t r weighted flowed S W F image work →
-        values ≡ imageIn t r weighted flowed S W F image work →
-        answerText a t (take (pixelsOf t) values) ≡ readText (parse input (lentBy samples weights flow))
-    read-text e g = read-shown (λ u a values. answerText a u values) text-shows e g ∙ ap readText (sym (k .is))
-
-    pub read-answer : {a : Answer} → a ≡ answerIn t r weighted flowed S W F image work → a ≡ jobAnswer (k .p)
-    read-answer e = read-shown (λ (_ : Terms) (a : Answer) (_ : List ℤ). a) (λ _. answer-shows) e refl
-
-    -- what the job leaves in a table
-    pub left-in : readAnswerOf (ReadResult.Job t r weighted flowed) ≡ readAnswer input samples weights flow →
-        (leaves : Terms → Rounds → Bool → Bool → List ℕ → List ℤ → List ℤ → List ℤ → List ℤ → List ℤ) (former : List ℤ)
-        {values : List ℤ} →
-        values ≡ leaves t r weighted flowed S W F image work → values ≡ after input samples weights flow image work leaves former
-    left-in e leaves former {values} g =
-        g
-        ∙ ap₂ (λ (l : List ℕ) (m : List ℤ). leaves t r weighted flowed l m F image work) s w
-        ∙ ap (λ (n : List ℤ). by (readAnswerOf (ReadResult.Job t r weighted flowed)) n) f
-        ∙ ap (λ (a : ReadAnswer). by a (readFlow input samples weights flow)) e
-      where
-        by : ReadAnswer → List ℤ → List ℤ
-        by a n =
-            cond (eqb (a .number) 0)
-            (leaves (a .terms) (a .rounds) (a .weighted) (a .flowed) (readSamples input samples weights flow)
-            (readWeights input samples weights flow) n image work)
-            former

@@ -1,7 +1,7 @@
 // What is printed for a tape: the text of its job's answer, or of its refusal.
 
-use crate::treat::treat;
 use answer_text::answer::put_answer;
+use job::treat::treat;
 use tape_read::read::ReadResult;
 use tape_read::read::read;
 use text::line::put_refusal;
@@ -10,7 +10,7 @@ ghost use lib.ListN.{length};
 ghost use Rattle.model.specs.Tape.{lentBy, parse, readSamples, readWeights};
 ghost use Rattle.model.specs.Program.{readText};
 ghost use Rattle.output.specs.Put.{Put};
-ghost use Rattle.job.specs.Cleaned.{Room, flowLeft, imageLeft, workLeft};
+ghost use Rattle.job_text.specs.Cleaned.{Room, flowLeft, imageLeft, workLeft};
 
 // The text is laid at the front of the output; how many bytes it has.
 pub fn clean(

@@ -8,7 +8,7 @@ use Rattle.model.specs.Program.{jobAnswer}
 use Rattle.calls.specs.declared.answer.Answer.{Answer}
 use Rattle.calls.specs.Answers.{answerOf}
 use Rattle.calls.specs.Slack.{mostSlack}
-use Rattle.job.specs.declared.answer.Answered.{Answered}
+use Rattle.job_answer.specs.declared.Answered.{Answered}
 
 -- a job's answer, which is no refusal and whose slack is at most so much for each pixel, and its count of pixels, for which
 -- there are samples

@@ -1,4 +1,4 @@
--- `job::answer::answer_of` meets its contract. Assumes nothing.
+-- `job_answer::answer_of` meets its contract. Assumes nothing.
 use native.Mathlib.Omega.{arith}
 use mathlib.Core.Path.{sym, ap, _∙_, subst}
 use Prim.Native.Nat.{ℕ, _*_, _≤_, _<_}
@@ -9,12 +9,13 @@ use Rattle.model.specs.Calls.{Answer, pixelsOf}
 use Rattle.model.specs.Program.{jobAnswer}
 use Rattle.calls.specs.Slack.{mostSlack}
 use Rattle.tape_read.specs.Answers.{readAnswerOf}
-use Rattle.job.proofs.Texts.{Taken, taken, turned-back, allowed, tables, read-answer}
-use Rattle.job.proofs.Slacks.{slack-most}
-use Rattle.job.proofs.Accepts.{whole-accepted}
+use Rattle.job.proofs.Tapes.{Taken, taken, turned-back, allowed, tables}
+use Rattle.job_answer.proofs.Answers.{read-answer}
+use Rattle.job_answer.proofs.Slacks.{slack-most}
+use Rattle.job_answer.proofs.Accepts.{whole-accepted}
 use borrow.Author.Needs.{needs}
-use Rattle.job.proofs.answer.answer_of.Statement.{statement}
-use Rattle.job.proofs.answer.answer_of.Tie as tie
+use Rattle.job_answer.proofs.answer_of.Statement.{statement}
+use Rattle.job_answer.proofs.answer_of.Tie as tie
 
 take-numbers-requires : tie.Need-take-numbers-requires
 take-numbers-requires c κs = search needs

@@ -1,15 +1,15 @@
 // The answer of a tape whose records have passed, with nothing printed.
 
-use crate::treat::treat;
 use calls::answer::Answer;
+use job::treat::treat;
 use records::tally::Tally;
 use tape_read::read::ReadResult;
 use tape_read::read::take_numbers;
 ghost use lib.ListN.{length};
 ghost use Rattle.model.specs.Tape.{lentBy, parse};
 ghost use Rattle.tape_scan.specs.Scan.{WholeRecords};
 ghost use Rattle.job.specs.Tables.{Holds};
-ghost use Rattle.job.specs.Answered.{AnswerTo};
+ghost use Rattle.job_answer.specs.Answered.{AnswerTo};
 
 // A refusal, or the answer of the job and how many pixels it has.
 pub enum Answered {
