@@ -15,7 +15,7 @@ use Rattle.records.specs.Tally.{tallyOf}
 use Rattle.tape_scan.proofs.Reached as scan
 use Rattle.totals.proofs.Season.{bounded-none}
 use Rattle.stream.specs.Report.{reportFrom}
-use Rattle.stream.specs.Taken.{lentIn}
+use Rattle.job_take.specs.Taken.{lentIn}
 use Rattle.stream.specs.AtHand.{Reports}
 use Rattle.stream.proofs.Reports.{full-report}
 use Rattle.season_read.specs.declared.State.{State}

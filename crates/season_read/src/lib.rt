@@ -12,7 +12,7 @@ use window::more_bytes;
 ghost use mathlib.Core.Path.{_≡_};
 ghost use Prim.Native.Nat.{_<_};
 ghost use lib.ListN.{length};
-ghost use Rattle.stream.specs.Taken.{lentIn};
+ghost use Rattle.job_take.specs.Taken.{lentIn};
 ghost use Rattle.season_read.specs.Stream.{Stands, StepOf, ReportOf, Tables};
 
 // The bytes at hand, what has been read of the job at their front and where its next record begins,

@@ -15,7 +15,7 @@ use Rattle.records.specs.declared.tally.Tally.{Tally}
 use Rattle.tape_scan.specs.Scan.{Reached}
 use Rattle.roundtrip.proofs.Offsets.{tape-length}
 use Rattle.stream.specs.Report.{Report, reportFrom}
-use Rattle.stream.specs.Taken.{Short, Refused, Counted}
+use Rattle.job_take.specs.Taken.{Short, Refused, Counted}
 use Rattle.stream.specs.AtHand.{Reports, GoesOn, Wants}
 use Rattle.stream.proofs.First.{no-bytes, first-whole, first-faulty, first-past, first-ended}
 use Rattle.stream.proofs.Reports.{over-report, refused-report, counted-report}

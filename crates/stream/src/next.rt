@@ -1,13 +1,13 @@
 // What the bytes at hand come to.
 
-use crate::take::Taken;
-use crate::take::take_job;
+use job_take::Taken;
+use job_take::take_job;
 use model::Totals;
 use records::tally::Tally;
 ghost use Prim.Native.Nat.{_≤_};
 ghost use lib.ListN.{length};
 ghost use Rattle.tape_scan.specs.Scan.{Reached};
-ghost use Rattle.stream.specs.Taken.{Ready, lentIn};
+ghost use Rattle.job_take.specs.Taken.{Ready, lentIn};
 ghost use Rattle.stream.specs.AtHand.{NextOf};
 
 pub enum Next {

@@ -5,7 +5,7 @@ use native.Mathlib.Omega.{arith}
 use lib.ListN.{length}
 use Rattle.records.specs.declared.tally.Tally.{Tally}
 use Rattle.stream.specs.declared.next.Next.{Next}
-use Rattle.stream.specs.Taken.{lentIn}
+use Rattle.job_take.specs.Taken.{lentIn}
 use Rattle.stream.specs.AtHand.{NextOf}
 use Rattle.window.specs.Window.{atHand}
 use Rattle.season_read.specs.Stream.{Goes}

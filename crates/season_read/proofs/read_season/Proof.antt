@@ -7,7 +7,7 @@ use lib.ListN.{length}
 use Rattle.model.specs.declared.Lent.{Lent}
 use Rattle.model.specs.declared.Totals.{Totals}
 use Rattle.records.specs.declared.tally.Tally.{Tally}
-use Rattle.stream.specs.Taken.{lentIn}
+use Rattle.job_take.specs.Taken.{lentIn}
 use Rattle.season_read.specs.declared.Step.{Step}
 use Rattle.season_read.specs.declared.Ended.{Ended}
 use Rattle.season_read.specs.Stream.{Stands, left, StepOf}

@@ -1,4 +1,4 @@
--- `stream::take::count_job` meets its contract. Assumes nothing.
+-- `job_take::count_job` meets its contract. Assumes nothing.
 use mathlib.Core.Path.{_≡_, refl, ap, ap₂, _∙_, subst, subst⁻¹}
 use Prim.Native.Nat.{ℕ, _*_}
 use native.Mathlib.Omega.{arith}
@@ -13,8 +13,8 @@ use Rattle.job_answer.specs.Answered.{AnswerTo}
 use Rattle.totals.specs.Counted.{withJob, Bounded}
 use Rattle.totals.proofs.Season.{countable-more}
 use borrow.Author.Needs.{needs}
-use Rattle.stream.proofs.take.count_job.Statement.{statement}
-use Rattle.stream.proofs.take.count_job.Tie as tie
+use Rattle.job_take.proofs.count_job.Statement.{statement}
+use Rattle.job_take.proofs.count_job.Tie as tie
 
 answer-of-requires : tie.Need-answer-of-requires
 answer-of-requires c κs = search needs

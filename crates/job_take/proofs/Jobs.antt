@@ -24,8 +24,8 @@ use Rattle.tape_scan.proofs.Reached as scan
 use Rattle.roundtrip.proofs.Accepted.{accepted-job}
 use Rattle.roundtrip.proofs.Judged.{passed-parse}
 use Rattle.job_answer.proofs.Slacks.{front-bytes}
-use Rattle.stream.specs.Taken.{lentIn, Short, Refused, CountedAs, Counted, TakenFrom}
-use Rattle.stream.specs.declared.take.Taken.{Taken}
+use Rattle.job_take.specs.Taken.{lentIn, Short, Refused, CountedAs, Counted, TakenFrom}
+use Rattle.job_take.specs.declared.Taken.{Taken}
 
 module _ (bytes : List ℕ) (lent : Lent) {t : Tally} {o : ℕ} (r : Reached bytes lent t o) where
   -- the scan stops at a record that is refused

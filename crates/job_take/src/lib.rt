@@ -12,7 +12,7 @@ use totals::counted;
 ghost use lib.ListN.{length};
 ghost use Rattle.model.specs.Tape.{lentBy, parse};
 ghost use Rattle.tape_scan.specs.Scan.{Reached, WholeRecords};
-ghost use Rattle.stream.specs.Taken.{Ready, lentIn, CountedAs, TakenFrom};
+ghost use Rattle.job_take.specs.Taken.{Ready, lentIn, CountedAs, TakenFrom};
 
 pub enum Taken {
     // the bytes end before the job does: what reading them refuses, what has been read before, and

@@ -12,7 +12,7 @@ use Rattle.records.specs.declared.tally.Tally.{Tally}
 use Rattle.tape_scan.specs.Scan.{Reached}
 use Rattle.job.specs.Tables.{Holds}
 use Rattle.totals.specs.Counted.{Bounded, withJob}
-use Rattle.stream.specs.declared.take.Taken.{Taken}
+use Rattle.job_take.specs.declared.Taken.{Taken}
 
 -- what a season's reading is lent by tables of these lengths; more may follow a job
 abbrev pub lentIn : ℕ → ℕ → ℕ → Lent

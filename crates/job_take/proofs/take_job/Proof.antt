@@ -1,4 +1,4 @@
--- `stream::take::take_job` meets its contract. Assumes nothing.
+-- `job_take::take_job` meets its contract. Assumes nothing.
 use mathlib.Core.Path.{_≡_, refl, sym, _∙_, subst}
 use Prim.Native.Nat.{_<_}
 use native.Mathlib.Omega.{arith}
@@ -6,11 +6,11 @@ use lib.ListN.{length}
 use lib.Seq.{length-take-le}
 use Rattle.tape_scan.specs.declared.scan.Scanned.{Scanned}
 use Rattle.tape_scan.specs.Scan.{StopsAt}
-use Rattle.stream.specs.Taken.{lentIn}
-use Rattle.stream.proofs.Jobs.{stopped-short, stopped-refused, inside, records, ended}
+use Rattle.job_take.specs.Taken.{lentIn}
+use Rattle.job_take.proofs.Jobs.{stopped-short, stopped-refused, inside, records, ended}
 use borrow.Author.Needs.{needs}
-use Rattle.stream.proofs.take.take_job.Statement.{statement}
-use Rattle.stream.proofs.take.take_job.Tie as tie
+use Rattle.job_take.proofs.take_job.Statement.{statement}
+use Rattle.job_take.proofs.take_job.Tie as tie
 
 scan-tape-requires : tie.Need-scan-tape-requires
 scan-tape-requires c κs = search needs
