@@ -1,7 +1,5 @@
 -- What the calls' contracts cite beside the model's definitions.
 --     Answers   document 01's number and values for each answer
---     Ready     what the passes under the calls ask
 --     Slack     how large a slack can be
 pub mod Answers
-pub mod Ready
 pub mod Slack

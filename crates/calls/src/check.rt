@@ -1,7 +1,6 @@
 // Check judges a flow and fills its image.
 
 use crate::answer::Answer;
-use crate::figures;
 use model::Terms;
 use model::Verdict;
 use primal::fill_image;

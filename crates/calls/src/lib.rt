@@ -2,6 +2,5 @@
 // and promises its whole answer and every buffer by an equation with document 01's definitions.
 pub mod answer;
 pub mod check;
-mod figures;
 pub mod price;
 pub mod run;

@@ -1,7 +1,6 @@
 // Price judges an image.
 
 use crate::answer::Answer;
-use crate::figures;
 use model::Terms;
 use model::Verdict;
 use stencil::pixel;

@@ -1,7 +1,6 @@
 // Run does a job's rounds and fills its flow and image.
 
 use crate::answer::Answer;
-use crate::figures;
 use model::Rounds;
 use model::Terms;
 use model::Verdict;

@@ -26,7 +26,7 @@ use Rattle.runs.specs.Ends.{BoxEnds}
 use Rattle.runs.specs.Limits.{Within}
 use Rattle.model.proofs.Sizes.{iterate-size}
 use Rattle.rounds.proofs.Kept.{iterate-within}
-use Rattle.calls.proofs.Objectives.{figured}
+use Rattle.figures.proofs.Objectives.{figured}
 use Rattle.calls.proofs.run.run.Statement.{statement}
 use Rattle.calls.proofs.run.run.Tie as tie
 

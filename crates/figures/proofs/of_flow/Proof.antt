@@ -1,4 +1,4 @@
--- `calls::figures::of_flow` meets its contract. Assumes nothing.
+-- `figures::of_flow` meets its contract. Assumes nothing.
 use mathlib.Core.Path.{_≡_, ap, ap₂, _∙_}
 use Prim.Native.Nat.{ℕ, _+_, _*_, _≤_}
 use native.Mathlib.Omega.{arith}
@@ -17,11 +17,11 @@ use Rattle.certificate.proofs.Distance.{floor-below}
 use Rattle.certificate.proofs.Grid.{grid-sound}
 use Rattle.raster.proofs.Model.{weight-limits, misfit-is, variation-is, work-is}
 use Rattle.runs.specs.Run.{weightAt}
-use Rattle.calls.specs.Ready.{scaleOf}
-use Rattle.calls.proofs.Jobs.{with-bytes, misfit-limits, work-limits, image-size, image-inside-box}
-use Rattle.calls.proofs.Objectives.{variation, sized, price-is, price-fits, floor-is, floor-fits}
-use Rattle.calls.proofs.figures.of_flow.Statement.{statement}
-use Rattle.calls.proofs.figures.of_flow.Tie as tie
+use Rattle.figures.specs.Ready.{scaleOf}
+use Rattle.figures.proofs.Jobs.{with-bytes, misfit-limits, work-limits, image-size, image-inside-box}
+use Rattle.figures.proofs.Objectives.{variation, sized, price-is, price-fits, floor-is, floor-fits}
+use Rattle.figures.proofs.of_flow.Statement.{statement}
+use Rattle.figures.proofs.of_flow.Tie as tie
 
 cast-w : tie.Need-cast-w
 cast-w c = search needs

@@ -22,7 +22,7 @@ use Rattle.model.specs.Accepted.{WeightsAllowed}
 use Rattle.model.proofs.Lists.{getD-inside}
 use Rattle.model.proofs.Weights.{weight-is}
 use Rattle.runs.specs.Run.{weightAt}
-use Rattle.calls.specs.Ready.{scaleOf}
+use Rattle.figures.specs.Ready.{scaleOf}
 use Rattle.model.specs.Calls.{Outcome, figures, figuresOf, pixelsOf, pairsOf}
 use Rattle.raster.specs.Whole.{gridVariation}
 use Rattle.model.proofs.Bounds as Bounds

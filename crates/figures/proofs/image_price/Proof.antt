@@ -1,4 +1,4 @@
--- `calls::figures::image_price` meets its contract. Assumes nothing.
+-- `figures::image_price` meets its contract. Assumes nothing.
 use mathlib.Core.Path.{_≡_, ap, _∙_}
 use Prim.Native.Nat.{ℕ, _+_, _*_}
 use native.Mathlib.Omega.{arith}
@@ -9,10 +9,10 @@ use Rattle.model.specs.Problem.{misfit}
 use Rattle.model.specs.Grid.{grid}
 use Rattle.model.proofs.Bounds as Bounds
 use Rattle.model.proofs.Bounds.{largest-fits}
-use Rattle.calls.proofs.Jobs.{with-bytes, fall-limits, misfit-limits}
-use Rattle.calls.proofs.Objectives.{variation, misfit-at, variation-at, price-is, price-fits}
-use Rattle.calls.proofs.figures.image_price.Statement.{statement}
-use Rattle.calls.proofs.figures.image_price.Tie as tie
+use Rattle.figures.proofs.Jobs.{with-bytes, fall-limits, misfit-limits}
+use Rattle.figures.proofs.Objectives.{variation, misfit-at, variation-at, price-is, price-fits}
+use Rattle.figures.proofs.image_price.Statement.{statement}
+use Rattle.figures.proofs.image_price.Tie as tie
 
 cast-total-variation-grid : tie.Need-cast-total-variation-grid
 cast-total-variation-grid c = search needs

@@ -1,4 +1,4 @@
--- What the passes under the calls ask: an allowed job, its lengths, and an image of its box or of its flow.
+-- What the passes under the figures ask: an allowed job, its lengths, and an image of its box or of its flow.
 use mathlib.Core.Bool.{cond}
 use mathlib.Core.Path.{_≡_}
 use mathlib.Core.List.{List}
