@@ -2,22 +2,44 @@
 use mathlib.Core.Path.{_≡_, ap, _∙_, sym, subst}
 use mathlib.Core.List.{List, []}
 use Prim.Native.Nat.{ℕ, _*_, _^_, _<_}
+use native.Mathlib.Nat.{le-trans}
 use native.Mathlib.Omega.{arith}
+use lib.Dec.{lit≤}
 use lib.IntN.{ℤ, pos}
 use lib.ListN.{length}
+use Rattle.integers.proofs.Clamp.{clamp-size, natAbs-clamp}
 use Rattle.model.specs.declared.Terms.{Terms}
 use Rattle.model.specs.Lists.{at}
-use Rattle.model.specs.Problem.{image}
-use Rattle.model.specs.Grid.{gridPairs, grid}
+use Rattle.model.specs.Problem.{pairCount, image}
+use Rattle.model.specs.Grid.{weightOf, lowEnd, highEnd, gridPairs, grid}
+use Rattle.model.specs.Rounds.{stepped, step}
 use Rattle.model.specs.Calls.{imageOf}
 use Rattle.model.proofs.Lists.{length-table}
 use Rattle.model.proofs.Pairs.{grid-count}
+use Rattle.model.proofs.Range.{widest-fits, low-size, high-size}
+use Rattle.model.proofs.Weights.{weight-most}
 use Rattle.runs.specs.Limits.{Within}
+use Rattle.runs.proofs.Elements.{within-table}
 use Rattle.primal.specs.Limits.{ImageLimits}
 use Rattle.raster.specs.Whole.{GridLimits}
 use Rattle.model.specs.Accepted.{TermsAllowed, WeightsAllowed}
 use Rattle.raster.proofs.Model.{weight-limits}
-use Rattle.rounds.proofs.Model.{image-most}
+
+module _ (t : Terms) (samples : List ℕ) where
+  -- a flow's image is within the limits of a pass
+  pub image-most : t .low < 256 → t .high < 256 → (flow : List ℤ) → Within (2 ^ 20) (imageOf t samples flow)
+  unfolding imageOf image
+  image-most l u flow =
+      within-table (t .width * t .height) (image (grid t samples []) (at flow))
+      (λ i _. le-trans (clamp-size (lowEnd (t .low)) (highEnd (t .high)) _ (low-size (t .low) l) (high-size (t .high) u)) (le-trans widest-fits (lit≤ tt)))
+
+module _ (t : Terms) (samples : List ℕ) (weights : List ℤ) (limits : TermsAllowed t) (own : WeightsAllowed t weights) where
+  -- and a step within that of weights
+  pub step-within : (share : ℤ → ℤ) (flow : List ℤ) → Within 65280 (step share (grid t samples weights) flow)
+  unfolding step stepped
+  step-within share flow =
+      within-table (pairCount (grid t samples weights)) (stepped share (grid t samples weights) (at flow)) (λ j _.
+      le-trans (natAbs-clamp (weightOf t weights j) _) (weight-most t weights own (limits .weight-most) j))
 
 -- an image has a value for each pixel
 pub image-size : (t : Terms) (samples : List ℕ) (flow : List ℤ) {values : List ℤ} → values ≡ imageOf t samples flow → length values ≡ t .width * t .height

@@ -1,5 +1,3 @@
 -- What the rounds' inner contracts cite beside the model's definitions.
---     Ready       what a round asks
---     Left        what quick rounds leave in the buffers
+--     Ready   what every round asks
 pub mod Ready
-pub mod Left

@@ -1,5 +1,2 @@
-// The rounds of document 01: quick rounds with their momentum, and steady rounds. Both take the two ends of the box,
-// lower and upper, in sub-units, as the call has worked them out once.
+// What quick and steady rounds share: whole buffers, and the laws of a round's passes.
 pub mod buffers;
-pub mod quick;
-pub mod steady;

@@ -25,7 +25,7 @@ use Rattle.certificate.proofs.Grid.{run-demand, ending-flow}
 use Rattle.runs.specs.Ends.{BoxEnds}
 use Rattle.runs.specs.Limits.{Within}
 use Rattle.model.proofs.Sizes.{iterate-size}
-use Rattle.rounds.proofs.Kept.{iterate-within}
+use Rattle.quick.proofs.Kept.{iterate-within}
 use Rattle.figures.proofs.Objectives.{figured}
 use Rattle.calls.proofs.run.run.Statement.{statement}
 use Rattle.calls.proofs.run.run.Tie as tie

@@ -13,11 +13,11 @@ use Rattle.model.specs.Problem.{Problem, pairCount}
 use Rattle.model.specs.Grid.{gridPairs, grid}
 use Rattle.model.specs.Rounds.{eighth, Quick, quickStart, quickRound, quickRounds}
 use Rattle.model.specs.Calls.{imageOf}
-use Rattle.rounds.specs.Ready.{QuickReady, QuickJob, held}
-use Rattle.rounds.specs.Left.{earlier, quickWork, quickImage}
+use Rattle.quick.specs.Ready.{QuickReady, QuickJob, held}
+use Rattle.quick.specs.Left.{earlier, quickWork, quickImage}
 use Rattle.momentum.proofs.Bounds.{momentum-low, momentum-high}
 use Rattle.model.proofs.Sizes.{iterate-size, ahead-size}
-use Rattle.rounds.proofs.Kept.{iterate-within, ahead-within}
+use Rattle.quick.proofs.Kept.{iterate-within, ahead-within}
 
 -- after k rounds: the flow holds P, the work buffer the earlier P and R, the image that of the R stepped on last
 pub record Turned (t : Terms) (quick : ℕ) (samples : List ℕ) (weights image₀ : List ℤ) (k : ℕ) (flow image work : List ℤ) (momentum : ℕ) : Type 0 where

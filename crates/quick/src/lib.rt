@@ -1,11 +1,12 @@
 // Quick rounds: the step on the extrapolated flow R gives the next iterate P, and the next R lies
-// ahead of it.
+// ahead of it. They take the two ends of the box, lower and upper, in sub-units, as the call has worked
+// them out once.
 
-use crate::buffers;
 use advance::advance_grid;
 use integers::signed;
 use model::Terms;
 use primal::fill_image;
+use rounds::buffers;
 ghost use Prim.Native.Nat.{_*_};
 ghost use mathlib.Core.Path.{_≡_};
 ghost use mathlib.Core.List.{_++_};
@@ -14,8 +15,8 @@ ghost use Rattle.model.specs.Grid.{grid};
 ghost use Rattle.model.specs.Rounds.{eighth, quickRound, quickRounds};
 ghost use Rattle.model.specs.Calls.{imageOf};
 ghost use Rattle.runs.specs.Ends.{BoxEnds};
-ghost use Rattle.rounds.specs.Ready.{QuickReady, held, QuickJob};
-ghost use Rattle.rounds.specs.Left.{quickWork, quickImage};
+ghost use Rattle.quick.specs.Ready.{QuickReady, held, QuickJob};
+ghost use Rattle.quick.specs.Left.{quickWork, quickImage};
 
 // One quick round on the flow, which holds P, and the numbers ahead, which are R: from the image of R.
 // Gives the next T.

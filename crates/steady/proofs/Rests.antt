@@ -13,9 +13,9 @@ use Rattle.model.specs.Problem.{Problem, pairCount}
 use Rattle.model.specs.Grid.{grid}
 use Rattle.model.specs.Rounds.{step, firstMoving, Steady, oneMore, steadyRounds}
 use Rattle.runs.specs.Limits.{Within}
-use Rattle.rounds.specs.Ready.{SteadyReady}
+use Rattle.steady.specs.Ready.{SteadyReady}
 use Rattle.model.proofs.Sizes.{step-size}
-use Rattle.rounds.proofs.Model.{step-within}
+use Rattle.rounds.proofs.Passes.{step-within}
 
 -- whether some pair would move
 abbrev pub someMoves : (ℤ → ℤ) → Problem → List ℤ → Bool

@@ -1,4 +1,4 @@
--- `rounds::quick::advance_round` meets its contract: the image of the numbers ahead, then all pairs. Assumes nothing.
+-- `quick::advance_round` meets its contract: the image of the numbers ahead, then all pairs. Assumes nothing.
 use mathlib.Core.Path.{_≡_, sym, _∙_}
 use Prim.Native.Nat.{_-_}
 use borrow.Author.Needs.{needs}
@@ -11,10 +11,10 @@ use Rattle.model.specs.Rounds.{eighth, nextMomentum, quickRound}
 use Rattle.model.specs.Calls.{imageOf}
 use Rattle.momentum.specs.Reciprocal.{Reciprocal}
 use Rattle.raster.proofs.Model.{image-is, weights-within}
-use Rattle.rounds.proofs.Model.{next-range, factor-most, iterate-is, ahead-is}
+use Rattle.quick.proofs.Model.{next-range, factor-most, iterate-is, ahead-is}
 use Rattle.rounds.proofs.Passes.{fill-limits, grid-limits}
-use Rattle.rounds.proofs.quick.advance_round.Statement.{statement}
-use Rattle.rounds.proofs.quick.advance_round.Tie as tie
+use Rattle.quick.proofs.advance_round.Statement.{statement}
+use Rattle.quick.proofs.advance_round.Tie as tie
 
 cast-w : tie.Need-cast-w
 cast-w c = search needs

@@ -1,4 +1,4 @@
--- `rounds::steady::steady_rounds` meets its contract. Assumes nothing.
+-- `steady::steady_rounds` meets its contract. Assumes nothing.
 use mathlib.Core.Path.{_≡_, sym, ap, _∙_}
 use mathlib.Core.Bool.{true, true≢false}
 use mathlib.Core.List.{List}
@@ -15,11 +15,11 @@ use Rattle.model.specs.Grid.{grid}
 use Rattle.model.specs.Rounds.{nearestEighth, step, Steady}
 use Rattle.runs.specs.Limits.{Within}
 use Rattle.raster.proofs.Model.{stepped-is}
-use Rattle.rounds.specs.Ready.{SteadyReady}
+use Rattle.steady.specs.Ready.{SteadyReady}
 use Rattle.rounds.proofs.Passes.{image-size, grid-limits}
-use Rattle.rounds.proofs.Rests.{Rested, rested-none, rested-more, rested-end, ready-more}
-use Rattle.rounds.proofs.steady.steady_rounds.Statement.{statement}
-use Rattle.rounds.proofs.steady.steady_rounds.Tie as tie
+use Rattle.steady.proofs.Rests.{Rested, rested-none, rested-more, rested-end, ready-more}
+use Rattle.steady.proofs.steady_rounds.Statement.{statement}
+use Rattle.steady.proofs.steady_rounds.Tie as tie
 
 abbrev Inv-loop : tie.InvT-loop
 Inv-loop t lower upper allowance samples weights flow₀ image₀ w h weight most moved₀ flow image moved =

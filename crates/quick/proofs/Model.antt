@@ -1,34 +1,30 @@
 -- A quick round in buffers is the model's, on document 01's grid. Assumes nothing.
 use mathlib.Core.Path.{_≡_, sym, ap, _∙_}
-use mathlib.Core.List.{List, []}
+use mathlib.Core.List.{List}
 use Prim.Native.Nat.{ℕ, _-_, _*_, _^_, _≤_, _<_}
-use native.Mathlib.Nat.{mul-le-mul, le-of-mul-le-mul-right, le-trans}
+use native.Mathlib.Nat.{mul-le-mul, le-of-mul-le-mul-right}
 use native.Mathlib.Omega.{arith}
-use lib.Dec.{lit≤}
 use lib.IntN.{ℤ, pos, natAbs, _-ℤ_}
 use Rattle.integers.proofs.Absolute.{natAbs-difference}
-use Rattle.integers.proofs.Clamp.{clamp-size, natAbs-clamp}
 use Rattle.model.specs.declared.Terms.{Terms}
 use Rattle.model.specs.Lists.{at, table}
-use Rattle.model.specs.Problem.{pairCount, image}
-use Rattle.model.specs.Grid.{weightOf, lowEnd, highEnd, grid}
+use Rattle.model.specs.Problem.{pairCount}
+use Rattle.model.specs.Grid.{grid}
 use Rattle.model.specs.Rounds.{stepped, step, nextMomentum, quickRound}
 use Rattle.model.specs.Calls.{imageOf}
 use Rattle.model.specs.Accepted.{TermsAllowed, WeightsAllowed}
 use Rattle.model.proofs.Lists.{getD-table}
-use Rattle.model.proofs.Weights.{weight-most}
-use Rattle.model.proofs.Range.{widest-fits, low-size, high-size}
 use Rattle.model.proofs.Root.{momentum-grows, momentum-least}
 use Rattle.runs.specs.Limits.{Within}
 use Rattle.runs.specs.Run.{weightAt}
 use Rattle.raster.specs.Whole.{gridStep}
-use Rattle.runs.proofs.Elements.{within-table}
 use Rattle.runs.proofs.Fill.{table-cong}
 use Rattle.raster.proofs.Model.{step-is, stepped-is}
 use Rattle.momentum.specs.Reciprocal.{Reciprocal}
 use Rattle.momentum.specs.Reciprocal.{aheadOf}
 use Rattle.advance.specs.Ahead.{gridAhead}
-use Rattle.rounds.specs.Ready.{held}
+use Rattle.rounds.proofs.Passes.{step-within}
+use Rattle.quick.specs.Ready.{held}
 use Rattle.momentum.proofs.Bounds.{extrapolate-is}
 
 -- the next T of an allowed one
@@ -47,22 +43,7 @@ factor-most momentum m h l r =
     let b = next-range momentum h l in
     le-of-mul-le-mul-right {k = nextMomentum momentum} (omega (arith, r .near, b .2)) (b .0)
 
-module _ (t : Terms) (samples : List ℕ) where
-  -- a flow's image is within the limits of a pass
-  pub image-most : t .low < 256 → t .high < 256 → (flow : List ℤ) → Within (2 ^ 20) (imageOf t samples flow)
-  unfolding imageOf image
-  image-most l u flow =
-      within-table (t .width * t .height) (image (grid t samples []) (at flow))
-      (λ i _. le-trans (clamp-size (lowEnd (t .low)) (highEnd (t .high)) _ (low-size (t .low) l) (high-size (t .high) u)) (le-trans widest-fits (lit≤ tt)))
-
 module _ (t : Terms) (samples : List ℕ) (weights : List ℤ) (limits : TermsAllowed t) (own : WeightsAllowed t weights) where
-  -- and a step within that of weights
-  pub step-within : (share : ℤ → ℤ) (flow : List ℤ) → Within 65280 (step share (grid t samples weights) flow)
-  unfolding step stepped
-  step-within share flow =
-      within-table (pairCount (grid t samples weights)) (stepped share (grid t samples weights) (at flow)) (λ j _.
-      le-trans (natAbs-clamp (weightOf t weights j) _) (weight-most t weights own (limits .weight-most) j))
-
   module _ (share : ℤ → ℤ) (flow ahead : List ℤ) (momentum : ℕ) {values : List ℤ} (e : values ≡ imageOf t samples ahead) where
     pub iterate-is : table (pairCount (grid t samples weights)) (gridStep share (t .width) (t .height) (weightAt (pos (t .weight)) weights) ahead values)
         ≡ quickRound share (grid t samples weights) (held flow ahead momentum) .iterate
@@ -83,7 +64,7 @@ module _ (t : Terms) (samples : List ℕ) (weights : List ℤ) (limits : TermsAl
         small j =
             let now : ℤ = at (step share (grid t samples weights) ahead) j in
             let d : natAbs (now -ℤ at flow j) ≤ 130560 =
-            omega (arith, natAbs-difference now (at flow j), step-within share ahead j, flow-most j)
+            omega (arith, natAbs-difference now (at flow j), step-within t samples weights limits own share ahead j, flow-most j)
             in
             let n : nextMomentum momentum ≤ 2 ^ 29 = omega (arith, next-range momentum least most .2) in
             omega (arith, mul-le-mul d n)

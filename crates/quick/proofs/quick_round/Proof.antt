@@ -1,4 +1,4 @@
--- `rounds::quick::quick_round` meets its contract: the earlier flow is copied, then the second half lent. Assumes nothing.
+-- `quick::quick_round` meets its contract: the earlier flow is copied, then the second half lent. Assumes nothing.
 use mathlib.Core.Path.{sym, ap, ap₂, _∙_, subst}
 use mathlib.Core.List.{List, _++_}
 use Prim.Native.Nat.{_+_, _≤_}
@@ -9,10 +9,10 @@ use lib.ListN.{length}
 use lib.Seq.{length-take-le}
 use mir.Syntax.{w32}
 use mir.ValLaws.{toZ-ofZ}
-use Rattle.rounds.specs.Ready.{QuickReady}
-use Rattle.rounds.proofs.Halves.{second-half, second-back}
-use Rattle.rounds.proofs.quick.quick_round.Statement.{statement}
-use Rattle.rounds.proofs.quick.quick_round.Tie as tie
+use Rattle.quick.specs.Ready.{QuickReady}
+use Rattle.quick.proofs.Halves.{second-half, second-back}
+use Rattle.quick.proofs.quick_round.Statement.{statement}
+use Rattle.quick.proofs.quick_round.Tie as tie
 
 -- the first half is within the buffer
 shorter : (c : tie.Start) → length (c .args .flow .now) ≤ length (c .args .work .now)

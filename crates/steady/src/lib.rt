@@ -1,4 +1,5 @@
-// Steady rounds: a step on the flow while some pair would move and the allowance lasts.
+// Steady rounds: a step on the flow while some pair would move and the allowance lasts. They take the
+// two ends of the box, lower and upper, in sub-units, as the call has worked them out once.
 
 use integers::signed;
 use model::Terms;
@@ -13,7 +14,7 @@ ghost use Rattle.model.specs.Grid.{grid as theGrid};
 ghost use Rattle.model.specs.Rounds.{nearestEighth, firstMoving, steadyRounds};
 ghost use Rattle.model.specs.Calls.{imageOf};
 ghost use Rattle.runs.specs.Ends.{BoxEnds};
-ghost use Rattle.rounds.specs.Ready.{SteadyReady};
+ghost use Rattle.steady.specs.Ready.{SteadyReady};
 
 // How steady rounds end: how many there were, and whether no pair would move.
 pub struct Steady {

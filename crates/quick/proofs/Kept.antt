@@ -16,7 +16,7 @@ use Rattle.model.proofs.Root.{momentum-least}
 use Rattle.runs.specs.Limits.{Within}
 use Rattle.runs.proofs.Elements.{within-table}
 use Rattle.momentum.proofs.Bounds.{extrapolate-bound, momentum-low}
-use Rattle.rounds.proofs.Model.{step-within}
+use Rattle.rounds.proofs.Passes.{step-within}
 
 zeros-within : (n w : ℕ) → Within w (replicate n (pos 0))
 zeros-within n w = subst (Within w) (table-constant n (pos 0)) (within-table n (λ _. pos 0) (λ _ _. zero-le))

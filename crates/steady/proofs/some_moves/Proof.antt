@@ -1,4 +1,4 @@
--- `rounds::steady::some_moves` meets its contract: the image of the flow, then the search. Assumes nothing.
+-- `steady::some_moves` meets its contract: the image of the flow, then the search. Assumes nothing.
 use mathlib.Core.Path.{_≡_, sym, ap, _∙_}
 use Prim.Native.Nat.{ℕ, _^_}
 use native.Mathlib.Omega.{arith}
@@ -16,9 +16,9 @@ use Rattle.runs.specs.Run.{movingOf}
 use Rattle.runs.specs.Limits.{Within}
 use Rattle.raster.proofs.Model.{image-is, moving-is}
 use Rattle.runs.proofs.Moving.{one-moves, nothing-moves}
 use Rattle.rounds.proofs.Passes.{fill-limits, grid-limits}
-use Rattle.rounds.proofs.steady.some_moves.Statement.{statement}
-use Rattle.rounds.proofs.steady.some_moves.Tie as tie
+use Rattle.steady.proofs.some_moves.Statement.{statement}
+use Rattle.steady.proofs.some_moves.Tie as tie
 
 flow-most : (c : tie.Start) → Within (2 ^ 20) (c .args .flow .now)
 flow-most c i = omega (arith, c .pre .1 .flow-most i)

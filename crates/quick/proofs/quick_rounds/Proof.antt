@@ -1,13 +1,13 @@
--- `rounds::quick::quick_rounds` meets its contract. Assumes nothing.
+-- `quick::quick_rounds` meets its contract. Assumes nothing.
 use mathlib.Core.Path.{_≡_, sym, ap, _∙_}
 use Prim.Native.Nat.{ℕ, _-_, _*_}
 use native.Mathlib.Omega.{arith}
 use borrow.Author.Needs.{needs}
 use mir.Syntax.{w32}
 use mir.ValLaws.{toZ-ofZ}
-use Rattle.rounds.proofs.Turns.{Turned, turned-none, turned-ready, turned-more, turned-length, turned-work}
-use Rattle.rounds.proofs.quick.quick_rounds.Statement.{statement}
-use Rattle.rounds.proofs.quick.quick_rounds.Tie as tie
+use Rattle.quick.proofs.Turns.{Turned, turned-none, turned-ready, turned-more, turned-length, turned-work}
+use Rattle.quick.proofs.quick_rounds.Statement.{statement}
+use Rattle.quick.proofs.quick_rounds.Tie as tie
 
 abbrev Inv-loop : tie.InvT-loop
 Inv-loop t lower upper quick samples weights flow₀ image₀ work₀ momentum₀ k₀ flow image work momentum k = Turned t quick samples weights image₀ k flow image work momentum

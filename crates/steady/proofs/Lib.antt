@@ -1,0 +1,3 @@
+-- Laws of steady rounds.
+--     Rests   steady rounds in buffers, one after another
+pub mod Rests
