@@ -2,8 +2,8 @@
 
 use integers::signed;
 use model::Terms;
-use raster::grid::total_variation_grid;
-use raster::grid::total_work_grid;
+use raster_sums::total_variation_grid;
+use raster_sums::total_work_grid;
 use runs::pixels::misfit;
 ghost use Prim.Native.Nat.{_+_, _*_, _^_, _<_};
 ghost use mathlib.Core.Path.{_≡_};

@@ -4,12 +4,10 @@
 --     Runs        a run of pairs as its stretch of all pairs
 --     Steps       a step by runs of pairs
 --     Searches    a search for a moving pair by parts
---     RunSums     sums by runs of pairs
 --     Model       what the passes leave is what the model defines
 pub mod Rows
 pub mod Whole
 pub mod Runs
 pub mod Steps
 pub mod Searches
-pub mod RunSums
 pub mod Model

@@ -1,4 +1,4 @@
--- `raster::grid::total_variation_grid` meets its contract: the vertical pairs, then the rows. Assumes nothing.
+-- `raster_sums::total_variation_grid` meets its contract: the vertical pairs, then the rows. Assumes nothing.
 use mathlib.Core.Path.{_≡_, sym, ap, _∙_}
 use Prim.Native.Nat.{ℕ, _+_, _-_, _*_}
 use native.Mathlib.Omega.{arith}
@@ -6,16 +6,16 @@ use borrow.Author.Needs.{needs}
 use lib.IntN.{ℤ, pos}
 use Rattle.integers.specs.Sum.{total}
 use Rattle.model.proofs.Pairs.{grid-count}
 use Rattle.raster.specs.Whole.{firstPixel, secondPixel, gridVariation}
 use Rattle.runs.specs.Run.{weightAt}
 use Rattle.raster.proofs.Rows.{part-there, part-weights}
 use Rattle.raster.proofs.Whole.{vertical}
 use Rattle.raster.proofs.Runs.{vertical-falls, pairs-few}
 use Rattle.runs.proofs.Sums.{total-part, parts-most, variation-most}
 use Rattle.runs.proofs.Elements.{own-most}
-use Rattle.raster.proofs.RunSums.{vertical-variation, horizontal-variation}
-use Rattle.raster.proofs.grid.total_variation_grid.Statement.{statement}
-use Rattle.raster.proofs.grid.total_variation_grid.Tie as tie
+use Rattle.raster_sums.proofs.RunSums.{vertical-variation, horizontal-variation}
+use Rattle.raster_sums.proofs.total_variation_grid.Statement.{statement}
+use Rattle.raster_sums.proofs.total_variation_grid.Tie as tie
 
 -- how many vertical and horizontal pairs there are, and a pair's weight times the size of its fall
 abbrev above : tie.Start → ℕ

@@ -1,4 +1,4 @@
--- `raster::grid::total_work_rows` meets its contract. Assumes nothing.
+-- `raster_sums::total_work_rows` meets its contract. Assumes nothing.
 use mathlib.Core.Path.{_≡_, sym, _∙_}
 use Prim.Native.Nat.{ℕ, _+_, _-_, _*_, _≤_}
 use native.Mathlib.Omega.{arith}
@@ -10,13 +10,13 @@ use Rattle.integers.specs.Sum.{total}
 use Rattle.integers.proofs.Total.{total-zero, total-cong}
 use Rattle.integers.proofs.Machine.{read}
 use Rattle.model.specs.Lists.{at}
 use Rattle.raster.specs.Whole.{rowPixel, rowFall}
 use Rattle.raster.proofs.Rows.{rows-end}
 use Rattle.raster.proofs.Runs.{Lent, row-part, row-falls, work-limits, row-run, pairs-few}
-use Rattle.raster.proofs.RunSums.{work}
+use Rattle.raster_sums.proofs.RunSums.{work}
 use Rattle.runs.proofs.Sums.{total-part, parts-most, product-most}
-use Rattle.raster.proofs.grid.total_work_rows.Statement.{statement}
-use Rattle.raster.proofs.grid.total_work_rows.Tie as tie
+use Rattle.raster_sums.proofs.total_work_rows.Statement.{statement}
+use Rattle.raster_sums.proofs.total_work_rows.Tie as tie
 
 abbrev Inv-loop : tie.InvT-loop
 Inv-loop flow image width height across sum₀ done₀ start₀ row₀ sum done start row =

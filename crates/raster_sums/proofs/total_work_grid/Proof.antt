@@ -1,4 +1,4 @@
--- `raster::grid::total_work_grid` meets its contract: the vertical pairs, then the rows. Assumes nothing.
+-- `raster_sums::total_work_grid` meets its contract: the vertical pairs, then the rows. Assumes nothing.
 use mathlib.Core.Path.{_≡_, sym, ap, _∙_}
 use Prim.Native.Nat.{ℕ, _+_, _-_, _*_, _≤_}
 use native.Mathlib.Omega.{arith}
@@ -12,14 +12,14 @@ use Rattle.integers.specs.Sum.{total}
 use Rattle.integers.proofs.Total.{total-cong}
 use Rattle.integers.proofs.Machine.{read}
 use Rattle.model.specs.Lists.{at}
 use Rattle.raster.specs.Whole.{firstPixel, secondPixel, gridFall}
 use Rattle.raster.proofs.Rows.{part-within}
 use Rattle.raster.proofs.Whole.{vertical, vertical-most, all-pairs}
 use Rattle.raster.proofs.Runs.{Stretch, lent-rest, vertical-falls, work-limits, work-size, horizontal-work, pairs-few, vertical-run, horizontal-run}
-use Rattle.raster.proofs.RunSums.{work}
+use Rattle.raster_sums.proofs.RunSums.{work}
 use Rattle.runs.proofs.Sums.{total-part, parts-most, product-most}
-use Rattle.raster.proofs.grid.total_work_grid.Statement.{statement}
-use Rattle.raster.proofs.grid.total_work_grid.Tie as tie
+use Rattle.raster_sums.proofs.total_work_grid.Statement.{statement}
+use Rattle.raster_sums.proofs.total_work_grid.Tie as tie
 
 -- how many vertical and horizontal pairs there are, and a pair's number times its fall
 abbrev above : tie.Start → ℕ

@@ -1,4 +1,4 @@
--- `raster::grid::total_variation_rows` meets its contract. Assumes nothing.
+-- `raster_sums::total_variation_rows` meets its contract. Assumes nothing.
 use mathlib.Core.Path.{_≡_, refl, sym, ap, _∙_}
 use Prim.Native.Nat.{ℕ, _+_, _-_, _*_, _≤_}
 use native.Mathlib.Omega.{arith}
@@ -6,15 +6,15 @@ use borrow.Author.Needs.{needs}
 use lib.IntN.{ℤ, pos}
 use Rattle.integers.specs.Sum.{total}
 use Rattle.integers.proofs.Total.{total-zero}
 use Rattle.raster.specs.Whole.{rowPixel, rowVariation}
 use Rattle.raster.proofs.Rows.{row-end, rows-end, part-there, part-weights}
 use Rattle.raster.proofs.Runs.{Lent, row-part, row-falls, pairs-few}
 use Rattle.runs.proofs.Sums.{total-part, parts-most, variation-most}
 use Rattle.runs.proofs.Elements.{own-most}
 use Rattle.runs.specs.Run.{weightAt}
-use Rattle.raster.proofs.RunSums.{row-variation}
-use Rattle.raster.proofs.grid.total_variation_rows.Statement.{statement}
-use Rattle.raster.proofs.grid.total_variation_rows.Tie as tie
+use Rattle.raster_sums.proofs.RunSums.{row-variation}
+use Rattle.raster_sums.proofs.total_variation_rows.Statement.{statement}
+use Rattle.raster_sums.proofs.total_variation_rows.Tie as tie
 
 abbrev Inv-loop : tie.InvT-loop
 Inv-loop image width height weights across sum₀ done₀ start₀ row₀ sum done start row =

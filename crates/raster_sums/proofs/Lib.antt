@@ -1,0 +1,3 @@
+-- Laws that the sums' proofs share.
+--     RunSums   sums by runs of pairs
+pub mod RunSums
