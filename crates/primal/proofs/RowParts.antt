@@ -15,9 +15,9 @@ use lib.ListN.{length, getD, take, drop}
 use lib.Seq.{getD-take, getD-drop, drop-drop}
 use Rattle.model.specs.Lists.{at, table}
 use Rattle.model.proofs.Lists.{length-table}
-use Rattle.runs.specs.Limits.{RowLimits}
+use Rattle.image_rows.specs.Limits.{RowLimits}
 use Rattle.primal.specs.Limits.{ImageLimits, ImageRowLimits}
-use Rattle.runs.specs.Row.{rowValue}
+use Rattle.image_rows.specs.Row.{rowValue}
 use Rattle.primal.specs.Image.{imageValue, withRow}
 use Rattle.primal.specs.Stencil.{gathered, rightPair}
 use Rattle.runs.proofs.Fill.{Filling, filling-part, table-cong}

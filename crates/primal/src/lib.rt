@@ -1,6 +1,6 @@
 // The image of a flow, row by row.
 
-use runs::row::image_row;
+use image_rows::image_row;
 ghost use mathlib.Core.Path.{_≡_};
 ghost use Prim.Native.Nat.{_+_, _-_, _*_, _<_, min};
 ghost use Rattle.model.specs.Lists.{table};

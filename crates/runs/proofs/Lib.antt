@@ -3,11 +3,9 @@
 --     Search      a search from the front
 --     Moving      the answer of a search for a moving pair
 --     Elements    the numbers of buffers within limits
---     Columns     a row of a flow's image, column by column, and clamped values
 --     Sums        running sums, and that they fit 64 bits
 pub mod Fill
 pub mod Search
 pub mod Moving
 pub mod Elements
-pub mod Columns
 pub mod Sums

@@ -1,6 +1,4 @@
-// Passes over a run of pairs, a row of pixels, or pixels in any order; parts of a buffer that may be
-// empty.
+// Passes over a run of pairs, or pixels in any order; parts of a buffer that may be empty.
 pub mod pairs;
 pub mod part;
 pub mod pixels;
-pub mod row;

@@ -10,8 +10,9 @@ use Rattle.integers.specs.Whole.{clamp}
 use Rattle.integers.proofs.Clamp.{clamp-≥, clamp-≤}
 use Rattle.model.specs.Lists.{at, table}
 use Rattle.model.proofs.Lists.{length-table, getD-table}
 use Rattle.runs.specs.Ends.{Between}
-use Rattle.runs.specs.Limits.{Within, ColumnLimits, RowLimits}
+use Rattle.runs.specs.Limits.{Within}
+use Rattle.image_rows.specs.Limits.{ColumnLimits, RowLimits}
 
 -- 0 before a part
 within-cons : {k : ℕ} (l : List ℤ) → Within k l → Within k (pos 0 ∷ l)

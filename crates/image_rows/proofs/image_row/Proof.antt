@@ -1,4 +1,4 @@
--- `runs::row::image_row` meets its contract. Assumes nothing.
+-- `image_rows::image_row` meets its contract. Assumes nothing.
 use mathlib.Core.Path.{_≡_, refl}
 use mathlib.Core.List.{_∷_}
 use Prim.Native.Nat.{_-_, _≤_, zero-le}
@@ -12,12 +12,12 @@ use mir.Val.{toZ, ofZ}
 use mir.ValLaws.{toZ-ofZ}
 use Rattle.integers.proofs.Machine.{read}
 use Rattle.model.specs.Lists.{at}
-use Rattle.runs.specs.Row.{rowValue}
+use Rattle.image_rows.specs.Row.{rowValue}
 use Rattle.runs.proofs.Elements.{element}
 use Rattle.runs.proofs.Fill.{Filling, filling-none, filling-more, filling-all}
-use Rattle.runs.proofs.Columns.{column-limits, clamped-between}
-use Rattle.runs.proofs.row.image_row.Statement.{statement}
-use Rattle.runs.proofs.row.image_row.Tie as tie
+use Rattle.image_rows.proofs.Columns.{column-limits, clamped-between}
+use Rattle.image_rows.proofs.image_row.Statement.{statement}
+use Rattle.image_rows.proofs.image_row.Tie as tie
 
 abbrev Inv-loop : tie.InvT-loop
 Inv-loop row₀ samples below above across low high left₀ c₀ row left c =

@@ -2,16 +2,16 @@
 // with the row below, those with the row above, and those across the row. Of a row that has none
 // below or above, that part is empty.
 
-use crate::part::number_or;
+use runs::part::number_or;
 use stencil::pixel;
 ghost use mathlib.Core.Path.{_≡_};
 ghost use Prim.Native.Nat.{_<_};
 ghost use lib.ListN.{length};
 ghost use lib.Signed.{_≤ℤ_};
 ghost use Rattle.model.specs.Lists.{table};
 ghost use Rattle.runs.specs.Ends.{Between};
-ghost use Rattle.runs.specs.Limits.{ColumnLimits, RowLimits};
-ghost use Rattle.runs.specs.Row.{columnValue, rowValue};
+ghost use Rattle.image_rows.specs.Limits.{ColumnLimits, RowLimits};
+ghost use Rattle.image_rows.specs.Row.{columnValue, rowValue};
 
 // The pixel at column c, from its sample and the numbers of its pairs to the right and left.
 fn column_value(

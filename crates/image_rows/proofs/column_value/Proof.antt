@@ -1,12 +1,12 @@
--- `runs::row::column_value` meets its contract. Assumes nothing.
+-- `image_rows::column_value` meets its contract. Assumes nothing.
 use native.Mathlib.Omega.{arith}
 use borrow.Author.Needs.{needs}
 use mir.Syntax.{w32}
 use mir.ValLaws.{toZ-ofZ}
 use Rattle.integers.proofs.Machine.{read}
 use Rattle.stencil.proofs.Readings.{reading-most}
-use Rattle.runs.proofs.row.column_value.Statement.{statement}
-use Rattle.runs.proofs.row.column_value.Tie as tie
+use Rattle.image_rows.proofs.column_value.Statement.{statement}
+use Rattle.image_rows.proofs.column_value.Tie as tie
 
 reading-requires : tie.Need-reading-requires
 reading-requires c κs = search needs
