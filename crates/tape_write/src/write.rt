@@ -1,9 +1,9 @@
 // Write: the job is judged before anything is written.
 
-use crate::lay::lay_tape;
 use model::Rounds;
 use model::Terms;
 use model::Verdict;
+use tape_lay::lay_tape;
 use terms::first_beyond;
 use terms::first_over;
 use terms::judge_terms;

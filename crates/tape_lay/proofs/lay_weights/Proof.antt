@@ -1,4 +1,4 @@
--- `tape_write::lay::lay_weights` meets its contract. The loop's invariant: the records before `j` have been laid. Assumes nothing.
+-- `tape_lay::lay_weights` meets its contract. The loop's invariant: the records before `j` have been laid. Assumes nothing.
 use mathlib.Core.Path.{refl, ap, _∙_}
 use mathlib.Core.List.{List}
 use Prim.Native.Nat.{ℕ, _-_}
@@ -12,9 +12,9 @@ use Rattle.model.specs.declared.Entry.{Entry}
 use Rattle.model.specs.Lists.{at}
 use Rattle.model.specs.Tape.{encoded}
 use Rattle.output.proofs.Laid.{put-as}
-use Rattle.tape_write.proofs.Laying.{Laid, laid-none, laid-length, laid-room, laid-more, laid-all}
-use Rattle.tape_write.proofs.lay.lay_weights.Statement.{statement}
-use Rattle.tape_write.proofs.lay.lay_weights.Tie as tie
+use Rattle.tape_lay.proofs.Laying.{Laid, laid-none, laid-length, laid-room, laid-more, laid-all}
+use Rattle.tape_lay.proofs.lay_weights.Statement.{statement}
+use Rattle.tape_lay.proofs.lay_weights.Tie as tie
 
 abbrev records : List ℤ → ℕ → List ℕ
 records xs j = encoded (Entry.PairWeight (natAbs (at xs j)))

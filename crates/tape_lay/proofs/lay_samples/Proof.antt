@@ -1,4 +1,4 @@
--- `tape_write::lay::lay_samples` meets its contract. The loop's invariant: the records before `i` have been laid. Assumes nothing.
+-- `tape_lay::lay_samples` meets its contract. The loop's invariant: the records before `i` have been laid. Assumes nothing.
 use mathlib.Core.Path.{refl}
 use mathlib.Core.List.{List}
 use Prim.Native.Nat.{ℕ, _-_}
@@ -6,9 +6,9 @@ use native.Mathlib.Omega.{arith}
 use lib.ListN.{length, getD}
 use Rattle.model.specs.declared.Entry.{Entry}
 use Rattle.model.specs.Tape.{encoded}
-use Rattle.tape_write.proofs.Laying.{Laid, laid-none, laid-length, laid-room, laid-more, laid-all}
-use Rattle.tape_write.proofs.lay.lay_samples.Statement.{statement}
-use Rattle.tape_write.proofs.lay.lay_samples.Tie as tie
+use Rattle.tape_lay.proofs.Laying.{Laid, laid-none, laid-length, laid-room, laid-more, laid-all}
+use Rattle.tape_lay.proofs.lay_samples.Statement.{statement}
+use Rattle.tape_lay.proofs.lay_samples.Tie as tie
 
 abbrev records : List ℕ → ℕ → List ℕ
 records xs i = encoded (Entry.Sample (getD xs i 0))

@@ -1,12 +1,12 @@
--- `tape_write::lay::lay_tape` meets its contract. Assumes nothing.
+-- `tape_lay::lay_tape` meets its contract. Assumes nothing.
 use Prim.Native.Nat.{_+_, _*_, _≤_}
 use native.Mathlib.Omega.{arith}
 use lib.ListN.{length}
 use Rattle.roundtrip.proofs.Offsets.{tape-length, StretchLengths, stretch-lengths}
-use Rattle.tape_write.proofs.Laying.{assembled}
+use Rattle.tape_lay.proofs.Laying.{assembled}
 use borrow.Author.Needs.{needs}
-use Rattle.tape_write.proofs.lay.lay_tape.Statement.{statement}
-use Rattle.tape_write.proofs.lay.lay_tape.Tie as tie
+use Rattle.tape_lay.proofs.lay_tape.Statement.{statement}
+use Rattle.tape_lay.proofs.lay_tape.Tie as tie
 
 -- the lengths of the tape's parts, and that the output holds them
 sizes : (c : tie.Start) → let a = c .args in

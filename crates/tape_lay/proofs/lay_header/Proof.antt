@@ -1,9 +1,9 @@
--- `tape_write::lay::lay_header` meets its contract. Assumes nothing.
+-- `tape_lay::lay_header` meets its contract. Assumes nothing.
 use native.Mathlib.Omega.{arith}
 use Rattle.output.proofs.Laid.{put-then}
 use borrow.Author.Needs.{needs}
-use Rattle.tape_write.proofs.lay.lay_header.Statement.{statement}
-use Rattle.tape_write.proofs.lay.lay_header.Tie as tie
+use Rattle.tape_lay.proofs.lay_header.Statement.{statement}
+use Rattle.tape_lay.proofs.lay_header.Tie as tie
 
 put-record-requires : tie.Need-put-record-requires
 put-record-requires c κs = search needs
