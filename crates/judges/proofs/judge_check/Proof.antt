@@ -11,8 +11,9 @@ use Rattle.model.specs.Verdict.{Row, firstRefusal}
 use Rattle.model.specs.Calls.{pixelsOf, pairsOf}
 use Rattle.model.proofs.Refusals.{accepted-rows, joined, stopped, went-on}
 use Rattle.model.proofs.Accepted.{length-passes, optional-passes, no-longer}
-use Rattle.judges.specs.Lengths.{lengthRows}
-use Rattle.judges.proofs.Rows.{termsRows, lengths-due, under-terms}
+use Rattle.row_judges.specs.Lengths.{lengthRows}
+use Rattle.row_judges.proofs.Rows.{lengths-due}
+use Rattle.judges.proofs.Rows.{termsRows, under-terms}
 use borrow.Author.Needs.{needs}
 use Rattle.judges.proofs.judge_check.Statement.{statement}
 use Rattle.judges.proofs.judge_check.Tie as tie

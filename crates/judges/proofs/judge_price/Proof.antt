@@ -11,8 +11,9 @@ use Rattle.model.specs.Verdict.{Row, firstRefusal}
 use Rattle.model.specs.Calls.{pixelsOf, pairsOf}
 use Rattle.model.proofs.Refusals.{joined, stopped, went-on}
 use Rattle.model.specs.Calls.{exactRow, exactOrNoneRow}
-use Rattle.judges.specs.Outside.{outsideRow}
-use Rattle.judges.proofs.Rows.{row-by, termsRows, pixels-due, pairs-due, under-terms}
+use Rattle.row_judges.specs.Outside.{outsideRow}
+use Rattle.row_judges.proofs.Rows.{row-by, pixels-due, pairs-due}
+use Rattle.judges.proofs.Rows.{termsRows, under-terms}
 use borrow.Author.Needs.{needs}
 use Rattle.judges.proofs.judge_price.Statement.{statement}
 use Rattle.judges.proofs.judge_price.Tie as tie

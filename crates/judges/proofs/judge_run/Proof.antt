@@ -10,8 +10,9 @@ use Rattle.model.specs.Verdict.{Row, row, firstRefusal}
 use Rattle.model.specs.Calls.{pixelsOf, pairsOf}
 use Rattle.model.proofs.Refusals.{joined, stopped, went-on}
 use Rattle.model.specs.Calls.{exactRow}
-use Rattle.judges.specs.Lengths.{lengthRows}
-use Rattle.judges.proofs.Rows.{row-by, termsRows, pairs-due, lengths-due, pairs-few, under-terms}
+use Rattle.row_judges.specs.Lengths.{lengthRows}
+use Rattle.row_judges.proofs.Rows.{row-by, pairs-due, lengths-due, pairs-few}
+use Rattle.judges.proofs.Rows.{termsRows, under-terms}
 use borrow.Author.Needs.{needs}
 use Rattle.judges.proofs.judge_run.Statement.{statement}
 use Rattle.judges.proofs.judge_run.Tie as tie

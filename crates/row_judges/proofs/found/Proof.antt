@@ -1,10 +1,10 @@
--- `judges::found` meets its contract. Assumes nothing.
+-- `row_judges::found` meets its contract. Assumes nothing.
 use mathlib.Core.Path.{sym, _∙_}
 use mathlib.Core.List.{[]}
 use borrow.Author.Tests.{lt-ltb, le-ltb}
 use Rattle.model.proofs.Refusals.{accepted, refused, passed}
-use Rattle.judges.proofs.found.Statement.{statement}
-use Rattle.judges.proofs.found.Tie as tie
+use Rattle.row_judges.proofs.found.Statement.{statement}
+use Rattle.row_judges.proofs.found.Tie as tie
 
 returns : tie.Need-returns
 returns c = sym (refused _ [] (lt-ltb _ _ (c .if1 .taken)))

@@ -1,10 +1,10 @@
--- `judges::first` meets its contract. Assumes nothing.
+-- `row_judges::first` meets its contract. Assumes nothing.
 use mathlib.Core.Path.{sym, ap}
 use Rattle.model.specs.declared.Verdict.{Verdict}
 use Rattle.model.specs.Verdict.{decided}
 use borrow.Author.Needs.{needs}
-use Rattle.judges.proofs.first.Statement.{statement}
-use Rattle.judges.proofs.first.Tie as tie
+use Rattle.row_judges.proofs.first.Statement.{statement}
+use Rattle.row_judges.proofs.first.Tie as tie
 
 enum-known-above : tie.Need-enum-known-above
 enum-known-above c = search needs

@@ -1,11 +1,11 @@
--- `judges::judge_rounds` meets its contract. Assumes nothing.
+-- `row_judges::judge_rounds` meets its contract. Assumes nothing.
 use mathlib.Core.Path.{sym, _∙_}
 use mathlib.Core.List.{[]}
 use borrow.Author.Needs.{needs}
 use borrow.Author.Tests.{not-true, not-false}
 use Rattle.model.proofs.Refusals.{accepted, refused, passed}
-use Rattle.judges.proofs.judge_rounds.Statement.{statement}
-use Rattle.judges.proofs.judge_rounds.Tie as tie
+use Rattle.row_judges.proofs.judge_rounds.Statement.{statement}
+use Rattle.row_judges.proofs.judge_rounds.Tie as tie
 
 quick-allowed-requires : tie.Need-quick-allowed-requires
 quick-allowed-requires c κs = search needs

@@ -1,11 +1,11 @@
--- `judges::lengths_due` meets its contract. Assumes nothing.
+-- `row_judges::lengths_due` meets its contract. Assumes nothing.
 use mathlib.Core.Path.{sym, ap, _∙_}
 use mathlib.Core.Bool.{Bool, cond}
 use Rattle.model.specs.Calls.{pixelsOf, pairsOf}
-use Rattle.judges.proofs.Rows.{pixels-due, pairs-due}
+use Rattle.row_judges.proofs.Rows.{pixels-due, pairs-due}
 use borrow.Author.Needs.{needs}
-use Rattle.judges.proofs.lengths_due.Statement.{statement}
-use Rattle.judges.proofs.lengths_due.Tie as tie
+use Rattle.row_judges.proofs.lengths_due.Statement.{statement}
+use Rattle.row_judges.proofs.lengths_due.Tie as tie
 
 size-allowed-requires : tie.Need-size-allowed-requires
 size-allowed-requires c κs = search needs

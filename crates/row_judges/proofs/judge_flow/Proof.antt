@@ -1,8 +1,8 @@
--- `judges::judge_flow` meets its contract. Assumes nothing.
+-- `row_judges::judge_flow` meets its contract. Assumes nothing.
 use borrow.Author.Needs.{needs}
-use Rattle.judges.proofs.Rows.{found-at}
-use Rattle.judges.proofs.judge_flow.Statement.{statement}
-use Rattle.judges.proofs.judge_flow.Tie as tie
+use Rattle.row_judges.proofs.Rows.{found-at}
+use Rattle.row_judges.proofs.judge_flow.Statement.{statement}
+use Rattle.row_judges.proofs.judge_flow.Tie as tie
 
 first-beyond-requires : tie.Need-first-beyond-requires
 first-beyond-requires c κs = search needs

@@ -1,9 +1,9 @@
--- `judges::exact_or_none` meets its contract. Assumes nothing.
+-- `row_judges::exact_or_none` meets its contract. Assumes nothing.
 use mathlib.Core.Path.{sym, _∙_}
 use borrow.Author.Needs.{needs}
 use Rattle.model.proofs.Refusals.{accepted, refused, passed}
-use Rattle.judges.proofs.exact_or_none.Statement.{statement}
-use Rattle.judges.proofs.exact_or_none.Tie as tie
+use Rattle.row_judges.proofs.exact_or_none.Statement.{statement}
+use Rattle.row_judges.proofs.exact_or_none.Tie as tie
 
 wrong-length-requires : tie.Need-wrong-length-requires
 wrong-length-requires c κs = search needs

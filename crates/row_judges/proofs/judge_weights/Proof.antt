@@ -1,8 +1,8 @@
--- `judges::judge_weights` meets its contract. Assumes nothing.
+-- `row_judges::judge_weights` meets its contract. Assumes nothing.
 use borrow.Author.Needs.{needs}
-use Rattle.judges.proofs.Rows.{found-at}
-use Rattle.judges.proofs.judge_weights.Statement.{statement}
-use Rattle.judges.proofs.judge_weights.Tie as tie
+use Rattle.row_judges.proofs.Rows.{found-at}
+use Rattle.row_judges.proofs.judge_weights.Statement.{statement}
+use Rattle.row_judges.proofs.judge_weights.Tie as tie
 
 first-over-requires : tie.Need-first-over-requires
 first-over-requires c κs = search needs

@@ -1,13 +1,13 @@
--- `judges::judge_image` meets its contract. Assumes nothing.
+-- `row_judges::judge_image` meets its contract. Assumes nothing.
 use mathlib.Core.Path.{ap₂, _∙_}
 use borrow.Author.Needs.{needs}
 use lib.IntN.{ℤ}
 use mir.Syntax.{w32}
 use mir.ValLaws.{toZ-ofZ}
 use Rattle.runs.specs.Ends.{firstOutsideRange}
-use Rattle.judges.proofs.Rows.{found-at}
-use Rattle.judges.proofs.judge_image.Statement.{statement}
-use Rattle.judges.proofs.judge_image.Tie as tie
+use Rattle.row_judges.proofs.Rows.{found-at}
+use Rattle.row_judges.proofs.judge_image.Statement.{statement}
+use Rattle.row_judges.proofs.judge_image.Tie as tie
 
 first-outside-requires : tie.Need-first-outside-requires
 first-outside-requires c κs = search needs

@@ -1,5 +1,5 @@
 -- The row of 9 for any range, given by its two ends in sub-units. With the ends of the box the verdict of a price is the model's
--- (proofs/Rows.antt).
+-- (judges/proofs/Rows.antt).
 use mathlib.Core.List.{List}
 use lib.Dec.{ltb}
 use lib.IntN.{ℤ}

@@ -1,10 +1,10 @@
--- `judges::judge_lengths` meets its contract. Assumes nothing.
+-- `row_judges::judge_lengths` meets its contract. Assumes nothing.
 use Rattle.model.proofs.Refusals.{joined}
 use Rattle.model.specs.Calls.{exactRow, exactOrNoneRow}
-use Rattle.judges.proofs.Rows.{row-by}
+use Rattle.row_judges.proofs.Rows.{row-by}
 use borrow.Author.Needs.{needs}
-use Rattle.judges.proofs.judge_lengths.Statement.{statement}
-use Rattle.judges.proofs.judge_lengths.Tie as tie
+use Rattle.row_judges.proofs.judge_lengths.Statement.{statement}
+use Rattle.row_judges.proofs.judge_lengths.Tie as tie
 
 lengths-due-requires : tie.Need-lengths-due-requires
 lengths-due-requires c κs = search needs

@@ -1,11 +1,11 @@
--- `judges::exact` meets its contract. Assumes nothing.
+-- `row_judges::exact` meets its contract. Assumes nothing.
 use mathlib.Core.Path.{sym, ap, _∙_}
 use mathlib.Core.Bool.{not}
 use mathlib.Core.List.{[]}
 use borrow.Author.Tests.{eq-eqb, ne-eqb}
 use Rattle.model.proofs.Refusals.{accepted, refused, passed}
-use Rattle.judges.proofs.exact.Statement.{statement}
-use Rattle.judges.proofs.exact.Tie as tie
+use Rattle.row_judges.proofs.exact.Statement.{statement}
+use Rattle.row_judges.proofs.exact.Tie as tie
 
 returns : tie.Need-returns
 returns c = sym (passed _ [] (ap not (eq-eqb _ _ (c .if1 .taken))) ∙ accepted)

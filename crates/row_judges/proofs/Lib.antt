@@ -1,0 +1,2 @@
+-- One row, by an equal number, and the lengths that are counted.
+pub mod Rows
