@@ -27,6 +27,7 @@ sys.path[:0] = [str(TOP / "examples"), str(TOP / "python")]
 import pgm  # noqa: E402
 import relief  # noqa: E402
 from relief import boundary  # noqa: E402
+from relief.result import distance_bound  # noqa: E402
 
 try:
     import skimage
@@ -198,12 +199,14 @@ def print_beside(codes):
         floor = max(result.floor for result in (judged, *long))
         found = price_over_time(codes, weight)
         least = min(price for points in found.values() for _, price in points.values())
-        print(f"weight {weight}: floor {floor}, least price {least}, {100 * above(least, floor):.5f} % above it")
+        own = distance_bound(relief.price(codes, near, weight, BOX) - floor, codes.size)
+        print(f"weight {weight}: floor {floor}, least price {least}, {100 * above(least, floor):.5f} % above it;")
+        print(f"  found: beside the reference, itself within {own:.4f} of the best image; all in levels, root mean square")
         for name, result in ("reference, rounded", judged), *((f"{run.job.quick} + 4000 rounds", run) for run in long):
             apart = np.sqrt(((result.image - near).astype(np.int64)**2).mean()) / 256
             print(f"  {name:18} {result.outcome} {result.moved}, price {100 * above(result.price, floor):.4f} % above it,"
                   f" own floor {100 * above(floor, result.floor):.4f} % below it;",
-                  f"root mean square bound {result.rms_bound:.4f}, found {apart:.4f}")
+                  f"bound {result.rms_bound:.4f}, found {apart:.4f}")
         print(f"  {'':42}", *(f"{f'within {100 * within:g} %':>34}" for within in THRESHOLDS))
         for name, points in found.items():
             print(f"  {name:42}", *(f"{reached(points, floor, within):>34}" for within in THRESHOLDS))
@@ -230,7 +233,7 @@ def plot(curves, path):
             panel.axhline(100 * within, color="#555555", linewidth=0.9, linestyle="--", zorder=1)
         panel.set(xscale="log", yscale="log", xlabel="seconds", title=f"weight {weight}")
         panel.xaxis.set_major_formatter("{x:g}")
-        panel.yaxis.set_major_formatter("{x:g} %")
+        panel.yaxis.set_major_formatter(lambda share, _: f"{np.format_float_positional(share, trim='-')} %")
         panel.grid(color="#dddddd", linewidth=0.6)
         panel.set_axisbelow(True)
     panels[0].set_ylabel("price above the best floor")
