@@ -1,5 +1,7 @@
 //! The calls on a job: price, check and run.
 
+use std::fmt;
+
 use crate::grid::Grid;
 use crate::problem::{widened, Problem};
 use crate::refusal::{Fault, Refusal};
@@ -19,6 +21,20 @@ pub struct Figures {
     pub floor: i64,
     /// The duality gap; 0 for `price`.
     pub slack: u64,
+}
+
+/// As the cleaning program prints them: `settled 17 131080 131064 16`.
+impl fmt::Display for Figures {
+    fn fmt(&self, out: &mut fmt::Formatter<'_>) -> fmt::Result {
+        let Figures {
+            outcome,
+            moved,
+            price,
+            floor,
+            slack,
+        } = self;
+        write!(out, "{outcome} {moved} {price} {floor} {slack}")
+    }
 }
 
 /// The form of [`check`].

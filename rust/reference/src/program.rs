@@ -75,15 +75,7 @@ impl Workspace {
 
 /// The text for an accepted job: heading, figures, and a line for each row.
 fn report(figures: &Figures, image: &[i32], width: usize) -> String {
-    let Figures {
-        outcome,
-        moved,
-        price,
-        floor,
-        slack,
-    } = figures;
-    let mut text =
-        format!("outcome moved price floor slack\n{outcome} {moved} {price} {floor} {slack}\n");
+    let mut text = format!("outcome moved price floor slack\n{figures}\n");
     for row in image.chunks(width) {
         let values: Vec<String> = row.iter().map(i32::to_string).collect();
         text.push_str(&values.join(" "));

@@ -24,7 +24,7 @@ fn main() -> io::Result<()> {
     let output = match answer(&tape, defined) {
         Err(refusal) => format!("{refusal}\n").into_bytes(),
         Ok((figures, image, flow)) => {
-            let mut output = line(&figures).into_bytes();
+            let mut output = format!("{figures}\n").into_bytes();
             for value in image.iter().chain(&flow) {
                 output.extend(value.to_le_bytes());
             }
@@ -60,16 +60,4 @@ fn answer(tape: &[u8], defined: bool) -> Result<(Figures, Vec<i32>, Vec<i32>), R
         )?
     };
     Ok((figures, image, flow))
-}
-
-/// The figures as the cleaning program prints them.
-fn line(figures: &Figures) -> String {
-    let Figures {
-        outcome,
-        moved,
-        price,
-        floor,
-        slack,
-    } = figures;
-    format!("{outcome} {moved} {price} {floor} {slack}\n")
 }

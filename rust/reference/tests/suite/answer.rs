@@ -1,7 +1,6 @@
 //! The binary that writes the whole answer to a tape of any size.
 
 use relief_inputs::{jointed, two_by_one, Case, Random};
-use relief_reference::Figures;
 
 use crate::support::{written, Answer, Calls};
 
@@ -15,14 +14,7 @@ fn answered(tape: &[u8]) -> Vec<u8> {
 
 /// The bytes of an answer.
 fn bytes_of(answer: &Answer) -> Vec<u8> {
-    let Figures {
-        outcome,
-        moved,
-        price,
-        floor,
-        slack,
-    } = answer.figures;
-    let mut bytes = format!("{outcome} {moved} {price} {floor} {slack}\n").into_bytes();
+    let mut bytes = format!("{}\n", answer.figures).into_bytes();
     for value in answer.image.iter().chain(&answer.flow) {
         bytes.extend(value.to_le_bytes());
     }
