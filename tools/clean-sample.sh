@@ -4,12 +4,13 @@
 # with the command relief-raster (tools/python.sh sets it up). Program and library are proved before they are built: some
 # minutes the first time, a few seconds after that. The prover's lines go to target/program.log and target/library.log.
 # RELIEF_BIN, if set, is the path of another program, RELIEF_LIB_DIR the folder of another library: these are taken as
-# they are, and nothing is built.
+# they are, and not built.
 set -euo pipefail
 if [ -n "${RELIEF_BIN:-}" ]; then
     program=$(realpath "$RELIEF_BIN")
 fi
 cd "$(dirname "$0")/.."
+bash tools/python.sh packages > /dev/null # what is missing is told at once
 if [ -z "${RELIEF_BIN:-}" ]; then
     echo "proving and building the program (some minutes the first time)" >&2
     bash tools/quiet.sh target/program.log rt check relief

@@ -2,7 +2,8 @@
 # Makes the Python package ready, and prints the interpreter to use it with: installs what it needs of Debian's packages
 # where that is missing and may be done, links the proved library for it (python/relief/librelief.so), and writes the
 # command target/bin/relief-raster. The interpreter is the one that Debian's packages belong to; RELIEF_PYTHON, if set,
-# is another, which must have NumPy, Pillow and Matplotlib. RELIEF_LIB_DIR is as for tools/library.sh.
+# is another, which must have NumPy, Pillow and Matplotlib. RELIEF_LIB_DIR is as for tools/library.sh. With the argument
+# `packages` it only sees to the packages and prints the interpreter.
 set -euo pipefail
 cd "$(dirname "$0")/.."
 
@@ -33,6 +34,11 @@ elif [ -n "$absent" ]; then
     echo "$python lacks packages: as root, apt-get install $absent" >&2
     echo "(or let RELIEF_PYTHON name an interpreter that has NumPy, Pillow and Matplotlib)" >&2
     exit 1
+fi
+
+if [ "${1:-}" = packages ]; then
+    echo "$python"
+    exit
 fi
 
 bash tools/library.sh > /dev/null

@@ -11,6 +11,9 @@ unset RELIEF_LIB_DIR RELIEF_BIN RELIEF_SEASON
 proofs=$(mktemp)
 trap 'rm -f "$proofs"' EXIT
 
+echo "== Python and its packages"
+bash tools/python.sh packages
+
 echo "== layout of the Rattle files"
 rt fmt --check
 

@@ -1,16 +1,16 @@
 """The relief cleaner from Python: cleans scanned façades, over the proved library.
 
-    import numpy as np, relief
+    import relief
     result = relief.clean(codes, weight=1024, box=(30, 200))
     result.levels, result.slack, result.rms_bound
 
 Depths are in levels; a code s covers a level and is read at its centre, s + 0.5. A sub-unit is 1/256 level: images, flows
-and weights are whole numbers of them. Everything is computed by the library, whose answers are proved; what its figures
-promise is said at Result and in the README.
+and weights are whole numbers of them. Image, flow, outcome, moved, price, floor and slack come from the library, whose
+answers are proved; what they promise is said at Result and in the README. The bounds in levels are worked out from them.
 """
 
-from .calls import QUICK, STEADY, check, check_job, clean, clean_job, price
-from .job import Job
+from .calls import check, check_job, clean, clean_job, price
+from .job import QUICK, STEADY, Job
 from .pairs import Pairs, weights_from_picture
 from .refused import Refused
 from .result import Result

@@ -8,12 +8,10 @@ import numpy as np
 
 from . import boundary
 from .arrays import frozen, whole_numbers
-from .job import Job
+from .job import QUICK, STEADY, Job
 from .pairs import Pairs, lent
 from .result import Result
 
-QUICK = 200
-STEADY = 1000
 _OUTCOMES = {1: "checked", 2: "settled", 3: "spent"}
 
 
@@ -55,7 +53,7 @@ def check(codes: Any, flow: Any, weight: int, box: Tuple[int, int], weights: Any
     """
     if flow is None:
         raise TypeError("flow is None: a number for each pair is needed")
-    return check_job(Job(codes, weight, box, weights=weights, flow=flow))
+    return check_job(Job(codes, weight, box, 0, 0, weights, flow))
 
 
 def price(codes: Any, image: Any, weight: int, box: Tuple[int, int], weights: Any = None) -> int:
@@ -72,7 +70,7 @@ def price(codes: Any, image: Any, weight: int, box: Tuple[int, int], weights: An
     >>> price(np.array([[0, 2]], np.uint8), np.array([[382, 386]]), weight=256, box=(0, 255))
     131080
     """
-    job = Job(codes, weight, box, weights=weights)
+    job = Job(codes, weight, box, 0, 0, weights)
     values = whole_numbers("image", image, job.shape)
     refusal, place, figures = boundary.price(job.terms, job.codes, lent(job.weights), values)
     if refusal:

@@ -12,6 +12,9 @@ from .arrays import Shape, box_ends, frozen, raster, whole_number
 from .pairs import Pairs, pairs_of
 from .refused import Refused
 
+QUICK = 200
+STEADY = 1000
+
 
 @dataclass(frozen=True, eq=False)
 class Job:
@@ -21,8 +24,8 @@ class Job:
         codes: the scan, a 2-D uint8 array of shape (h, w).
         weight: the weight, in sub-units of 1/256 level, 0 to 65,280.
         box: lowest and highest level of the image, each 0 to 255.
-        quick: the number of quick rounds, 0 to 4,096.
-        steady: the most steady rounds, 0 to 65,535.
+        quick: the number of quick rounds, 0 to 4,096; as for clean, unless given.
+        steady: the most steady rounds, 0 to 65,535; as for clean, unless given.
         weights: a weight for each pair, or None where each pair has the weight above.
         flow: a flow, or None.
 
@@ -34,8 +37,8 @@ class Job:
     codes: np.ndarray
     weight: int
     box: Tuple[int, int]
-    quick: int = 0
-    steady: int = 0
+    quick: int = QUICK
+    steady: int = STEADY
     weights: Optional[Pairs] = None
     flow: Optional[Pairs] = None
 

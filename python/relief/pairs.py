@@ -80,10 +80,10 @@ class Pairs:
 
 
 def pairs_of(name: str, value: Any, shape: Shape) -> Pairs:
-    """Pairs of a raster of this shape from what is given: Pairs, a tuple (down, right), or the flat order."""
-    if isinstance(value, tuple):
-        if len(value) != 2:
-            raise ValueError(f"{name} is a tuple of {len(value)}: (down, right) is meant, or one array in the flat order")
+    """Pairs of a raster of this shape from what is given: Pairs, two arrays (down, right), or the flat order."""
+    if isinstance(value, tuple) and len(value) != 2:
+        raise ValueError(f"{name} is a tuple of {len(value)}: (down, right) is meant, or one array in the flat order")
+    if isinstance(value, tuple) or isinstance(value, list) and len(value) == 2 and isinstance(value[0], np.ndarray):
         value = Pairs(*value)
     if isinstance(value, Pairs):
         if value.shape != shape:

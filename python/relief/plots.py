@@ -4,7 +4,7 @@ from __future__ import annotations
 
 import io
 import textwrap
-from typing import Any
+from typing import Any, Tuple
 
 import numpy as np
 from matplotlib.figure import Figure
@@ -12,12 +12,13 @@ from matplotlib.figure import Figure
 from .result import Result
 from .wording import bounds, figures
 
+_MOST_BLOCKS = 400  # along a side, of a panel's pixels
+
 
 def plot_result(result: Result) -> Figure:
     """The scan, the image, their difference with a scale, and the figures as caption."""
     height, width = result.image.shape
     scan = result.job.codes + 0.5  # each code at the centre of its level
-    difference = result.levels - scan
     beside = width < 2 * height  # the three side by side, else one below the other
     shape = min(max(height / width, 0.1), 2.0)
     figure = Figure(figsize=(15.0, 4.2 * shape + 1.2) if beside else (10.0, 26.0 * shape + 2.6), layout="constrained")
@@ -25,11 +26,18 @@ def plot_result(result: Result) -> Figure:
     grey = dict(cmap="gray", vmin=min(scan.min(), result.levels.min()), vmax=max(scan.max(), result.levels.max()))
     _panel(figure, before, scan, "scan", "depth in levels", grey)
     _panel(figure, after, result.levels, "cleaned", "depth in levels", grey)
-    most = max(float(np.quantile(np.abs(difference), 0.99)), 1 / 256)
-    _panel(figure, change, difference, "cleaned − scan", "levels", dict(cmap="RdBu_r", vmin=-most, vmax=most), "nearest",
-           extend="both" if np.abs(difference).max() > most else "neither")
+    _change_panel(figure, change, result.levels - scan)
     figure.supxlabel(_caption(result, 120 if beside else 104), fontsize=10, family="monospace")
     return figure
+
+
+def block_means(values: np.ndarray) -> Tuple[np.ndarray, int]:
+    """Means over square blocks, and their side: so few blocks that each is drawn, and no thin line is left out."""
+    side = -(-max(values.shape) // _MOST_BLOCKS)
+    rows, columns = (np.arange(0, length, side) for length in values.shape)
+    sums = np.add.reduceat(np.add.reduceat(values, rows, axis=0), columns, axis=1)
+    heights, widths = (np.diff(starts, append=length) for starts, length in zip((rows, columns), values.shape))
+    return sums / np.outer(heights, widths), side
 
 
 def png_of(result: Result) -> bytes:
@@ -39,9 +47,20 @@ def png_of(result: Result) -> bytes:
     return file.getvalue()
 
 
+def _change_panel(figure: Figure, axes: Any, difference: np.ndarray) -> None:
+    """The difference, on a scale that one in a hundred goes beyond."""
+    height, width = difference.shape
+    means, side = block_means(difference)
+    sizes = np.abs(means)
+    most = max(float(np.quantile(sizes, 0.99)), 1 / 256)
+    label = f"levels, means of {side} × {side} pixels" if side > 1 else "levels"
+    colours = dict(cmap="RdBu_r", vmin=-most, vmax=most, extent=(-0.5, width - 0.5, height - 0.5, -0.5))
+    _panel(figure, axes, means, "cleaned − scan", label, colours, extend="both" if sizes.max() > most else "neither")
+
+
 def _panel(figure: Figure, axes: Any, values: np.ndarray, title: str, label: str, colours: Any,
-           interpolation: str = "antialiased", extend: str = "neither") -> None:
-    shown = axes.imshow(values, interpolation=interpolation, **colours)
+           extend: str = "neither") -> None:
+    shown = axes.imshow(values, interpolation="antialiased", **colours)
     axes.set_title(title)
     axes.tick_params(labelsize=8)
     figure.colorbar(shown, ax=axes, label=label, extend=extend, fraction=0.046, pad=0.03)

@@ -35,8 +35,11 @@ class Result:
         slack: price minus floor, the duality gap.
 
     For every image of the box, price + squared distance of the two images <= its price + slack. The bounds below follow
-    from that for the best image, the one of least price. They are in levels, of depths, and are the least floating-point
-    numbers that are not too small.
+    from that for the best image, the one of least price in whatever fractions. They are in levels, of depths, and are the
+    least floating-point numbers that are not too small.
+
+    Arrays are read-only. ``job.codes`` is the caller's array where that could be lent, and so is the flow of a check: whoever
+    writes to these afterwards changes what the result shows of them.
     """
 
     job: Job
@@ -88,7 +91,7 @@ class Result:
         return distance_bound(self.slack, count)
 
     def plot(self) -> "Figure":
-        """A Matplotlib figure: the scan, the image, their difference with a scale, and the figures as caption."""
+        """A Matplotlib figure, to be saved with savefig: the scan, the image, their difference, and the figures."""
         from .plots import plot_result
         return plot_result(self)
 

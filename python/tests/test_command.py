@@ -278,7 +278,7 @@ class Clean(Command):
         for name in "x/a.pgm", "y/a.pgm", "y/a.tif", "y/r.pgm":
             self.scan(name)
         Image.fromarray(255 - GREY).save("y/a.tif")
-        other = "is the report or is written for another scan"
+        other = "is the report or another scan's: clean it into another folder"
         status, out, err = self.main("clean", "x/a.pgm", "y/a.pgm", "y/a.tif", "y/r.pgm", "-o", "out", *TERMS, *ROUNDS,
                                      "--save-flow", "--report", "out/r.pgm")
         self.assertEqual((status, out), (1, said_of("x/a.pgm", cleaned(GREY))))
@@ -331,13 +331,13 @@ class Faults(Command):
         for words, message in [
             (["--weight", "65281", "--box", "0:255"],
              "refused 2 at 0: a weight is not 0 to 65,280; give weights of 0 to 65,280"),
-            (["--weight", "9" * 10, "--box", "0:255"], "argument --weight: '9999999999' is not a whole number"),
-            (["--weight", "-1", "--box", "0:255"], "argument --weight: '-1' is not a whole number"),
-            (["--weight", "x", "--box", "0:255"], "argument --weight: 'x' is not a whole number"),
+            (["--weight", "9" * 10, "--box", "0:255"], "argument --weight: '9999999999' is not a whole number of 0 or more"),
+            (["--weight", "-1", "--box", "0:255"], "argument --weight: '-1' is not a whole number of 0 or more"),
+            (["--weight", "x", "--box", "0:255"], "argument --weight: 'x' is not a whole number of 0 or more"),
             (["--weight", "640", "--box", "9:8"], "refused 3 at 0: low is above high; swap the ends of the box"),
             (["--weight", "640", "--box", "0:256"], "the high end of box is 256: it must be 0 to 255"),
             (["--weight", "640", "--box", "0"], "argument --box: '0' is not LOW:HIGH, such as 0:255"),
-            (["--weight", "640", "--box", "0:1:2"], "argument --box: '1:2' is not a whole number"),
+            (["--weight", "640", "--box", "0:1:2"], "argument --box: '1:2' is not a whole number of 0 or more"),
             (["--weight", "640"], "the following arguments are required: --box"),
             (["--box", "0:255"], "the following arguments are required: --weight"),
             ([*TERMS, "--quick", "4097"],
@@ -442,8 +442,8 @@ class Faults(Command):
                "cut.png": "cut off or damaged, not a whole PNG picture",
                "cut.tif": "cut off or damaged, not a whole TIFF picture",
                "cut.pgm": "767 samples, but 32 x 24 pixels need 768",
-               "colour.png": "has colour: a grey picture is needed", "colour.tif": "has colour: a grey picture is needed",
-               "deep.png": "has 16 bits for a sample: 8 are needed", "deep.tif": "has 16 bits for a sample: 8 are needed",
+               "colour.png": "has colour: save it as a grey picture", "colour.tif": "has colour: save it as a grey picture",
+               "deep.png": "has 16 bits for a sample: save it with 8", "deep.tif": "has 16 bits for a sample: save it with 8",
                "missing.pgm": "No such file or directory", "folder": "Is a directory", "locked.pgm": "Permission denied",
                "large.pgm": f"refused 1 at 0 (1025 x 1024 pixels): {ADVICE}"}
         scans = good[:3] + list(bad) + good[3:]

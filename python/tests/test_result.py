@@ -18,6 +18,7 @@ import relief
 from jobs import MAX_WEIGHT, TOP, random_codes, random_flow, random_job, treated
 from relief.calls import check_job
 from relief.result import distance_bound
+from relief.wording import rounded_up
 
 import answer2pgm  # of examples/, which jobs has put on the path
 import pgm
@@ -248,13 +249,13 @@ class Bounds(unittest.TestCase):
                 result.mean_bound(mask)
 
     def test_facade(self):
-        """The README's table."""
+        """The README's table, whose bounds are rounded up."""
         tape = relief.read_tape(TOP / "examples/facade.tape")
         result = treated(tape)
-        self.assertEqual([f"{result.rms_bound:.2f}", f"{result.pixel_bound:.1f}"], ["0.31", "17.3"])
+        self.assertEqual([rounded_up(result.rms_bound, 2), rounded_up(result.pixel_bound, 1)], ["0.32", "17.3"])
         mask = np.zeros(tape.shape, bool)
         mask[3:13, 5:15] = True
-        self.assertEqual(f"{result.mean_bound(mask):.1f}", "1.7")
+        self.assertEqual(rounded_up(result.mean_bound(mask), 1), "1.8")
 
 
 class Guarantee(unittest.TestCase):

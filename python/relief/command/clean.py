@@ -93,10 +93,10 @@ class _Batch:
 
     def clean_one(self, number: int, path: str) -> Tuple[Result, float]:
         """Cleans a scan, writes what is asked for, and gives the result with the seconds that the rounds took."""
-        outputs = self.claim(path)
         self.progress.show(number, path, "reading")
         scan = read_scan(path, self.complain)
         ask_same_size(self.weights, scan)
+        outputs = self.claim(path)
         options, codes = self.options, scan.codes
         estimate = estimated_seconds(codes, options.quick, options.steady) if self.progress.wanted else 1.0
         result, seconds = in_background(
@@ -128,7 +128,7 @@ class _Batch:
             if place in self.read:
                 raise ValueError(f"not cleaned, for {output} would replace a picture that is read: name another folder")
             if place in self.written:
-                raise ValueError(f"not cleaned, for {output} is the report or is written for another scan")
+                raise ValueError(f"not cleaned, for {output} is the report or another scan's: clean it into another folder")
         self.written |= _places(outputs.values())
         return outputs
 

@@ -9,7 +9,6 @@ import numpy as np
 
 from ..calls import check, price
 from ..pairs import Pairs
-from ..pictures import read_picture
 from ..wording import bounds, figures
 from .speech import complain, fault_of, tell
 from .terms import FAULTS, ask_same_size, read_array, read_scan, read_weights
@@ -36,7 +35,7 @@ def _image(path: str) -> np.ndarray:
     """An array in sub-units, or a picture's codes at the centres of their levels."""
     if path.endswith(".npy"):
         return read_array(path)
-    return 256 * read_picture(path).codes.astype(np.int32) + 128
+    return 256 * read_scan(path, complain).codes.astype(np.int32) + 128
 
 
 def _judge(options: Any, path: str, judge: Callable[[np.ndarray, Optional[Pairs]], str]) -> int:

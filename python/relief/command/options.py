@@ -8,7 +8,8 @@ from typing import Any, List, Optional, Tuple
 
 import numpy as np
 
-from ..calls import QUICK, STEADY, clean
+from ..calls import clean
+from ..job import QUICK, STEADY
 from ..refused import Refused
 from ..version import __version__
 from .clean import clean_files
@@ -45,7 +46,8 @@ example:
   relief-raster price wall.png cleaned/wall.png --weight 640 --box 0:255
 
 Of a picture, each code is priced at the centre of its level; that is not the
-price of the image that it was rounded from. An array of sub-units, as Python's
+price of the image that it was rounded from, and of a maxval below 255 it may
+lie outside a narrow box, which is refused. An array of sub-units, as Python's
 result.image, is priced as it is: save it with numpy.save, give the .npy file.
 """,
 }
@@ -53,8 +55,8 @@ result.image, is priced as it is: save it with numpy.save, give the .npy file.
 
 def parse(words: Optional[List[str]]) -> argparse.Namespace:
     """The options, allowed by the library; else it says what is wrong and exits with status 2."""
-    parser = argparse.ArgumentParser(prog=NAME, description="Cleans scanned façades, with a proved bound on how far each"
-                                     " is from the best raster.", epilog=f"`{NAME} COMMAND --help` has an example each.")
+    parser = argparse.ArgumentParser(prog=NAME, description="Cleans scanned façades. From a slack that is proved, each"
+                                     " gets a bound on how far it is from the best raster.", epilog=f"`{NAME} COMMAND --help` has an example each.")
     parser.add_argument("--version", action="version", version=f"{NAME} {__version__}")
     commands = parser.add_subparsers(title="commands", dest="name", metavar="COMMAND", required=True)
     _add_clean(commands)
@@ -110,7 +112,7 @@ def _add_terms(command: argparse.ArgumentParser) -> None:
 
 def _number(word: str) -> int:
     if not re.fullmatch(r"[0-9]{1,9}", word):
-        raise argparse.ArgumentTypeError(f"{word!r} is not a whole number")
+        raise argparse.ArgumentTypeError(f"{word!r} is not a whole number of 0 or more")
     return int(word)
 
 

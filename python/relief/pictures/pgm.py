@@ -23,7 +23,7 @@ def read(heading: bytes, file: BinaryIO) -> Tuple[np.ndarray, Dict[str, Any]]:
         raise ValueError("not a PGM picture (P2 or P5): its heading is damaged")
     width, height, maxval = map(int, found.groups()[1:])
     if maxval > 255:
-        raise ValueError(f"maxval {maxval}: samples of 16 bits are not taken, 255 is the most")
+        raise ValueError(f"maxval {maxval}: samples of 16 bits are not taken: save it with 255 at most")
     if not maxval:
         raise ValueError("maxval 0: 1 is the least")
     ask_size(height, width)

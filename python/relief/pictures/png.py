@@ -32,9 +32,9 @@ def read(heading: bytes, file: BinaryIO) -> Tuple[np.ndarray, Dict[str, Any]]:
         elif kind == b"pHYs" and len(body) == 9:
             resolution = body
         elif kind == b"tRNS":
-            raise ValueError("has a transparent value: a grey picture without one is needed")
+            raise ValueError("has a transparent value: save it without one")
         elif kind == b"acTL":
-            raise ValueError("is animated: one picture is needed")
+            raise ValueError("is animated: save one picture of it")
     _ask_unpacked(b"".join(packed), size)
     return decoded(b"".join(needed), "PNG", (height, width)), {"resolution": resolution}
 
@@ -56,9 +56,9 @@ def _size(heading: bytes) -> Tuple[int, int, int]:
         raise ValueError(_CUT)
     width, height, bits, colour, _, _, interlaced = struct.unpack(">IIBBBBB", heading[_START + 8:_START + 21])
     if colour:
-        raise ValueError(f"has {_COLOURS.get(colour, 'an unknown kind of colour')}: a grey picture is needed")
+        raise ValueError(f"has {_COLOURS.get(colour, 'an unknown kind of colour')}: save it as a grey picture")
     if bits != 8:
-        raise ValueError(f"has {bits} bits for a sample: 8 are needed")
+        raise ValueError(f"has {bits} bits for a sample: save it with 8")
     ask_size(height, width)
     passes = _PASSES if interlaced else [(0, 0, 1, 1)]
     sizes = [(len(range(top, height, down)), len(range(left, width, right))) for top, left, down, right in passes]

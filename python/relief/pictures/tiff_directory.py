@@ -46,7 +46,7 @@ class Directory:
         for place in range(start + 2, start + 2 + 12 * count, 12):
             self._add(place)
         if self.unpacked("L", start + 2 + 12 * count)[0]:
-            raise ValueError("has more than one picture: one is needed")
+            raise ValueError("has more than one picture: save one of them")
 
     def numbers(self, tag: int, *default: int) -> Tuple[int, ...]:
         """The values of a field, or those that hold where it is not there."""
@@ -59,13 +59,13 @@ class Directory:
         """A ValueError of a picture that is not grey, of 8 bits and upright."""
         bits, kinds = self.numbers(BITS, 1), self.numbers(_KINDS_OF_NUMBER, 1)
         if self.numbers(COLOUR)[0] not in (0, 1):
-            raise ValueError("has colour: a grey picture is needed")
+            raise ValueError("has colour: save it as a grey picture")
         if len(bits) != 1:
-            raise ValueError("has transparency or several values for a pixel: a grey picture is needed")
+            raise ValueError("has transparency or several values for a pixel: save it as a grey picture")
         if bits[0] != 8:
-            raise ValueError(f"has {bits[0]} bits for a sample: 8 are needed")
+            raise ValueError(f"has {bits[0]} bits for a sample: save it with 8")
         if kinds != (1,):
-            raise ValueError("has signed samples, or of an unknown kind: 8 bits, 0 to 255, are needed")
+            raise ValueError("has signed samples, or of an unknown kind: save it with 8 bits, 0 to 255")
         if self.numbers(COLOUR)[0] == 0:
             raise ValueError("is stored with 0 for white: save it with 0 for black")
         if self.numbers(_TURN, 1) != (1,):
