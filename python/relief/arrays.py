@@ -5,6 +5,8 @@ An array that is contiguous, aligned and of the library's type is lent as it is.
 
 from __future__ import annotations
 
+import math
+import mmap
 import operator
 from typing import Any, Tuple
 
@@ -14,6 +16,8 @@ from . import boundary
 from .refused import Refused
 
 Shape = Tuple[int, int]
+
+_LARGE = 2**22  # bytes: two large pages
 
 
 def whole_number(name: str, value: Any, most: int, allowed: int) -> int:
@@ -80,6 +84,22 @@ def whole_numbers(name: str, value: Any, shape: Tuple[int, ...]) -> np.ndarray:
             index = tuple(int(number) for number in np.argwhere(beyond)[0])
             raise ValueError(f"{name} has {array[index]} at {list(index)}, which 32 bits do not hold")
     return np.require(array, np.int32, ["C", "A"])
+
+
+def room(*shape: int) -> np.ndarray:
+    """New 32-bit numbers for the library to fill, in large pages of their own where they fill some and the system has them.
+
+    NumPy's own memory may be a part that was used before, in small pages, where the rounds take some per cent longer.
+    """
+    size = 4 * math.prod(shape)
+    if size >= _LARGE and hasattr(mmap, "MADV_HUGEPAGE"):
+        try:
+            memory = mmap.mmap(-1, size, flags=mmap.MAP_PRIVATE | mmap.MAP_ANONYMOUS)
+            memory.madvise(mmap.MADV_HUGEPAGE)
+            return np.frombuffer(memory, np.int32).reshape(shape)
+        except OSError:
+            pass
+    return np.empty(shape, np.int32)
 
 
 def frozen(array: np.ndarray) -> np.ndarray:

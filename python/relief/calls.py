@@ -7,7 +7,7 @@ from typing import Any, Tuple
 import numpy as np
 
 from . import boundary
-from .arrays import frozen, whole_numbers
+from .arrays import frozen, room, whole_numbers
 from .job import QUICK, STEADY, Job
 from .pairs import Pairs, lent
 from .result import Result
@@ -81,7 +81,7 @@ def price(codes: Any, image: Any, weight: int, box: Tuple[int, int], weights: An
 def clean_job(job: Job) -> Result:
     """Does the rounds of a job; a flow that it has is left aside."""
     pairs = boundary.pairs(*job.terms[:2])
-    image, flow, work = np.empty(job.shape, np.int32), np.empty(pairs, np.int32), np.empty(2 * pairs, np.int32)
+    image, flow, work = room(*job.shape), room(pairs), room(2 * pairs)
     refusal, place, figures = boundary.run(job.terms, job.quick, job.steady, job.codes, lent(job.weights), flow, image,
                                            work)
     if refusal:
