@@ -302,12 +302,14 @@ class WrongArguments(unittest.TestCase):
              r"NAME is of a raster of shape \(3, 3\), the scan's is \(2, 3\)"),
             (relief.Pairs.from_flat(FLOW, (3, 2)), ValueError,
              r"NAME is of a raster of shape \(3, 2\), the scan's is \(2, 3\)"),
-            ([down, right], ValueError, "NAME is no array"),
+            ([down.tolist(), right.tolist()], ValueError, "NAME is no array"),
         ]:
             with self.subTest(value=value):
                 self.wrong(kind, message.replace("NAME", "flow"), relief.check, CODES, value, 5, BOX)
                 self.wrong(kind, message.replace("NAME", "weights"), relief.clean, CODES, 5, BOX, weights=value)
                 self.wrong(kind, message.replace("NAME", "weights"), relief.price, CODES, CODES, 5, BOX, weights=value)
+        for both in (down, right), [down, right]:
+            self.assertEqual(relief.check(CODES, both, 5, BOX).flow.flat.tolist(), 7 * [0])
         self.wrong(TypeError, "flow is None: a number for each pair is needed", relief.check, CODES, None, 5, BOX)
         self.wrong(ValueError, "the job has no flow to check", check_job, relief.Job(CODES, 5, BOX))
         self.wrong(ValueError, r"flat has shape \(7,\): \(4,\) is needed", relief.Pairs.from_flat, FLOW, (2, 2))

@@ -278,6 +278,9 @@ class Clean(Command):
         for name in "x/a.pgm", "y/a.pgm", "y/a.tif", "y/r.pgm":
             self.scan(name)
         Image.fromarray(255 - GREY).save("y/a.tif")
+        self.write("x/r.pgm", b"P5 cut")
+        status, out, err = self.main("clean", "x/r.pgm", "y/r.pgm", "-o", "first", *TERMS, *ROUNDS)
+        self.assertEqual((status, out), (1, said_of("y/r.pgm", cleaned(GREY))))  # a faulty one takes no name
         other = "is the report or another scan's: clean it into another folder"
         status, out, err = self.main("clean", "x/a.pgm", "y/a.pgm", "y/a.tif", "y/r.pgm", "-o", "out", *TERMS, *ROUNDS,
                                      "--save-flow", "--report", "out/r.pgm")
@@ -384,6 +387,8 @@ class Faults(Command):
                 status, out, err = self.main("check", "a.pgm", "--flow", name, *TERMS)
                 self.assertEqual((status, out, err.count("\n")), (1, "", 1))
                 self.assertTrue(err.startswith(f"relief-raster: {name}: {message}"), err)
+        self.write("scaled.pgm", binary(GREY // 2, 127))
+        self.assertIn("scaled.pgm: maxval 127: samples scaled", self.main("price", "a.pgm", "scaled.pgm", *TERMS)[2])
         for scan, name, message in [
             ("a.pgm", "high.npy", "high.npy: refused 9 at 0 (image[0, 0]): "),
             ("a.pgm", "a.pgm", "a.pgm: refused 9 at "),

@@ -209,8 +209,8 @@ class Pgm(Pictures):
             (b"P2 2 1 63\n1 64\n", "a sample is not a number from 0 to 63"),
             (b"P2 2 1 255\n1 256\n", "a sample is not a number from 0 to 255"),
             (b"P5 1 1 63\n\x40", "a sample is not a number from 0 to 63"),
-            (b"P2 2 1 255\n1 -1\n", "a sample is not a whole number of 0 or more"),
-            (b"P2 1 1 255\n" + 9999 * b"1", "a sample is not a whole number of 0 or more"),
+            (b"P2 2 1 255\n1 -1\n", "a sample is not a whole number"),
+            (b"P2 1 1 255\n" + 9999 * b"1", "a sample is not a whole number"),
             (b"P5 1 1 256\n\0\0", "maxval 256: samples of 16 bits are not taken"),
             (b"P2 1 1 65535\n0", "maxval 65535: samples of 16 bits are not taken"),
         ]:

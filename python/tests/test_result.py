@@ -17,6 +17,7 @@ import numpy as np
 import relief
 from jobs import MAX_WEIGHT, TOP, random_codes, random_flow, random_job, treated
 from relief.calls import check_job
+from relief.plots import block_means
 from relief.result import distance_bound
 from relief.wording import rounded_up
 
@@ -333,6 +334,20 @@ class Plots(unittest.TestCase):
                              f"floor {result.floor}", f"slack {result.slack}", "levels root mean square"):
                     self.assertIn(part, words)
                 self.assertEqual("a weight for each pair" in words, weighted)
+
+    def test_large_differences(self):
+        """Means over blocks: few enough to be drawn one by one, no thin line lost, the edges' smaller blocks too."""
+        for shape in (400, 400), (1024, 1024), (401, 7), (4096, 256), (1, 4096):
+            values = np.arange(shape[0] * shape[1], dtype=float).reshape(shape) % 97
+            means, side = block_means(values)
+            self.assertLessEqual(max(means.shape), 400)
+            self.assertEqual(side == 1, max(shape) <= 400)
+            for row, column in (0, 0), (means.shape[0] // 2, means.shape[1] - 1), (means.shape[0] - 1, 0):
+                block = values[side * row:side * (row + 1), side * column:side * (column + 1)]
+                self.assertAlmostEqual(means[row, column], block.mean())
+        lines = np.zeros((1024, 1024))
+        lines[:, ::64] = 18
+        self.assertEqual(np.count_nonzero(block_means(lines)[0][0]), 16)
 
     def test_drawn(self):
         """Panels and caption have room, without a warning, whatever the shape."""
