@@ -3,10 +3,12 @@
 split-Bregman solver of the same problem. It needs scikit-image, which nothing else here does, and takes some ten minutes.
 
     $(bash tools/python.sh) tools/bench_python.py [--plot FILE]
+    $(bash tools/python.sh) tools/bench_python.py --added
     $(bash tools/python.sh) tools/bench_python.py --rounds
 
---plot also writes the price over time as a picture; --rounds prints instead what the bound is after so many rounds. All
-runs are bound to one core. Calls that are compared are made by turns, in the other order each second time, and their
+--plot also writes the price over time as a picture; --added prints only the times beside the C call, which depend on where
+a process has its memory: run it several times; --rounds prints instead what the bound is after so many rounds. All runs are
+bound to one core. Calls that are compared are made by turns, in the other order each second time, and their
 times are the processor's, which do not count the waiting while others have the core.
 """
 
@@ -28,6 +30,7 @@ import pgm  # noqa: E402
 import relief  # noqa: E402
 from relief import boundary  # noqa: E402
 from relief.result import distance_bound  # noqa: E402
+from relief.wording import rounded_up  # noqa: E402
 
 try:
     import skimage
@@ -199,14 +202,14 @@ def print_beside(codes):
         floor = max(result.floor for result in (judged, *long))
         found = price_over_time(codes, weight)
         least = min(price for points in found.values() for _, price in points.values())
-        own = distance_bound(relief.price(codes, near, weight, BOX) - floor, codes.size)
+        own = rounded_up(distance_bound(relief.price(codes, near, weight, BOX) - floor, codes.size), 4)
         print(f"weight {weight}: floor {floor}, least price {least}, {100 * above(least, floor):.5f} % above it;")
-        print(f"  found: beside the reference, itself within {own:.4f} of the best image; all in levels, root mean square")
+        print(f"  found: beside the reference, itself within {own} of the best image; all in levels, root mean square")
         for name, result in ("reference, rounded", judged), *((f"{run.job.quick} + 4000 rounds", run) for run in long):
             apart = np.sqrt(((result.image - near).astype(np.int64)**2).mean()) / 256
             print(f"  {name:18} {result.outcome} {result.moved}, price {100 * above(result.price, floor):.4f} % above it,"
                   f" own floor {100 * above(floor, result.floor):.4f} % below it;",
-                  f"bound {result.rms_bound:.4f}, found {apart:.4f}")
+                  f"bound {rounded_up(result.rms_bound, 4)}, found {apart:.4f}")
         print(f"  {'':42}", *(f"{f'within {100 * within:g} %':>34}" for within in THRESHOLDS))
         for name, points in found.items():
             print(f"  {name:42}", *(f"{reached(points, floor, within):>34}" for within in THRESHOLDS))
@@ -257,7 +260,7 @@ def print_rounds(rasters):
     for name, codes in rasters.items():
         for weight in (256, 640, 1024, 4096):
             results = (relief.clean(codes, weight, BOX, *rounds) for rounds in tried)
-            shown = (f"{result.rms_bound:.4f}" + f"{f' {result.moved}' if result.outcome == 'settled' else '':6}"
+            shown = (rounded_up(result.rms_bound, 4) + f"{f' {result.moved}' if result.outcome == 'settled' else '':6}"
                      for result in results)
             print(f"{name:8}{weight:7}", *(f"{cell:>12}" for cell in shown))
 
@@ -265,6 +268,7 @@ def print_rounds(rasters):
 def main():
     parser = argparse.ArgumentParser(description="Times the Python package on the sample façade at 1,024 x 1,024 pixels.")
     parser.add_argument("--plot", metavar="FILE", help="also write the price over time as a picture")
+    parser.add_argument("--added", action="store_true", help="print only what the package adds to the C call")
     parser.add_argument("--rounds", action="store_true", help="print instead what the bound is after so many rounds")
     options = parser.parse_args()
     os.sched_setaffinity(0, {max(os.sched_getaffinity(0))})
@@ -274,6 +278,8 @@ def main():
         return
     print_load()
     print_overhead(codes)
+    if options.added:
+        return
     print_load()
     curves = print_beside(codes)
     print_load()
