@@ -516,6 +516,9 @@ class Signals(Command):
 
     def setUp(self):
         super().setUp()
+        for number in signal.SIGINT, signal.SIGTERM, signal.SIGHUP:  # whoever runs the tests may ignore one, as nohup does
+            former = signal.signal(number, signal.SIG_DFL)
+            self.addCleanup(signal.signal, number, former)
         self.scan("small.pgm")
         self.scan("other.pgm")
         self.write("large.pgm", binary(np.random.default_rng(2).integers(0, 256, (1024, 1024), dtype=np.uint8)))
