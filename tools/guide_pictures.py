@@ -15,7 +15,6 @@ from matplotlib.figure import Figure
 
 import relief
 from relief.pictures import read_picture
-from relief.plots import png_of
 from relief.result import distance_bound
 from relief.wording import rounded_up
 
@@ -102,8 +101,8 @@ def rounds(codes, path):
 def main():
     folder = pathlib.Path(sys.argv[1])
     codes, strengths = facade(), facade("--weights")
-    # what `relief-raster clean --picture` writes for the wall
-    (folder / "guide-first-scan.png").write_bytes(png_of(relief.clean(codes, WEIGHT, BOX)))
+    # as `relief-raster clean --picture` draws the wall
+    relief.clean(codes, WEIGHT, BOX).plot().savefig(folder / "guide-first-scan.png", dpi=80)
     weights(codes, folder / "guide-weights.png")
     joints(codes, strengths, folder / "guide-joints.png")
     rounds(codes, folder / "guide-rounds.png")

@@ -59,7 +59,7 @@ class Guides(unittest.TestCase):
         self.assertEqual((names["own"].slack, names["other"].slack), (own.slack, names["result"].slack))
         np.testing.assert_array_equal(names["own"].image, own.image)
         np.testing.assert_array_equal(names["other"].image, names["result"].image)
-        self.assertRegex(said.getvalue(), r"^\d+\.\d\d levels, within 0\.\d+ of the best raster's\n$")
+        self.assertRegex(said.getvalue(), r"^\d+\.\d{4} levels, within 0\.\d+ of the best raster's\n$")
         kept = relief.clean(self.codes, 640, (0, 255), weights=names["weights"])
         self.assertLess(kept.price, names["result"].price)
 
