@@ -236,7 +236,7 @@ def plot(curves, path):
             panel.axhline(100 * within, color="#555555", linewidth=0.9, linestyle="--", zorder=1)
         panel.set(xscale="log", yscale="log", xlabel="seconds", title=f"weight {weight}")
         panel.xaxis.set_major_formatter("{x:g}")
-        panel.yaxis.set_major_formatter(lambda share, _: f"{np.format_float_positional(share, trim='-')} %")
+        panel.yaxis.set_major_formatter(lambda share, _: f"{share:.10f}".rstrip("0").rstrip(".") + " %")
         panel.grid(color="#dddddd", linewidth=0.6)
         panel.set_axisbelow(True)
     panels[0].set_ylabel("price above the best floor")
