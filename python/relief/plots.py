@@ -12,7 +12,7 @@ from matplotlib.figure import Figure
 from .result import Result
 from .wording import bounds, figures
 
-_MOST_BLOCKS = 400  # along a side, of a panel's pixels
+_MOST_BLOCKS = 300  # along a side: a panel has more pixels
 
 
 def plot_result(result: Result) -> Figure:
@@ -55,12 +55,13 @@ def _change_panel(figure: Figure, axes: Any, difference: np.ndarray) -> None:
     most = max(float(np.quantile(sizes, 0.99)), 1 / 256)
     label = f"levels, means of {side} × {side} pixels" if side > 1 else "levels"
     colours = dict(cmap="RdBu_r", vmin=-most, vmax=most, extent=(-0.5, width - 0.5, height - 0.5, -0.5))
-    _panel(figure, axes, means, "cleaned − scan", label, colours, extend="both" if sizes.max() > most else "neither")
+    _panel(figure, axes, means, "cleaned − scan", label, colours, interpolation="nearest",
+           extend="both" if sizes.max() > most else "neither")
 
 
 def _panel(figure: Figure, axes: Any, values: np.ndarray, title: str, label: str, colours: Any,
-           extend: str = "neither") -> None:
-    shown = axes.imshow(values, interpolation="antialiased", **colours)
+           interpolation: str = "antialiased", extend: str = "neither") -> None:
+    shown = axes.imshow(values, interpolation=interpolation, **colours)
     axes.set_title(title)
     axes.tick_params(labelsize=8)
     figure.colorbar(shown, ax=axes, label=label, extend=extend, fraction=0.046, pad=0.03)
