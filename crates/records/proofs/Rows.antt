@@ -1,15 +1,19 @@
 -- The rows of a record, as the code goes down them. Assumes nothing.
-use mathlib.Core.Path.{_≡_, refl, ap, _∙_}
+use mathlib.Core.Path.{_≡_, refl, sym, ap, _∙_}
 use mathlib.Core.Bool.{Bool, true, false, not, cond}
 use mathlib.Core.List.{List}
 use Prim.Native.Nat.{ℕ, _<_}
 use lib.ListN.{length, getD}
 use borrow.Author.Tests.{lt-leb}
-use Rattle.model.specs.Verdict.{firstRefusal}
+use Rattle.model.specs.declared.Verdict.{Verdict}
+use Rattle.model.specs.Verdict.{firstRefusal, decided}
 use Rattle.model.specs.Tape.{known, bodyLength, bodyRows, recordRows}
 use Rattle.model.proofs.Refusals.{passed}
 use Rattle.records.specs.declared.record.Form.{Form}
-use Rattle.records.specs.Record.{formOf}
+use Rattle.records.specs.declared.record.Got.{Got}
+use Rattle.records.specs.declared.tally.Tally.{Tally}
+use Rattle.records.specs.Tally.{may as mayCome}
+use Rattle.records.specs.Record.{formOf, recordAt, gotAt}
 
 -- what a form says of its kind
 pub form-unknown : (kind : ℕ) (ok : Bool) → formOf kind ok ≡ Form.Unknown → known kind ≡ false
@@ -35,3 +39,9 @@ module _ (followed : Bool) (tape : List ℕ) (o : ℕ) (may : ℕ → Bool) wher
       ≡ firstRefusal (bodyRows followed (length tape) o (getD tape o 0) (may (getD tape o 0)))
   unfolding recordRows
   known-kind h k = passed _ _ (lt-leb (length tape) o h) ∙ passed _ _ (ap not k)
+
+-- what the verdict of the rows gives
+pub got-by : (followed : Bool) (tape : List ℕ) (o : ℕ) (t : Tally) {v : Verdict} →
+    firstRefusal (recordRows followed tape o (mayCome t)) ≡ v → decided v (recordAt tape o) Got.Refused ≡ gotAt followed tape o t
+unfolding gotAt
+got-by followed tape o t e = ap (λ (v : Verdict). decided v (recordAt tape o) Got.Refused) (sym e)

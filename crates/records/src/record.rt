@@ -113,12 +113,11 @@ pub fn too_short(number: u32) -> bool
     (number == 13) | (number == 18)
 }
 
-// The numbers of the record at an offset, whose body is whole.
-pub fn decode(tape: &[u8], at: usize) -> Entry
-    requires { ⌜ at + 1 + bodyLength (getD (now tape) at 0) ≤ length (now tape) ⌝ }
-    ensures { λ r. ⌜ r ≡ decoded (getD (now (tape .entry)) at 0) (λ i. getD (now (tape .entry)) (at + 1 + i) 0) ⌝ }
+// The numbers of a record of this kind at an offset, whose body is whole.
+fn decode(tape: &[u8], at: usize, kind: u8) -> Entry
+    requires { ⌜ at + 1 + bodyLength kind ≤ length (now tape) ⌝ }
+    ensures { λ r. ⌜ r ≡ decoded kind (λ i. getD (now (tape .entry)) (at + 1 + i) 0) ⌝ }
 {
-    let kind = tape[at];
     let body = at + 1;
     match kind {
         1 => Entry::Size {
@@ -157,31 +156,53 @@ pub enum Got {
 }
 
 // The record at an offset, whose kind is known.
-fn whole_record(tape: &[u8], at: usize, body: usize, allowed: bool, followed: bool) -> Got
-    requires { ⌜ (at < length (now tape)) × (body ≡ bodyLength (getD (now tape) at 0)) ⌝ }
+fn whole_record(
+    tape: &[u8],
+    at: usize,
+    kind: u8,
+    body: usize,
+    allowed: bool,
+    followed: bool,
+) -> Got
+    requires { ⌜ (at < length (now tape)) × (kind ≡ getD (now tape) at 0) × (body ≡ bodyLength kind) ⌝ }
     ensures { λ r. ⌜ r ≡ wholeAt followed (now (tape .entry)) at allowed ⌝ }
 {
-    let kind = tape[at];
     let v = judge_body(tape.len(), at, kind, body, allowed, followed);
     match v {
         Verdict::Refuse { number, place } => Got::Refused(number, place),
         Verdict::Accept => {
-            let e = decode(tape, at);
+            let e = decode(tape, at, kind);
             Got::Record(e, Cursor { at: at + 1 + body })
         }
     }
 }
 
-// The record at an offset of the tape, whose end may be followed by more bytes or not.
+// The record at an offset, with the kind byte that stands there.
+fn record_of(tape: &[u8], at: usize, kind: u8, t: Tally, followed: bool) -> Got
+    requires { ⌜ (at < length (now tape)) × (kind ≡ getD (now tape) at 0) ⌝ }
+    ensures { λ r. ⌜ r ≡ gotAt followed (now (tape .entry)) at t ⌝ }
+{
+    let f = form_of(kind, t);
+    match f {
+        Form::Unknown => Got::Refused(12, at),
+        Form::Body { body, allowed } => whole_record(tape, at, kind, body, allowed, followed),
+    }
+}
+
+// The record at an offset of the tape, whose end may be followed by more bytes or not. The three kinds
+// that a tape repeats are told apart here, so that the compiler makes a path for each: there the kind,
+// and with it the body's length, is a constant.
 pub fn next_record(tape: &[u8], at: usize, t: Tally, followed: bool) -> Got
     ensures { λ r. ⌜ r ≡ gotAt followed (now (tape .entry)) at t ⌝ }
 {
     if tape.len() <= at {
         return Got::Refused(18, tape.len());
     }
-    let f = form_of(tape[at], t);
-    match f {
-        Form::Unknown => Got::Refused(12, at),
-        Form::Body { body, allowed } => whole_record(tape, at, body, allowed, followed),
+    let kind = tape[at];
+    match kind {
+        4 => record_of(tape, at, 4, t, followed),
+        5 => record_of(tape, at, 5, t, followed),
+        6 => record_of(tape, at, 6, t, followed),
+        _ => record_of(tape, at, kind, t, followed),
     }
 }

@@ -11,15 +11,12 @@ use Rattle.model.specs.Tape.{bodyLength, decoded, fromTwo, fromFour}
 use Rattle.records.proofs.record.decode.Statement.{statement}
 use Rattle.records.proofs.record.decode.Tie as tie
 
-shared-slice-read-kind : tie.Need-shared-slice-read-kind
-shared-slice-read-kind c = search needs
-
 add-body : tie.Need-add-body
 add-body c = search needs
 
 -- what is known where the kind is k
-room : (c : tie.After-shared-slice-known2) (k : ℕ) → getD (c .before .before .args .tape .now) (c .before .before .args .at) 0 ≡ k → c .before .before .args .at + 1 + bodyLength k ≤ length (c .before .before .args .tape .now)
-room c k e = subst (λ (n : ℕ). c .before .before .args .at + 1 + bodyLength n ≤ length (c .before .before .args .tape .now)) e (c .before .before .pre)
+room : (c : tie.After-shared-slice-known) (k : ℕ) → c .before .args .kind ≡ k → c .before .args .at + 1 + bodyLength k ≤ length (c .before .args .tape .now)
+room c k e = subst (λ (n : ℕ). c .before .args .at + 1 + bodyLength n ≤ length (c .before .args .tape .now)) e (c .before .pre)
 
 -- the bytes of the body as the code and as the definition count them
 module _ (tape : List ℕ) (o : ℕ) where
@@ -35,7 +32,7 @@ module _ (tape : List ℕ) (o : ℕ) where
   high-two : {n : ℕ} → n ≡ fromTwo (getD tape (o + 1 + 2) 0) (getD tape (o + 1 + 2 + 1) 0) → n ≡ fromTwo (getD tape (o + 1 + 2) 0) (getD tape (o + 1 + 3) 0)
   high-two e = e ∙ ap (λ (b : ℕ). fromTwo (getD tape (o + 1 + 2) 0) b) fourth
 
-  at-kind : {k : ℕ} → getD tape o 0 ≡ k → decoded k (λ i. getD tape (o + 1 + i) 0) ≡ decoded (getD tape o 0) (λ i. getD tape (o + 1 + i) 0)
+  at-kind : {k kind : ℕ} → kind ≡ k → decoded k (λ i. getD tape (o + 1 + i) 0) ≡ decoded kind (λ i. getD tape (o + 1 + i) 0)
   at-kind e = ap (λ (n : ℕ). decoded n (λ i. getD tape (o + 1 + i) 0)) (sym e)
 
 two-at-requires : tie.Need-two-at-requires
@@ -50,17 +47,17 @@ two-at-requires-2 c κs = omega (arith, room (c .before .before) 1 (c .before .m
 two-at-requires-3 : tie.Need-two-at-requires-3
 two-at-requires-3 c κs = omega (arith, room (c .before) 2 (c .match .keys2))
 
-add-t12 : tie.Need-add-t12
-add-t12 c = omega (arith, room (c .before .before) 2 (c .before .match .keys2))
+add-t10 : tie.Need-add-t10
+add-t10 c = omega (arith, room (c .before .before) 2 (c .before .match .keys2))
 
-shared-slice-read-t14 : tie.Need-shared-slice-read-t14
-shared-slice-read-t14 c = omega (arith, room (c .before .before .before) 2 (c .before .before .match .keys2))
+shared-slice-read-t12 : tie.Need-shared-slice-read-t12
+shared-slice-read-t12 c = omega (arith, room (c .before .before .before) 2 (c .before .before .match .keys2))
 
-add-t15 : tie.Need-add-t15
-add-t15 c = omega (arith, room (c .before .before .before) 2 (c .before .before .match .keys2))
+add-t13 : tie.Need-add-t13
+add-t13 c = omega (arith, room (c .before .before .before) 2 (c .before .before .match .keys2))
 
-shared-slice-read-t17 : tie.Need-shared-slice-read-t17
-shared-slice-read-t17 c = omega (arith, room (c .before .before .before .before) 2 (c .before .before .before .match .keys2))
+shared-slice-read-t15 : tie.Need-shared-slice-read-t15
+shared-slice-read-t15 c = omega (arith, room (c .before .before .before .before) 2 (c .before .before .before .match .keys2))
 
 two-at-requires-4 : tie.Need-two-at-requires-4
 two-at-requires-4 c κs = omega (arith, room (c .before) 3 (c .match .keys3))
@@ -71,11 +68,11 @@ add-two-at-2 c = omega (arith, room (c .before .before) 3 (c .before .match .key
 two-at-requires-5 : tie.Need-two-at-requires-5
 two-at-requires-5 c κs = omega (arith, room (c .before .before) 3 (c .before .match .keys3))
 
-cast-t21 : tie.Need-cast-t21
-cast-t21 c = omega (arith, c .two-at5 .ensures)
+cast-t19 : tie.Need-cast-t19
+cast-t19 c = omega (arith, c .two-at5 .ensures)
 
-shared-slice-read-t23 : tie.Need-shared-slice-read-t23
-shared-slice-read-t23 c = omega (arith, room (c .before .before) 4 (c .before .match .keys4))
+shared-slice-read-t21 : tie.Need-shared-slice-read-t21
+shared-slice-read-t21 c = omega (arith, room (c .before .before) 4 (c .before .match .keys4))
 
 four-at-requires : tie.Need-four-at-requires
 four-at-requires c κs = omega (arith, room (c .before) 5 (c .match .keys5))
@@ -85,31 +82,31 @@ two-at-requires-6 c κs = omega (arith, room (c .before) 6 (c .match .keys6))
 
 returns : tie.Need-returns
 returns c =
-    let a = c .before .before .before .before .before .args in
+    let a = c .before .before .before .before .args in
     ap₂ Entry.Size (low-two (a .tape .now) (a .at) (c .before .two-at .ensures .0)) (high-two (a .tape .now) (a .at) (c .two-at2 .ensures .0))
     ∙ at-kind (a .tape .now) (a .at) (c .before .before .match .keys1)
 
 returns-2 : tie.Need-returns-2
 returns-2 c =
-    let a = c .before .before .before .before .before .before .args in
+    let a = c .before .before .before .before .before .args in
     ap (λ (n : ℕ). Entry.WeightBox n (getD (a .tape .now) (a .at + 1 + 2) 0) (getD (a .tape .now) (a .at + 1 + 3) 0))
     (low-two (a .tape .now) (a .at) (c .before .before .two-at3 .ensures .0))
     ∙ at-kind (a .tape .now) (a .at) (c .before .before .before .match .keys2)
 
 returns-3 : tie.Need-returns-3
 returns-3 c =
-    let a = c .before .before .before .before .before .args in
+    let a = c .before .before .before .before .args in
     ap₂ Entry.RoundLimits (low-two (a .tape .now) (a .at) (c .before .two-at4 .ensures .0)) (high-two (a .tape .now) (a .at) (c .two-at5 .ensures .0))
     ∙ at-kind (a .tape .now) (a .at) (c .before .before .match .keys3)
 
 returns-4 : tie.Need-returns-4
 returns-4 c =
-    let a = c .before .before .before .before .args in
+    let a = c .before .before .before .args in
     ap Entry.Sample (first (a .tape .now) (a .at)) ∙ at-kind (a .tape .now) (a .at) (c .before .match .keys4)
 
 returns-5 : tie.Need-returns-5
 returns-5 c =
-    let a = c .before .before .before .before .args in
+    let a = c .before .before .before .args in
     let b : ℕ → ℕ = λ i. getD (a .tape .now) (a .at + 1 + i) 0 in
     ap Entry.Flow
     (toZ-ofZ (record { sfits = c .four-at .ok })
@@ -119,7 +116,7 @@ returns-5 c =
 
 returns-6 : tie.Need-returns-6
 returns-6 c =
-    let a = c .before .before .before .before .args in
+    let a = c .before .before .before .args in
     ap Entry.PairWeight (low-two (a .tape .now) (a .at) (c .two-at6 .ensures .0))
     ∙ at-kind (a .tape .now) (a .at) (c .before .match .keys6)
 
@@ -137,7 +134,7 @@ bare (suc (suc (suc (suc (suc (suc (suc k))))))) b h₁ h₂ h₃ h₄ h₅ h₆
 returns-7 : tie.Need-returns-7
 returns-7 c =
     let r = c .match .rest in
-    let a = c .before .before .before .args in
+    let a = c .before .before .args in
     bare _ (λ i. getD (a .tape .now) (a .at + 1 + i) 0)
     (r .0 .0 .0 .0 .0 .1) (r .0 .0 .0 .0 .1) (r .0 .0 .0 .1) (r .0 .0 .1) (r .0 .1) (r .1)
 
@@ -145,21 +142,20 @@ pub decode-spec : {M : Type 1} → statement M
 decode-spec =
     tie.close
     (tie.spec
-    shared-slice-read-kind
     add-body
     two-at-requires
     add-two-at
     two-at-requires-2
     two-at-requires-3
-    add-t12
-    shared-slice-read-t14
-    add-t15
-    shared-slice-read-t17
+    add-t10
+    shared-slice-read-t12
+    add-t13
+    shared-slice-read-t15
     two-at-requires-4
     add-two-at-2
     two-at-requires-5
-    cast-t21
-    shared-slice-read-t23
+    cast-t19
+    shared-slice-read-t21
     four-at-requires
     two-at-requires-6
     returns

@@ -15,9 +15,6 @@ use Rattle.records.specs.Record.{recordAt}
 use Rattle.records.proofs.record.whole_record.Statement.{statement}
 use Rattle.records.proofs.record.whole_record.Tie as tie
 
-shared-slice-read-kind : tie.Need-shared-slice-read-kind
-shared-slice-read-kind c = search needs
-
 judge-body-requires : tie.Need-judge-body-requires
 judge-body-requires c κs = search needs
 
@@ -27,53 +24,62 @@ enum-known-v c = search needs
 enum-told : tie.Need-enum-told
 enum-told c = search needs
 
--- the verdict is that of the rows
-judged : (c : tie.After-judge-body) → let a = c .before .before .before .args in
-    c .judge-body .result
-    ≡ firstRefusal (bodyRows (a .followed) (length (a .tape .now)) (a .at) (getD (a .tape .now) (a .at) 0) (a .allowed))
-judged c = c .judge-body .ensures
+-- what a verdict gives, which is that of the rows by the kind passed
+given : (s : tie.Start) {v : Verdict} → let a = s .args in
+    v ≡ firstRefusal (bodyRows (a .followed) (length (a .tape .now)) (a .at) (a .kind) (a .allowed)) →
+    decided v (recordAt (a .tape .now) (a .at)) Got.Refused
+    ≡ decided (firstRefusal (bodyRows (a .followed) (length (a .tape .now)) (a .at) (getD (a .tape .now) (a .at) 0) (a .allowed))) (recordAt (a .tape .now) (a .at)) Got.Refused
+given s e =
+    let a = s .args in
+    ap (λ (v : Verdict). decided v (recordAt (a .tape .now) (a .at)) Got.Refused)
+    (e ∙ ap (λ (k : ℕ). firstRefusal (bodyRows (a .followed) (length (a .tape .now)) (a .at) k (a .allowed))) (s .pre .1))
 
--- where they accept, the body is whole
-room : (c : tie.After-enum-told) → let a = c .before .before .before .before .before .args in
-    a .at + 1 + bodyLength (getD (a .tape .now) (a .at) 0) ≤ length (a .tape .now)
+-- where the rows accept, the body is whole
+room : (c : tie.After-enum-told) → let a = c .before .before .before .before .args in
+    a .at + 1 + bodyLength (a .kind) ≤ length (a .tape .now)
 room c =
-    let a = c .before .before .before .before .before .args in
-    let h = accepted-row _ _ (sym (judged (c .before .before)) ∙ c .enum-told .given .1) in
-    ltb-false (length (a .tape .now)) (a .at + 1 + bodyLength (getD (a .tape .now) (a .at) 0)) (accepted-row _ _ (h .1) .0)
+    let a = c .before .before .before .before .args in
+    let h = accepted-row _ _ (sym (c .before .before .judge-body .ensures) ∙ c .enum-told .given .1) in
+    ltb-false (length (a .tape .now)) (a .at + 1 + bodyLength (a .kind)) (accepted-row _ _ (h .1) .0)
 
 decode-requires : tie.Need-decode-requires
 decode-requires c κs = room c
 
-add-t15 : tie.Need-add-t15
-add-t15 c = search needs
+add-t13 : tie.Need-add-t13
+add-t13 c = search needs
 
-add-t16 : tie.Need-add-t16
-add-t16 c = omega (arith, room (c .before), c .before .before .before .before .before .before .pre .1)
+add-t14 : tie.Need-add-t14
+add-t14 c = omega (arith, room (c .before), c .before .before .before .before .before .pre .2)
 
 returns : tie.Need-returns
 returns c =
-    let a = c .before .before .before .before .before .before .args in
-    ap (λ (v : Verdict). decided v (recordAt (a .tape .now) (a .at)) Got.Refused)
-    (sym (c .before .v .given .1) ∙ judged (c .before .before .before))
+    given (c .before .before .before .before .before) (sym (c .before .v .given .1) ∙ c .before .before .before .judge-body .ensures)
+
+-- the record by the kind passed and by the one that stands there
+record-by : (s : tie.Start) {e : Entry} → let a = s .args in
+    e ≡ decoded (a .kind) (λ i. getD (a .tape .now) (a .at + 1 + i) 0) →
+    Got.Record e (record { at = a .at + 1 + a .body }) ≡ recordAt (a .tape .now) (a .at)
+record-by s h =
+    let a = s .args in
+    ap (λ (e : Entry). Got.Record e (record { at = a .at + 1 + a .body })) h
+    ∙ ap (λ (b : ℕ). Got.Record (decoded (a .kind) (λ i. getD (a .tape .now) (a .at + 1 + i) 0)) (record { at = a .at + 1 + b })) (s .pre .2)
+    ∙ ap (λ (k : ℕ). Got.Record (decoded k (λ i. getD (a .tape .now) (a .at + 1 + i) 0)) (record { at = a .at + 1 + bodyLength k })) (s .pre .1)
 
 returns-2 : tie.Need-returns-2
 returns-2 c =
-    let a = c .before .before .before .before .before .before .args in
-    ap (λ (e : Entry). Got.Record e (record { at = a .at + 1 + a .body })) (c .decode .ensures)
-    ∙ ap (λ (b : ℕ). Got.Record (decoded (getD (a .tape .now) (a .at) 0) (λ i. getD (a .tape .now) (a .at + 1 + i) 0)) (record { at = a .at + 1 + b })) (c .before .before .before .before .before .before .pre .1)
-    ∙ ap (λ (v : Verdict). decided v (recordAt (a .tape .now) (a .at)) Got.Refused)
-    (sym (c .before .enum-told .given .1) ∙ judged (c .before .before .before))
+    let s = c .before .before .before .before .before in
+    record-by s (c .decode .ensures)
+    ∙ given s (sym (c .before .enum-told .given .1) ∙ c .before .before .before .judge-body .ensures)
 
 pub whole-record-spec : {M : Type 1} → statement M
 whole-record-spec =
     tie.close
     (tie.spec
-    shared-slice-read-kind
     judge-body-requires
     enum-known-v
     enum-told
     decode-requires
-    add-t15
-    add-t16
+    add-t13
+    add-t14
     returns
     returns-2)

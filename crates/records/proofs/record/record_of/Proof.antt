@@ -1,0 +1,60 @@
+-- `records::record::record_of` meets its contract. Assumes nothing.
+use mathlib.Core.Path.{_≡_, ap, sym, _∙_}
+use mathlib.Core.Bool.{Bool, true, not}
+use Prim.Native.Nat.{ℕ}
+use borrow.Author.Needs.{needs}
+use borrow.Author.Tests.{lt-leb}
+use Rattle.model.specs.Tape.{known, bodyLength, recordRows}
+use Rattle.model.proofs.Refusals.{refused, passed}
+use Rattle.records.specs.Tally.{may}
+use Rattle.records.specs.Record.{formOf, wholeAt}
+use Rattle.records.proofs.Rows.{form-unknown, form-known, known-kind, got-by}
+use Rattle.records.proofs.record.record_of.Statement.{statement}
+use Rattle.records.proofs.record.record_of.Tie as tie
+
+form-of-requires : tie.Need-form-of-requires
+form-of-requires c κs = search needs
+
+enum-told : tie.Need-enum-told
+enum-told c = search needs
+
+enum-known-f : tie.Need-enum-known-f
+enum-known-f c = search needs
+
+-- the form of a known kind
+form-is : (c : tie.After-known-told) → let a = c .before .before .before .before .before .args in
+    (known (a .kind) ≡ true) × (c .before .f .given .0 .0 ≡ bodyLength (a .kind)) × (c .before .f .given .0 .1 .0 ≡ may (a .t) (a .kind))
+form-is c =
+    let a = c .before .before .before .before .before .args in
+    form-known (a .kind) (may (a .t) (a .kind)) (sym (c .before .before .before .form-of .ensures) ∙ c .before .f .given .1)
+
+whole-record-requires : tie.Need-whole-record-requires
+whole-record-requires c κs =
+    let h = c .before .before .before .before .before .pre in
+    (h .0, h .1, form-is c .1)
+
+returns : tie.Need-returns
+unfolding recordRows
+returns c =
+    let s = c .before .before .before .before in
+    let a = s .args in
+    got-by (a .followed) (a .tape .now) (a .at) (a .t)
+    (passed _ _ (lt-leb _ _ (s .pre .0))
+    ∙ refused _ _
+    (ap (λ (k : ℕ). not (known k)) (sym (s .pre .1))
+    ∙ ap not (form-unknown (a .kind) (may (a .t) (a .kind)) (sym (c .before .before .form-of .ensures) ∙ c .enum-told .given .1))))
+
+returns-2 : tie.Need-returns-2
+returns-2 c =
+    let s = c .before .before .before .before .before .before in
+    let a = s .args in
+    let f = form-is (c .before) in
+    c .whole-record .ensures
+    ∙ ap (wholeAt (a .followed) (a .tape .now) (a .at)) (f .2 ∙ ap (may (a .t)) (s .pre .1))
+    ∙ got-by (a .followed) (a .tape .now) (a .at) (a .t)
+    (known-kind _ _ _ _ (s .pre .0) (ap known (sym (s .pre .1)) ∙ f .0))
+
+pub record-of-spec : {M : Type 1} → statement M
+record-of-spec =
+    tie.close
+    (tie.spec form-of-requires enum-told enum-known-f whole-record-requires returns returns-2)
