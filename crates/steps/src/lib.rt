@@ -6,7 +6,6 @@ use model::Rounds;
 use model::Terms;
 use records::record::Cursor;
 use records::record::Got;
-use records::record::next_record;
 use records::tally::Tally;
 use terms::box_allowed;
 use terms::pairs;
@@ -16,7 +15,7 @@ use terms::size_allowed;
 use terms::weight_allowed;
 ghost use mathlib.Core.Path.{_≡_};
 ghost use Rattle.model.specs.declared.Entry.{Entry};
-ghost use Rattle.steps.specs.Step.{CountsFit, judgedEntry, stepOf};
+ghost use Rattle.steps.specs.Step.{CountsFit, judgedEntry, taken};
 
 // What taking a record gives: a refusal with its place, the job's end, or what has been read now
 // with the place of the next record.
@@ -114,8 +113,8 @@ fn take_pair_weight(t: Tally, own: u32, next: Cursor, at: usize, lent: Lent) -> 
     Step::More(now, next)
 }
 
-// A record that has been read.
-fn take(t: Tally, entry: Entry, next: Cursor, at: usize, lent: Lent) -> Step
+// A record that has been read: its terms are judged, and it is counted.
+fn take_entry(t: Tally, entry: Entry, next: Cursor, at: usize, lent: Lent) -> Step
     requires { ⌜ CountsFit t ⌝ }
     ensures { λ r. ⌜ r ≡ judgedEntry t entry next at lent ⌝ }
 {
@@ -137,14 +136,13 @@ fn take(t: Tally, entry: Entry, next: Cursor, at: usize, lent: Lent) -> Step
     }
 }
 
-// The record at an offset, read and taken.
-pub fn take_record(tape: &[u8], at: usize, t: Tally, lent: Lent) -> Step
+// What reading a record gave: a refusal stays one, and a record is taken.
+pub fn take(t: Tally, got: Got, at: usize, lent: Lent) -> Step
     requires { ⌜ CountsFit t ⌝ }
-    ensures { λ r. ⌜ r ≡ stepOf (now (tape .entry)) at t lent ⌝ }
+    ensures { λ r. ⌜ r ≡ taken got at t lent ⌝ }
 {
-    let got = next_record(tape, at, t, lent.followed);
     match got {
         Got::Refused(number, place) => Step::Refused(number, place),
-        Got::Record(entry, next) => take(t, entry, next, at, lent),
+        Got::Record(entry, next) => take_entry(t, entry, next, at, lent),
     }
 }
