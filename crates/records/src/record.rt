@@ -156,14 +156,7 @@ pub enum Got {
 }
 
 // The record at an offset, whose kind is known.
-fn whole_record(
-    tape: &[u8],
-    at: usize,
-    kind: u8,
-    body: usize,
-    allowed: bool,
-    followed: bool,
-) -> Got
+fn whole_record(tape: &[u8], at: usize, kind: u8, body: usize, allowed: bool, followed: bool) -> Got
     requires { ⌜ (at < length (now tape)) × (kind ≡ getD (now tape) at 0) × (body ≡ bodyLength kind) ⌝ }
     ensures { λ r. ⌜ r ≡ wholeAt followed (now (tape .entry)) at allowed ⌝ }
 {

@@ -1,7 +1,5 @@
 -- The laws of a scan.
 --     Prefix      a record is read alike on every tape that has its bytes
 --     Reached     what a scan keeps from record to record, and what it says where it stops
---     Stretches   records of one kind that follow one another
 pub mod Prefix
 pub mod Reached
-pub mod Stretches

@@ -1,15 +1,15 @@
 -- A scan of a tape: what its counts stand for, and where it stops.
-use mathlib.Core.Bool.{Bool, true}
+use mathlib.Core.Bool.{Bool}
 use mathlib.Core.Path.{_≡_}
 use mathlib.Core.List.{List}
-use Prim.Native.Nat.{ℕ, suc, _+_, _*_, _≤_, _<_}
-use lib.ListN.{length, getD, take}
+use Prim.Native.Nat.{ℕ, suc, _+_, _≤_, _<_}
+use lib.ListN.{length, take}
 use Rattle.model.specs.declared.Lent.{Lent}
 use Rattle.model.specs.Tape.{Progress, nothing, Parse, whole, parseFrom}
 use Rattle.records.specs.declared.tally.Tally.{Tally}
 use Rattle.steps.specs.declared.Step.{Step}
 use Rattle.tape_scan.specs.declared.scan.Scanned.{Scanned}
-use Rattle.records.specs.Tally.{tallyOf, may}
+use Rattle.records.specs.Tally.{tallyOf}
 use Rattle.steps.specs.Step.{numbersRead, stepOf}
 
 -- the records of a tape, before 8 is judged
@@ -34,24 +34,6 @@ pub record Reached (tape : List ℕ) (lent : Lent) (t : Tally) (o : ℕ) : Type 
   pub goesOn :
       (other : List ℕ) → o ≤ length other → take o other ≡ take o tape → (followed : Bool) (k : ℕ) → length other < o + k →
       recordsOf other (lentFor lent followed) ≡ parseFrom k other (lentFor lent followed) o progress
-
--- From offset o on there are n records of a kind, of `size` bytes each, one behind the other. Where n is above 0, they are whole,
--- the kind may come, and with the `had` before them they are at most `all`
-abbrev pub Following : List ℕ → Tally → (kind size had all o n : ℕ) → Type 0
-Following tape t kind size had all o n =
-    (0 < n → (may t kind ≡ true) × (had + n ≤ all) × (o + size * n ≤ length tape))
-    × ((i : ℕ) → i < n → getD tape (o + size * i) 0 ≡ kind)
-
--- From the one place reading goes on to the other, whatever is lent
-abbrev pub Leads : List ℕ → Tally → ℕ → Tally → ℕ → Type 0
-Leads tape t o u p = (lent : Lent) → Reached tape lent t o → Reached tape lent u p × (o ≤ p)
-
--- What taking records from a place on gives: what the first of them does, where it is refused or ends the job; else a place
--- further on that reading goes on to
-abbrev pub StepsOn : List ℕ → ℕ → Tally → Lent → Step → Type 0
-StepsOn tape o t lent (Step.Refused number place) = Step.Refused number place ≡ stepOf tape o t lent
-StepsOn tape o t lent Step.Done = Step.Done ≡ stepOf tape o t lent
-StepsOn tape o t lent (Step.More u next) = Reached tape lent t o → Reached tape lent u (next .at) × (o < next .at)
 
 -- A scan stops where the record that it has reached is refused, or ends the job
 abbrev pub StopsAt : List ℕ → Lent → Scanned → Type 0

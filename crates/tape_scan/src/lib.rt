@@ -1,7 +1,5 @@
-// A tape gone through, with nothing written.
-//     stretch  a record, with the samples and flow numbers that follow it
+// A tape gone through, record by record, with nothing written.
 //     reader   the lent bytes with the offset of the next record
 //     scan     a tape, from record to record
 mod reader;
 pub mod scan;
-mod stretch;

@@ -1,14 +1,13 @@
 // The tape's bytes and the offset of the next record, kept together. Each function over the struct is
-// thin: the work is done by `take_records`, on the slice and the number.
+// thin: the work is done by `next_record`, on the slice and the number.
 
-use crate::stretch::take_records;
 use model::Lent;
 use records::record::Cursor;
+use records::record::Got;
+use records::record::next_record;
 use records::tally::Tally;
-use steps::Step;
 ghost use mathlib.Core.Path.{_≡_};
-ghost use Rattle.steps.specs.Step.{CountsFit};
-ghost use Rattle.tape_scan.specs.Scan.{StepsOn};
+ghost use Rattle.records.specs.Record.{gotAt};
 
 pub struct Reader<'a> {
     pub tape: &'a [u8],
@@ -22,12 +21,12 @@ pub fn new<'a>(tape: &'a [u8], at: usize) -> Reader<'a>
     Reader { tape, at }
 }
 
-// The next record, or the next ones, read and taken into the tally.
-pub fn next<'a>(r: Reader<'a>, t: Tally, lent: Lent) -> Step
-    requires { ⌜ CountsFit t ⌝ }
-    ensures { λ s. ⌜ StepsOn (now (r .entry .tape)) (r .entry .at) t lent s ⌝ }
+// The next record: its kind with its numbers, and beside it the cursor that the reader is moved on to;
+// or a refusal with its offset. What has been read says which kinds may come.
+pub fn next<'a>(r: Reader<'a>, t: Tally, lent: Lent) -> Got
+    ensures { λ g. ⌜ g ≡ gotAt (lent .followed) (now (r .entry .tape)) (r .entry .at) t ⌝ }
 {
-    take_records(r.tape, r.at, t, lent)
+    next_record(r.tape, r.at, t, lent.followed)
 }
 
 // The reader moved on to the record at a cursor.

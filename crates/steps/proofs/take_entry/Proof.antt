@@ -1,0 +1,106 @@
+-- `steps::take_entry` meets its contract. Assumes nothing.
+use mathlib.Core.Path.{_≡_, sym, ap, _∙_}
+use borrow.Author.Needs.{needs}
+use Rattle.model.specs.declared.Entry.{Entry}
+use Rattle.model.proofs.Refusals.{accepted}
+use Rattle.steps.specs.Step.{judgedEntry}
+use Rattle.steps.proofs.Rows.{judged-entry}
+use Rattle.steps.proofs.take_entry.Statement.{statement}
+use Rattle.steps.proofs.take_entry.Tie as tie
+
+enum-told : tie.Need-enum-told
+enum-told c = search needs
+
+enum-known-entry : tie.Need-enum-known-entry
+enum-known-entry c = search needs
+
+take-size-requires : tie.Need-take-size-requires
+take-size-requires c κs = search needs
+
+enum-known-entry-2 : tie.Need-enum-known-entry-2
+enum-known-entry-2 c = search needs
+
+take-weight-requires : tie.Need-take-weight-requires
+take-weight-requires c κs = search needs
+
+enum-known-entry-3 : tie.Need-enum-known-entry-3
+enum-known-entry-3 c = search needs
+
+take-rounds-requires : tie.Need-take-rounds-requires
+take-rounds-requires c κs = search needs
+
+enum-told-2 : tie.Need-enum-told-2
+enum-told-2 c = search needs
+
+add-now : tie.Need-add-now
+add-now c = search needs
+
+enum-told-3 : tie.Need-enum-told-3
+enum-told-3 c = search needs
+
+add-now-2 : tie.Need-add-now-2
+add-now-2 c = search needs
+
+enum-known-entry-4 : tie.Need-enum-known-entry-4
+enum-known-entry-4 c = search needs
+
+take-pair-weight-requires : tie.Need-take-pair-weight-requires
+take-pair-weight-requires c κs = search needs
+
+-- the step of the record that the arm knows
+known : (c : tie.Start) {e : Entry} → c .args .entry ≡ e → judgedEntry (c .args .t) e (c .args .next) (c .args .at) (c .args .lent) ≡ judgedEntry (c .args .t) (c .args .entry) (c .args .next) (c .args .at) (c .args .lent)
+known c h = ap (λ (e : Entry). judgedEntry (c .args .t) e (c .args .next) (c .args .at) (c .args .lent)) (sym h)
+
+returns : tie.Need-returns
+returns c =
+    let a = c .before .before .args in
+    judged-entry (a .t) Entry.End (a .next) (a .at) (a .lent) accepted ∙ known (c .before .before) (c .enum-told .given .1)
+
+returns-2 : tie.Need-returns-2
+returns-2 c = c .take-size .ensures ∙ known (c .before .before .before .before) (c .before .before .entry .given .1)
+
+returns-3 : tie.Need-returns-3
+returns-3 c = c .take-weight .ensures ∙ known (c .before .before .before .before) (c .before .before .entry2 .given .1)
+
+returns-4 : tie.Need-returns-4
+returns-4 c = c .take-rounds .ensures ∙ known (c .before .before .before .before) (c .before .before .entry3 .given .1)
+
+returns-5 : tie.Need-returns-5
+returns-5 c =
+    let s = c .before .before .before in
+    let h = c .before .enum-told2 .given in
+    judged-entry (s .args .t) (Entry.Sample (h .0 .0)) (s .args .next) (s .args .at) (s .args .lent) accepted ∙ known s (h .1)
+
+returns-6 : tie.Need-returns-6
+returns-6 c =
+    let s = c .before .before .before in
+    let h = c .before .enum-told3 .given in
+    judged-entry (s .args .t) (Entry.Flow (h .0 .0)) (s .args .next) (s .args .at) (s .args .lent) accepted ∙ known s (h .1)
+
+returns-7 : tie.Need-returns-7
+returns-7 c = c .take-pair-weight .ensures ∙ known (c .before .before .before .before) (c .before .before .entry4 .given .1)
+
+pub take-entry-spec : {M : Type 1} → statement M
+take-entry-spec =
+    tie.close
+    (tie.spec
+    enum-told
+    enum-known-entry
+    take-size-requires
+    enum-known-entry-2
+    take-weight-requires
+    enum-known-entry-3
+    take-rounds-requires
+    enum-told-2
+    add-now
+    enum-told-3
+    add-now-2
+    enum-known-entry-4
+    take-pair-weight-requires
+    returns
+    returns-2
+    returns-3
+    returns-4
+    returns-5
+    returns-6
+    returns-7)
