@@ -1,7 +1,7 @@
 // The whole text of an answer.
 
 use crate::image::put_image;
-use calls::answer::Answer;
+use model::Answer;
 use model::Terms;
 use text::line::put_figures;
 use text::line::put_refusal;
@@ -11,7 +11,7 @@ ghost use lib.IntN.{pos};
 ghost use lib.ListN.{length};
 ghost use Rattle.model.specs.Text.{ascii};
 ghost use Rattle.model.specs.Program.{numbersText, imageText, answerText};
-ghost use Rattle.calls.specs.Answers.{answerOf};
+ghost use Rattle.model.specs.Answers.{answerOf};
 ghost use Rattle.output.specs.Put.{Put};
 
 // The header line, the line of numbers and the lines of the image.

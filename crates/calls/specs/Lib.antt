@@ -1,5 +1,2 @@
--- What the calls' contracts cite beside the model's definitions.
---     Answers   document 01's number and values for each answer
---     Slack     how large a slack can be
-pub mod Answers
+-- What the calls' contracts cite beside the model's definitions: how large a slack can be.
 pub mod Slack

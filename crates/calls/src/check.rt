@@ -1,6 +1,6 @@
 // Check judges a flow and fills its image.
 
-use crate::answer::Answer;
+use model::Answer;
 use model::Terms;
 use model::Verdict;
 use primal::fill_image;
@@ -9,8 +9,8 @@ ghost use mathlib.Core.Path.{_≡_};
 ghost use mathlib.Core.Logic.{_↔_};
 ghost use Rattle.model.specs.Calls.{checkAnswer, checkImage};
 ghost use Rattle.model.specs.Accepted.{CheckAllowed};
-ghost use Rattle.certificate.specs.Demand.{CheckDemand};
-ghost use Rattle.calls.specs.Answers.{answerOf};
+ghost use Rattle.model.specs.Demand.{CheckDemand};
+ghost use Rattle.model.specs.Answers.{answerOf};
 
 pub fn check(t: Terms, samples: &[u8], weights: &[i32], flow: &[i32], image: &mut [i32]) -> Answer
     ensures { λ r. ⌜ answerOf r ≡ checkAnswer t (now (samples .entry)) (now (weights .entry)) (now (flow .entry)) (now (image .entry)) ⌝ }

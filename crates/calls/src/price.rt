@@ -1,6 +1,6 @@
 // Price judges an image.
 
-use crate::answer::Answer;
+use model::Answer;
 use model::Terms;
 use model::Verdict;
 use stencil::pixel;
@@ -8,7 +8,7 @@ ghost use mathlib.Core.Path.{_≡_};
 ghost use mathlib.Core.Logic.{_↔_};
 ghost use Rattle.model.specs.Calls.{priceAnswer};
 ghost use Rattle.model.specs.Accepted.{PriceAllowed};
-ghost use Rattle.calls.specs.Answers.{answerOf};
+ghost use Rattle.model.specs.Answers.{answerOf};
 
 pub fn price(t: Terms, samples: &[u8], weights: &[i32], image: &[i32]) -> Answer
     ensures { λ r. ⌜ answerOf r ≡ priceAnswer t (now (samples .entry)) (now (weights .entry)) (now (image .entry)) ⌝ }

@@ -1,6 +1,6 @@
 // Run does a job's rounds and fills its flow and image.
 
-use crate::answer::Answer;
+use model::Answer;
 use model::Rounds;
 use model::Terms;
 use model::Verdict;
@@ -12,8 +12,8 @@ ghost use mathlib.Core.Path.{_≡_};
 ghost use mathlib.Core.Logic.{_↔_};
 ghost use Rattle.model.specs.Calls.{runAnswer, runFlow, runImage, runWork};
 ghost use Rattle.model.specs.Accepted.{RunAllowed};
-ghost use Rattle.certificate.specs.Demand.{RunDemand};
-ghost use Rattle.calls.specs.Answers.{answerOf};
+ghost use Rattle.model.specs.Demand.{RunDemand};
+ghost use Rattle.model.specs.Answers.{answerOf};
 
 pub fn run(
     t: Terms,

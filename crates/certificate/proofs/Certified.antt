@@ -5,7 +5,7 @@ use Prim.Native.Nat.{ℕ}
 use lib.IntN.{ℤ, pos, _+ℤ_, _*ℤ_}
 use lib.Signed.{_≤ℤ_}
 use Rattle.model.specs.Problem.{Problem, Feasible, price, image, distance}
-use Rattle.certificate.specs.Demand.{Figures, WithinSlacks, Certified}
+use Rattle.model.specs.Demand.{Figures, WithinSlacks, Certified}
 use Rattle.certificate.proofs.Lagrangian.{Sound}
 use Rattle.certificate.proofs.Congruence.{Agree, price-cong, distance-cong}
 use Rattle.certificate.proofs.Distance.{distance-law, equal-images}

@@ -13,7 +13,7 @@ use Rattle.model.specs.Problem.{Problem, InBox, fall, misfit, price, pull, imag
 use Rattle.model.specs.Grid.{weightOf, readingOf, lowEnd, highEnd, verticalPairs, horizontalPairs, gridPairs}
 use Rattle.model.specs.Root.{rootBy, root}
 use Rattle.model.specs.Rounds.{eighth, nearestEighth, stepped, step, nextMomentum, extrapolate, quickStart, quickRound, quickRounds, wouldMove, firstMoving, steadyRounds}
-use Rattle.certificate.specs.Demand.{WithinSlacks, Certified}
+use Rattle.model.specs.Demand.{WithinSlacks, Certified}
 use Rattle.certificate.specs.Statements.{close, certified, alike, alikeAtZero, near, withinSlacks, equalAtZero, settledWithin, movedWithin, settlesWhen}
 use Rattle.certificate.specs.Counterexamples.{Alteration, distanceRows, twoFlowsRows, divisionRows, settledRows, movedRows, settlesRows, rows, metExactly}
 

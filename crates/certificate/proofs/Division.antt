@@ -20,7 +20,7 @@ use Rattle.integers.proofs.Total.{total-cong, total-*ℤ}
 use Rattle.model.specs.Lists.{at}
 use Rattle.model.specs.Calls.{Answer}
 use Rattle.model.specs.Problem.{Problem, pairCount, firstOf, secondOf, fall, misfit, price, Feasible, pull, image, floor, slack, distance, divided, times}
-use Rattle.certificate.specs.Demand.{Figures, Certificate, TwoFlows}
+use Rattle.model.specs.Demand.{Figures, Certificate, TwoFlows}
 use Rattle.certificate.proofs.Lagrangian.{Sound}
 use Rattle.certificate.proofs.Certified.{certified-figures, certified-both}
 

@@ -20,7 +20,7 @@ use Rattle.model.proofs.Pairs.{neighbours, first-inside, second-inside}
 use Rattle.model.proofs.Degree.{degree, degree-at-most-4}
 use Rattle.model.proofs.Answers.{check-answer, check-image, runFigures, run-answer, run-flow, run-image, held-image}
 use Rattle.model.proofs.Accepted.{told, check-feasible, check-accepted, check-number, run-accepted, run-number}
-use Rattle.certificate.specs.Demand.{Figures, TwoFlows, CheckDemand, RunDemand}
+use Rattle.model.specs.Demand.{Figures, TwoFlows, CheckDemand, RunDemand}
 use Rattle.certificate.proofs.Lagrangian.{Sound}
 use Rattle.certificate.proofs.Congruence.{price-cong}
 use Rattle.certificate.proofs.Division.{certificate, two-flows}

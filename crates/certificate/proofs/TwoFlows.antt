@@ -6,7 +6,7 @@ use lib.IntN.{ℤ, pos, _+ℤ_, _*ℤ_}
 use lib.Signed.{_≤ℤ_}
 use Rattle.integers.proofs.Parts.{parts, whole, by-≤, of-≤}
 use Rattle.model.specs.Problem.{Problem, Feasible, price, image, slack, distance}
-use Rattle.certificate.specs.Demand.{WithinSlacks}
+use Rattle.model.specs.Demand.{WithinSlacks}
 use Rattle.certificate.proofs.Lagrangian.{Sound, image-in-box}
 use Rattle.certificate.proofs.Metric.{distance-sym, distance-zero}
 use Rattle.certificate.proofs.Distance.{distance-law}

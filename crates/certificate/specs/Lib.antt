@@ -1,5 +1,4 @@
--- What the certificate says, and counterexamples to what it does not say.
-pub mod Demand
+-- Counterexamples to what the certificate (model/specs/Demand.antt) does not say.
 pub mod Statements
 pub mod Jobs
 pub mod Counterexamples

@@ -18,14 +18,14 @@ use Rattle.model.specs.Grid.{sizeAllowed}
 use Rattle.model.specs.Verdict.{left}
 use Rattle.model.specs.Calls.{Answer, pixelsOf, pairsOf, imageOf, checkVerdict, checkAnswer, checkImage, runVerdict, runAnswer, runImage}
 use Rattle.model.specs.Tape.{Progress, Parse, turned, whole, parse, ReadAnswer, readOf, readAnswer, readSamples, readWeights, readFlow, lentBy}
-use Rattle.tape_read.specs.declared.read.ReadResult.{ReadResult}
-use Rattle.tape_read.specs.Answers.{readAnswerOf}
+use Rattle.model.specs.declared.ReadResult.{ReadResult}
+use Rattle.model.specs.Answers.{readAnswerOf}
 use Rattle.model.specs.Program.{jobAnswer, jobImage}
 use Rattle.model.proofs.Lists.{length-table}
 use Rattle.roundtrip.proofs.Accepted.{accepted-job}
 use Rattle.roundtrip.proofs.Judged.{accepted-parse, passed-parse, answer-by, samples-by, weights-by, flow-by}
 use Rattle.roundtrip.proofs.RoundTrip.{counted}
-use Rattle.roundtrip.specs.RoundTrip.{allOf}
+use Rattle.model.specs.RoundTrip.{allOf}
 use Rattle.job.specs.Tables.{Tables, Holds, answerIn, imageFront, imageIn}
 use Rattle.job.proofs.Formers.{Shows, ofCheck, same-check, ofRun, same-run}
 

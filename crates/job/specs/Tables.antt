@@ -8,7 +8,7 @@ use lib.ListN.{take, drop}
 use Rattle.model.specs.declared.Terms.{Terms}
 use Rattle.model.specs.declared.Rounds.{Rounds}
 use Rattle.model.specs.Grid.{sizeAllowed}
-use Rattle.roundtrip.specs.RoundTrip.{allOf}
+use Rattle.model.specs.RoundTrip.{allOf}
 use Rattle.model.specs.Calls.{Answer, pixelsOf, pairsOf, checkAnswer, checkImage, runAnswer, runFlow, runImage, runWork}
 
 -- an allowed size, and tables that are long enough

@@ -1,14 +1,14 @@
 // With flow records a job is checked, else it is run.
 
-use calls::answer::Answer;
 use calls::check::check;
 use calls::run::run;
+use model::Answer;
 use model::Rounds;
 use model::Terms;
 ghost use mathlib.Core.Path.{_≡_};
 ghost use lib.ListN.{length};
-ghost use Rattle.calls.specs.Answers.{answerOf};
-ghost use Rattle.roundtrip.specs.RoundTrip.{allOf};
+ghost use Rattle.model.specs.Answers.{answerOf};
+ghost use Rattle.model.specs.RoundTrip.{allOf};
 ghost use Rattle.job.specs.Tables.{Tables, answerIn, flowIn, imageIn, workIn};
 
 // How many weights of pairs are lent: all or none.

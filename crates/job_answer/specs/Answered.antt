@@ -5,8 +5,8 @@ use lib.IntN.{natAbs}
 use Rattle.model.specs.Calls.{pixelsOf}
 use Rattle.model.specs.Tape.{Progress, Parse, turned, whole}
 use Rattle.model.specs.Program.{jobAnswer}
-use Rattle.calls.specs.declared.answer.Answer.{Answer}
-use Rattle.calls.specs.Answers.{answerOf}
+use Rattle.model.specs.declared.Answer.{Answer}
+use Rattle.model.specs.Answers.{answerOf}
 use Rattle.calls.specs.Slack.{mostSlack}
 use Rattle.job_answer.specs.declared.Answered.{Answered}
 

@@ -1,9 +1,9 @@
 // The answer of a tape whose records have passed, with nothing printed.
 
-use calls::answer::Answer;
 use job::treat::treat;
+use model::Answer;
+use model::ReadResult;
 use records::tally::Tally;
-use tape_read::read::ReadResult;
 use tape_read::read::take_numbers;
 ghost use lib.ListN.{length};
 ghost use Rattle.model.specs.Tape.{lentBy, parse};

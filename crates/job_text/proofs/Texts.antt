@@ -14,8 +14,8 @@ use Rattle.model.specs.declared.Rounds.{Rounds}
 use Rattle.model.specs.Calls.{Answer, refusal, pixelsOf}
 use Rattle.model.specs.Tape.{Progress, Parse, turned, whole, parse, ReadAnswer, readAnswer, readSamples, readWeights, readFlow, lentBy}
 use Rattle.model.specs.Program.{refusalText, answerText, readText}
-use Rattle.tape_read.specs.declared.read.ReadResult.{ReadResult}
-use Rattle.tape_read.specs.Answers.{readAnswerOf}
+use Rattle.model.specs.declared.ReadResult.{ReadResult}
+use Rattle.model.specs.Answers.{readAnswerOf}
 use Rattle.terms.proofs.Size.{allowed-size}
 use Rattle.roundtrip.proofs.Judged.{accepted-parse, flow-by}
 use Rattle.job.specs.Tables.{Holds, answerIn, imageIn}

@@ -2,7 +2,7 @@
 
 use answer_text::answer::put_answer;
 use job::treat::treat;
-use tape_read::read::ReadResult;
+use model::ReadResult;
 use tape_read::read::read;
 use text::line::put_refusal;
 ghost use mathlib.Core.Path.{_≡_};

@@ -4,6 +4,7 @@
 --     Refusals    of the first refusal
 --     Lists       of `table`, `chain` and `firstWhere`
 --     Root        the root is the largest whole number whose square is at most n
+--     Decimal     the decimal text of a number has its digits
 --     Pairs       how many pairs there are, and which two pixels each has
 --     Degree      a pixel lies in at most 4 pairs
 --     Range       how large readings and the ends of the box are
@@ -16,6 +17,7 @@ pub mod Values
 pub mod Refusals
 pub mod Lists
 pub mod Root
+pub mod Decimal
 pub mod Pairs
 pub mod Degree
 pub mod Range

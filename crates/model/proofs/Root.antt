@@ -7,7 +7,7 @@ use native.Mathlib.Decide.{decLe}
 use native.Mathlib.Omega.{arith}
 use lib.Dec.{leb}
 use borrow.Author.Tests.{leb-true, leb-false}
-use Rattle.model.specs.Root.{rootBy, root}
+use Rattle.model.specs.Root.{rootBy, root, RootLaw}
 use Rattle.model.specs.Rounds.{nextMomentum}
 
 -- r is the largest whole number whose square is at most n
@@ -53,6 +53,10 @@ root-largest n s h = by (decLe s (root n))
 -- .. whose square is at most n
 pub root-square : (n : ℕ) → root n * root n ≤ n
 root-square n = root-is n .below
+
+-- both, as the definition states it
+pub root-law : RootLaw
+root-law n = (root-square n, root-largest n)
 
 -- there is only one such number
 pub root-unique : (n r : ℕ) → r * r ≤ n → n < (r + 1) * (r + 1) → r ≡ root n

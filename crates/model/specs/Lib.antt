@@ -9,7 +9,11 @@
 --     Verdict     refusals: the first row of a table that applies
 --     Calls       check, price and run: their refusals, answers and buffers
 --     Accepted    what the accepted calls have been lent: terms, lengths and contents
+--     Demand      demand 3 and request F-5: what is certified of an answer
 --     Tape        the job tape: records, reading, writing
+--     RoundTrip   written reads back, and read writes back
+--     Answers     document 01's numbers and values for each case of the calls' enums
+--     Plain       the same as the plain numbers that the C functions take and hand out
 --     Text        numbers and words as ASCII
 --     Program     the cleaning program's output
 --     Season      the season report's output
@@ -22,7 +26,11 @@ pub mod Rounds
 pub mod Verdict
 pub mod Calls
 pub mod Accepted
+pub mod Demand
 pub mod Tape
+pub mod RoundTrip
+pub mod Answers
+pub mod Plain
 pub mod Text
 pub mod Program
 pub mod Season

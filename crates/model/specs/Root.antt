@@ -1,7 +1,6 @@
--- The whole square root: the largest whole number whose square is at most n (proved of it in proofs/Root.antt)
--- (SPECIFICATION 3.3).
+-- The whole square root (SPECIFICATION 3.3): how it is computed, and the law that it is the number document 01 means.
 use mathlib.Core.Bool.{cond}
-use Prim.Native.Nat.{ℕ, zero, suc, _+_, _*_, _/_}
+use Prim.Native.Nat.{ℕ, zero, suc, _+_, _*_, _/_, _≤_}
 use lib.Dec.{leb}
 
 -- The root of n in binary digits, by way of the root r of n / 4: it is 2 r or 2 r + 1. The first argument bounds the digits
@@ -14,3 +13,7 @@ rootBy (suc k) (suc n) =
 
 unfoldable pub root : ℕ → ℕ
 root n = rootBy n n
+
+-- Document 01's sentence: it is the largest whole number whose square is at most n (proved: `root-law`, proofs/Root.antt)
+abbrev pub RootLaw : Type 0
+RootLaw = (n : ℕ) → (root n * root n ≤ n) × ((s : ℕ) → s * s ≤ n → s ≤ root n)

@@ -1,13 +1,14 @@
 -- The season report: the text that it prints for tapes that follow one another (docs/SPECIFICATION.md, section 10).
 use mathlib.Core.Bool.{Bool, true, false, cond}
 use mathlib.Core.List.{List, [], _∷_, _++_}
+use mathlib.Core.Path.{_≡_}
 use Prim.Native.Nat.{ℕ, zero, suc, _+_, _/_, _%_, max}
 use Prim.Native.String.{String}
 use lib.Dec.{eqb, ltb}
 use lib.IntN.{natAbs}
 use lib.ListN.{length, getD, take, drop}
 pub use Rattle.model.specs.declared.Totals.{Totals}
-use Rattle.model.specs.Lists.{firstWhere}
+use Rattle.model.specs.Lists.{firstWhere, overwritten}
 use Rattle.model.specs.Text.{ascii, decimal}
 use Rattle.model.specs.Verdict.{Verdict, Accept, Refuse}
 use Rattle.model.specs.Calls.{Outcome, refused, checked, settled, spent, Answer, refusal, pixelsOf}
@@ -159,3 +160,17 @@ reportText t v = totalsText t ++ endingText (t .jobs) v
 -- It ends after 65,535 jobs, and has the cleaning program's tables (SPECIFICATION 10.1, 10.2)
 unfoldable pub seasonText : List ℕ → List ℕ
 seasonText input = let s : Season = seasonFrom (tables true) 65535 input in reportText (totalsOf (s .jobs)) (s .ending)
+
+-- ---- What the program prints
+
+-- bytes that may follow those read: none where the input had ended
+abbrev pub Follows : Bool → List ℕ → Type 0
+Follows ended rest = ended ≡ true → rest ≡ []
+
+-- The text stands at the front of the output, and counts so many bytes: that of some input, and, unless that had ended, of
+-- every input that begins with it. Which bytes were read no promise can say (DECISIONS 54)
+pub record TextOf (former : List ℕ) (count : ℕ) (output : List ℕ) : Type 0 where
+  pub input : List ℕ
+  pub ended : Bool
+  pub counted : (rest : List ℕ) → Follows ended rest → count ≡ length (seasonText (input ++ rest))
+  pub laid : (rest : List ℕ) → Follows ended rest → output ≡ overwritten (seasonText (input ++ rest)) former

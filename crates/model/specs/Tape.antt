@@ -1,7 +1,8 @@
 -- The job tape: its records, reading and writing, on lists of bytes (docs/SPECIFICATION.md, sections 5 and 6).
 use mathlib.Core.Bool.{Bool, true, false, not, _&&_, _||_, cond}
 use mathlib.Core.List.{List, [], _∷_, _++_}
-use Prim.Native.Nat.{ℕ, zero, suc, _+_, _-_, _*_, _/_, _%_, _^_}
+use mathlib.Core.Path.{_≡_}
+use Prim.Native.Nat.{ℕ, zero, suc, _+_, _-_, _*_, _/_, _%_, _^_, _≤_, _<_}
 use lib.Dec.{eqb, leb, ltb}
 use lib.IntN.{ℤ, pos, negsuc, subℕ, natAbs}
 use lib.ListN.{length, getD}
@@ -250,6 +251,13 @@ parseFrom (suc k) tape lent o p =
             | false ↦ parseFrom k tape lent (o + 1 + bodyLength kind) (absorbed p entry)
           ]
     ]
+
+-- The first argument decides nothing: any number over that of the bytes left gives the same (proved: `parse-law`,
+-- tape_scan/proofs/Reached.antt)
+abbrev pub ParseLaw : Type 0
+ParseLaw =
+    (tape : List ℕ) (lent : Lent) (j k o : ℕ) (p : Progress) →
+    o ≤ length tape → length tape < o + j → length tape < o + k → parseFrom j tape lent o p ≡ parseFrom k tape lent o p
 
 -- 8 is judged only when the whole tape has passed, by each pair's own weight (SPECIFICATION 6.5)
 abbrev pub judged : Parse → Parse

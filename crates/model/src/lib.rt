@@ -1,6 +1,7 @@
 // Document 01 as definitions (specs/) and their first laws (proofs/). There is no code here but the
 // types that the definitions and the calls of the crates above share: terms and rounds of a job,
-// a verdict, a record of the tape, what a reading of a tape is lent, and the numbers of a season.
+// a verdict, what the calls give, a record of the tape, what a reading of a tape is lent, and the
+// numbers of a season.
 
 // Terms of a job without its rounds: size, weight W in sub-units, and the box in levels.
 pub struct Terms {
@@ -21,6 +22,53 @@ pub struct Rounds {
 pub enum Verdict {
     Accept,
     Refuse { number: u32, place: usize },
+}
+
+// What check, price and run give. specs/Answers.antt has document 01's number and values for each case
+// of this and of the two enums below.
+pub enum Answer {
+    Refused {
+        number: u32,
+        place: usize,
+    },
+    Checked {
+        price: u64,
+        floor: i64,
+        slack: u64,
+    },
+    Settled {
+        moved: u32,
+        price: u64,
+        floor: i64,
+        slack: u64,
+    },
+    Spent {
+        moved: u32,
+        price: u64,
+        floor: i64,
+        slack: u64,
+    },
+}
+
+// What read gives: the job's terms and whether weights and whether a flow were there (no, where there
+// are no pairs), or a refusal.
+pub enum ReadResult {
+    Job {
+        terms: Terms,
+        rounds: Rounds,
+        weighted: bool,
+        flowed: bool,
+    },
+    Refused {
+        number: u32,
+        place: usize,
+    },
+}
+
+// How many bytes were written, or a refusal.
+pub enum WriteResult {
+    Written { count: usize },
+    Refused { number: u32, place: usize },
 }
 
 // A record of the job tape: its kind with its numbers.

@@ -1,6 +1,8 @@
 // Standard input, as far as a buffer holds it.
 
-ghost use Prim.Native.Nat.{_≤_};
+ghost use mathlib.Core.Path.{_≡_};
+ghost use mathlib.Core.Bool.{true};
+ghost use Prim.Native.Nat.{_≤_, _<_};
 ghost use lib.ListN.{length};
 
 // How many bytes were read, and whether a read failed.
@@ -9,9 +11,12 @@ pub struct Input {
     pub failed: bool,
 }
 
-// Reads until the buffer is full, the input ends or a read fails.
+// Reads until the buffer is full, the input ends or a read fails, which it does only where there is
+// room. Free are the bytes that the buffer then holds, and how many come: of these the operating
+// system's call promises nothing.
 pub fn read_input(buffer: &mut [u8]) -> Input
     ensures { λ r. ⌜ r .count ≤ length (now (buffer .exit)) ⌝ }
+    ensures { λ r. ⌜ (r .failed ≡ true → r .count < length (now (buffer .exit))) ⌝ }
 {
     let mut count = 0;
     let mut failed = false;

@@ -12,9 +12,9 @@ use Rattle.model.specs.declared.Rounds.{Rounds}
 use Rattle.model.specs.Problem.{Problem}
 use Rattle.model.specs.Calls.{Outcome, refused, checked, settled, spent, Answer, pixelsOf, pairsOf}
 use Rattle.model.specs.Tape.{ReadAnswer, WriteAnswer}
-use Rattle.certificate.specs.Demand.{Certificate, RunDemand}
-use Rattle.roundtrip.specs.RoundTrip.{ReadsBack, WritesBack, weightCount, flowCount}
-use Rattle.relief_c.specs.Plain.{outcomeNumber, outcomeOf, told, Handed, HandedJob, HandedTape}
+use Rattle.model.specs.Demand.{Certificate, RunDemand}
+use Rattle.model.specs.RoundTrip.{ReadsBack, WritesBack, weightCount, flowCount}
+use Rattle.model.specs.Plain.{outcomeNumber, outcomeOf, told, Handed, HandedJob, HandedTape}
 
 -- price, check and run; the sign of a floor is read from its bits
 pub same : {number place outcome moved price : ℕ} {floor bits : ℤ} {slack : ℕ} {a b : Answer} → a ≡ b → bits ≡ floor → Handed number place outcome moved price floor slack a →

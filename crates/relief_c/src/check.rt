@@ -7,8 +7,8 @@ ghost use mathlib.Core.Path.{_≡_};
 ghost use mathlib.Core.Logic.{_↔_};
 ghost use Rattle.model.specs.Calls.{checkAnswer, checkImage};
 ghost use Rattle.model.specs.Accepted.{CheckAllowed};
-ghost use Rattle.certificate.specs.Demand.{CheckDemand};
-ghost use Rattle.relief_c.specs.Plain.{termsOf, told, Handed};
+ghost use Rattle.model.specs.Demand.{CheckDemand};
+ghost use Rattle.model.specs.Plain.{termsOf, told, Handed};
 
 #[no_mangle]
 pub extern "C" fn relief_check(

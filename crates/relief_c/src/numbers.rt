@@ -1,8 +1,8 @@
 // An answer of price, check or run as plain numbers, which the functions for other languages hand out.
 
-use calls::answer::Answer;
-ghost use Rattle.calls.specs.Answers.{answerOf};
-ghost use Rattle.relief_c.specs.Plain.{Handed};
+use model::Answer;
+ghost use Rattle.model.specs.Answers.{answerOf};
+ghost use Rattle.model.specs.Plain.{Handed};
 
 pub struct Numbers {
     pub number: u32,

@@ -7,7 +7,7 @@ ghost use mathlib.Core.Path.{_≡_};
 ghost use mathlib.Core.Logic.{_↔_};
 ghost use Rattle.model.specs.Calls.{priceAnswer};
 ghost use Rattle.model.specs.Accepted.{PriceAllowed};
-ghost use Rattle.relief_c.specs.Plain.{termsOf, Handed};
+ghost use Rattle.model.specs.Plain.{termsOf, Handed};
 
 #[no_mangle]
 pub extern "C" fn relief_price(

@@ -1,8 +1,8 @@
 // Read takes a job from a tape.
 
+use model::ReadResult;
 use model::Rounds;
 use model::Terms;
-use tape_read::read::ReadResult;
 use tape_read::read::read;
 ghost use mathlib.Core.Path.{_≡_};
 ghost use mathlib.Core.Logic.{_↔_};
@@ -10,10 +10,10 @@ ghost use Prim.Native.Nat.{_*_};
 ghost use lib.ListN.{take};
 ghost use Rattle.model.specs.Calls.{pixelsOf, pairsOf};
 ghost use Rattle.model.specs.Accepted.{ReadAllowed};
-ghost use Rattle.roundtrip.specs.RoundTrip.{WritesBack};
+ghost use Rattle.model.specs.RoundTrip.{WritesBack};
 ghost use Rattle.model.specs.Tape.{readAnswer, readSamples, readWeights, readFlow};
-ghost use Rattle.tape_read.specs.Answers.{readAnswerOf};
-ghost use Rattle.relief_c.specs.Plain.{termsOf, roundsOf, HandedJob};
+ghost use Rattle.model.specs.Answers.{readAnswerOf};
+ghost use Rattle.model.specs.Plain.{termsOf, roundsOf, HandedJob};
 
 // What read gives as plain numbers: a job's terms, or zeros beside a refusal.
 pub struct Job {

@@ -8,8 +8,8 @@ ghost use mathlib.Core.Path.{_≡_};
 ghost use mathlib.Core.Logic.{_↔_};
 ghost use Rattle.model.specs.Calls.{runAnswer, runFlow, runImage, runWork};
 ghost use Rattle.model.specs.Accepted.{RunAllowed};
-ghost use Rattle.certificate.specs.Demand.{RunDemand};
-ghost use Rattle.relief_c.specs.Plain.{termsOf, roundsOf, told, Handed};
+ghost use Rattle.model.specs.Demand.{RunDemand};
+ghost use Rattle.model.specs.Plain.{termsOf, roundsOf, told, Handed};
 
 #[no_mangle]
 pub extern "C" fn relief_run(

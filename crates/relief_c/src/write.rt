@@ -2,16 +2,16 @@
 
 use model::Rounds;
 use model::Terms;
-use tape_write::write::WriteResult;
+use model::WriteResult;
 use tape_write::write::write;
 ghost use mathlib.Core.Path.{_≡_};
 ghost use mathlib.Core.Logic.{_↔_};
 ghost use lib.ListN.{take};
 ghost use Rattle.model.specs.Tape.{writeAnswer, writeOutput};
 ghost use Rattle.model.specs.Accepted.{WriteAllowed};
-ghost use Rattle.roundtrip.specs.RoundTrip.{ReadsBack};
-ghost use Rattle.tape_write.specs.Answers.{writeAnswerOf};
-ghost use Rattle.relief_c.specs.Plain.{termsOf, roundsOf, HandedTape};
+ghost use Rattle.model.specs.RoundTrip.{ReadsBack};
+ghost use Rattle.model.specs.Answers.{writeAnswerOf};
+ghost use Rattle.model.specs.Plain.{termsOf, roundsOf, HandedTape};
 
 // What write gives as plain numbers.
 pub struct Written {

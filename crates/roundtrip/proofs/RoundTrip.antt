@@ -26,7 +26,7 @@ use Rattle.model.specs.Accepted.{JobAllowed, ReadAllowed}
 use Rattle.model.proofs.Accepted.{all-or-none, terms-pass, rounds-pass, weight-passes, flow-passes, write-accepted}
 use Rattle.model.proofs.Weights.{weight-most}
 use Rattle.model.specs.declared.Lent.{Lent}
-use Rattle.roundtrip.specs.RoundTrip.{Reads, ReadsBack, WritesBack, weightCount, flowCount}
+use Rattle.model.specs.RoundTrip.{Reads, ReadsBack, WritesBack, weightCount, flowCount}
 use Rattle.roundtrip.proofs.Offsets.{tape-length, sample-here, weight-here, flow-here, end-here, header-here}
 use Rattle.roundtrip.proofs.WriteRows.{accepted-answer, written-answer, written-output}
 use Rattle.roundtrip.proofs.Accepted.{Job, accepted-job}

@@ -3,11 +3,12 @@
 use report::whole::put_report;
 use season_read::Ended;
 use season_read::read_season;
-ghost use mathlib.Core.Bool.{true};
+ghost use mathlib.Core.Bool.{true, false};
+ghost use mathlib.Core.Path.{_≡_};
 ghost use Rattle.io.specs.Counts.{Counts};
 ghost use Rattle.model.specs.Program.{tables};
 ghost use Rattle.season_read.specs.Stream.{ReportOf};
-ghost use Rattle.season.specs.Printed.{Prints};
+ghost use Rattle.model.specs.Season.{TextOf};
 
 // How many bytes the text has, and whether a read failed.
 pub struct Printed {
@@ -37,7 +38,7 @@ fn read_input() -> Ended
 
 // The text stands at the front of the output.
 pub fn season_text(output: &mut [u8; 512]) -> Printed
-    ensures { λ r. ⌜ Prints (now (output .entry)) r (now (output .exit)) ⌝ }
+    ensures { λ r. ⌜ (r .failed ≡ false → TextOf (now (output .entry)) (r .count) (now (output .exit))) ⌝ }
     ensures { λ r. ⌜ Counts (r .count) (now (output .exit)) ⌝ }
 {
     let e = read_input();

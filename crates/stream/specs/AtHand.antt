@@ -1,21 +1,18 @@
 -- What the bytes at hand come to, whatever follows them.
 use mathlib.Core.Path.{_≡_}
-use mathlib.Core.Bool.{Bool, true, false}
-use mathlib.Core.List.{List, [], _++_}
+use mathlib.Core.Bool.{Bool, false}
+use mathlib.Core.List.{List, _++_}
 use Prim.Native.Nat.{ℕ, _+_, _≤_}
 use lib.ListN.{length, drop}
 use Rattle.model.specs.declared.Lent.{Lent}
 use Rattle.model.specs.declared.Totals.{Totals}
 use Rattle.model.specs.declared.Verdict.{Verdict}
+use Rattle.model.specs.Season.{Follows}
 use Rattle.records.specs.declared.tally.Tally.{Tally}
 use Rattle.tape_scan.specs.Scan.{Reached}
 use Rattle.totals.specs.Counted.{Bounded}
 use Rattle.stream.specs.declared.next.Next.{Next}
 use Rattle.stream.specs.Report.{Report, reportFrom}
-
--- bytes that may follow those at hand: none where the input has ended
-abbrev pub Follows : Bool → List ℕ → Type 0
-Follows ended rest = ended ≡ true → rest ≡ []
 
 -- this is the report, whatever follows
 abbrev pub Reports : List ℕ → Bool → Lent → Totals → Report → Type 0

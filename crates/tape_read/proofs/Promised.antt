@@ -10,7 +10,7 @@ use Rattle.model.specs.Calls.{pixelsOf}
 use Rattle.model.specs.Tape.{ReadAnswer, readAnswer, readSamples, readWeights, readFlow}
 use Rattle.model.proofs.Accepted.{zero-by}
 use Rattle.model.specs.Accepted.{ReadAllowed}
-use Rattle.roundtrip.specs.RoundTrip.{WritesBack, weightCount, flowCount}
+use Rattle.model.specs.RoundTrip.{WritesBack, weightCount, flowCount}
 use Rattle.roundtrip.proofs.RoundTrip.{read-number, left-writes-back}
 
 pub promised : (tape samples : List ℕ) (weights flow : List ℤ) → ((i : ℕ) → getD tape i 0 < 256) →

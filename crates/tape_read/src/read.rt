@@ -5,8 +5,7 @@ use crate::fill::fill_flow;
 use crate::fill::fill_samples;
 use crate::fill::fill_weights;
 use model::Lent;
-use model::Rounds;
-use model::Terms;
+use model::ReadResult;
 use records::tally::Tally;
 use records::tally::fresh;
 use tape_scan::scan::Scanned;
@@ -17,24 +16,9 @@ ghost use lib.ListN.{take};
 ghost use Rattle.model.specs.Tape.{lentBy, readAnswer, readSamples, readWeights, readFlow};
 ghost use Rattle.model.specs.Calls.{pixelsOf};
 ghost use Rattle.model.specs.Accepted.{ReadAllowed};
-ghost use Rattle.roundtrip.specs.RoundTrip.{WritesBack, weightCount, flowCount};
+ghost use Rattle.model.specs.RoundTrip.{WritesBack, weightCount, flowCount};
 ghost use Rattle.tape_scan.specs.Scan.{WholeRecords};
-ghost use Rattle.tape_read.specs.Answers.{readAnswerOf};
-
-// The job's terms and whether weights and whether a flow were there (no, where there are no pairs), or
-// a refusal.
-pub enum ReadResult {
-    Job {
-        terms: Terms,
-        rounds: Rounds,
-        weighted: bool,
-        flowed: bool,
-    },
-    Refused {
-        number: u32,
-        place: usize,
-    },
-}
+ghost use Rattle.model.specs.Answers.{readAnswerOf};
 
 // The numbers of a tape whose records have passed: 8 is judged, and the buffers are filled.
 pub fn take_numbers(

@@ -12,7 +12,7 @@ use Rattle.model.specs.declared.Entry.{Entry}
 use Rattle.model.specs.declared.Entry.the-variants.{End, Size, WeightBox, RoundLimits, Sample, Flow, PairWeight}
 use Rattle.model.specs.Verdict.{firstRefusal}
 use Rattle.model.specs.declared.Lent.{Lent}
-use Rattle.model.specs.Tape.{Progress, nothing, allowed, absorbed, bodyLength, decoded, entryRows, Parse, turned, whole, parseFrom, tooShort}
+use Rattle.model.specs.Tape.{Progress, nothing, allowed, absorbed, bodyLength, decoded, entryRows, Parse, turned, whole, parseFrom, ParseLaw, tooShort}
 use Rattle.model.proofs.Refusals.{accepted}
 use Rattle.records.specs.declared.tally.Tally.{Tally}
 use Rattle.records.specs.declared.record.Cursor.{Cursor}
@@ -45,6 +45,9 @@ module _ (tape : List ℕ) (lent : Lent) where
       go (Turn.more a v z) (Turn.refuse m w _) e ih = cc
       go (Turn.more a v z) (Turn.done b y) e ih = cc
       go (Turn.more a v z) (Turn.more b w y) e ih = ih (nextAt tape o) _ (a .fits) (omega arith) (omega arith)
+
+pub parse-law : ParseLaw
+parse-law tape lent = enough tape lent
 
 -- a record adds one number at most
 tallied-count : (t : Tally) (e : Entry) → numbersRead (tallied t e) ≤ numbersRead t + 1

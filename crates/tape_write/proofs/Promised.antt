@@ -10,7 +10,7 @@ use Rattle.model.specs.declared.Rounds.{Rounds}
 use Rattle.model.specs.Tape.{WriteAnswer, writeAnswer, writeOutput}
 use Rattle.model.proofs.Accepted.{zero-by}
 use Rattle.model.specs.Accepted.{WriteAllowed}
-use Rattle.roundtrip.specs.RoundTrip.{ReadsBack}
+use Rattle.model.specs.RoundTrip.{ReadsBack}
 use Rattle.roundtrip.proofs.WriteRows.{write-number}
 use Rattle.roundtrip.proofs.RoundTrip.{left-reads-back}
 

@@ -1,5 +1,2 @@
--- What the contracts of write cite beside the model's definitions.
---     Writing     the rows of write, as the code goes down them
---     Answers     document 01's values for each answer of write
+-- What the contracts of write cite beside the model's definitions: the rows of write, as the code goes down them.
 pub mod Writing
-pub mod Answers

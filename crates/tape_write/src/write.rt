@@ -3,6 +3,7 @@
 use model::Rounds;
 use model::Terms;
 use model::Verdict;
+use model::WriteResult;
 use tape_lay::lay_tape;
 use terms::first_beyond;
 use terms::first_over;
@@ -21,9 +22,9 @@ ghost use Rattle.model.specs.Calls.{pixelsOf};
 ghost use Rattle.model.specs.Tape.{writeRows, writeAnswer, writeOutput};
 ghost use lib.ListN.{length, take};
 ghost use Rattle.model.specs.Accepted.{WriteAllowed};
-ghost use Rattle.roundtrip.specs.RoundTrip.{ReadsBack};
+ghost use Rattle.model.specs.RoundTrip.{ReadsBack};
 ghost use Rattle.tape_write.specs.Writing.{tapeSize, lastRows, countRows, lowerRows};
-ghost use Rattle.tape_write.specs.Answers.{writeAnswerOf};
+ghost use Rattle.model.specs.Answers.{writeAnswerOf};
 
 // 16 the output's length, for a tape of so many bytes; 2 a pair's weight that is not allowed; 8 a
 // number beyond ± its pair's weight.
@@ -118,12 +119,6 @@ fn judge_write(
         Verdict::Refuse { number, place } => Verdict::Refuse { number, place },
         Verdict::Accept => judge_lower(t, r, samples.len(), weights, flow, room),
     }
-}
-
-// How many bytes were written, or a refusal.
-pub enum WriteResult {
-    Written { count: usize },
-    Refused { number: u32, place: usize },
 }
 
 // A job is written to the front of the output. A refused one leaves it as it was.

@@ -1,12 +1,12 @@
 // The totals of a season, job after job.
 
-use calls::answer::Answer;
+use model::Answer;
 use model::Totals;
 ghost use mathlib.Core.Path.{_≡_};
 ghost use mathlib.Core.List.{[]};
 ghost use Prim.Native.Nat.{_<_};
 ghost use Rattle.model.specs.Season.{totalsOf};
-ghost use Rattle.calls.specs.Answers.{answerOf};
+ghost use Rattle.model.specs.Answers.{answerOf};
 ghost use Rattle.totals.specs.Counted.{shareOf, peakOf, withJob, Countable};
 
 // What a job adds: 1 for the way it ended, and its slack.

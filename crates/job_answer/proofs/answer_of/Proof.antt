@@ -8,7 +8,7 @@ use Rattle.model.specs.declared.Terms.{Terms}
 use Rattle.model.specs.Calls.{Answer, pixelsOf}
 use Rattle.model.specs.Program.{jobAnswer}
 use Rattle.calls.specs.Slack.{mostSlack}
-use Rattle.tape_read.specs.Answers.{readAnswerOf}
+use Rattle.model.specs.Answers.{readAnswerOf}
 use Rattle.job.proofs.Tapes.{Taken, taken, turned-back, allowed, tables}
 use Rattle.job_answer.proofs.Answers.{read-answer}
 use Rattle.job_answer.proofs.Slacks.{slack-most}

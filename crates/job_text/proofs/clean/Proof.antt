@@ -7,9 +7,9 @@ use lib.IntN.{ℤ}
 use lib.ListN.{length, getD, take}
 use lib.Seq.{length-take-le}
 use Rattle.model.specs.Program.{answerText}
-use Rattle.calls.specs.Answers.{answerOf}
+use Rattle.model.specs.Answers.{answerOf}
 use Rattle.output.proofs.Laid.{put-as}
-use Rattle.tape_read.specs.Answers.{readAnswerOf}
+use Rattle.model.specs.Answers.{readAnswerOf}
 use Rattle.job.specs.Tables.{flowIn, imageIn, workIn}
 use Rattle.job.proofs.Tapes.{Taken, taken, allowed, tables}
 use Rattle.job_text.proofs.Texts.{refused-text, refused-keeps, refused-flow, enough, read-text, left-in}

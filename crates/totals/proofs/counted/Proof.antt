@@ -4,7 +4,7 @@ use mathlib.Core.Path.{_≡_, ap, ap₂, _∙_}
 use Prim.Native.Nat.{ℕ, _+_, _*_, _^_, _≤_, _<_}
 use native.Mathlib.Nat.{mul-le-mul}
 use Rattle.model.specs.declared.Totals.{Totals}
-use Rattle.calls.specs.Answers.{answerOf}
+use Rattle.model.specs.Answers.{answerOf}
 use Rattle.calls.proofs.Sizes.{most-slack-fits}
 use Rattle.totals.specs.declared.Share.{Share}
 use Rattle.totals.specs.declared.Peak.{Peak}

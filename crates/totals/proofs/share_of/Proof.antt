@@ -1,7 +1,7 @@
 -- `totals::share_of` meets its contract. Assumes nothing.
 use mathlib.Core.Path.{sym, ap}
-use Rattle.calls.specs.declared.answer.Answer.{Answer}
-use Rattle.calls.specs.Answers.{answerOf}
+use Rattle.model.specs.declared.Answer.{Answer}
+use Rattle.model.specs.Answers.{answerOf}
 use Rattle.totals.specs.declared.Share.{Share}
 use Rattle.totals.specs.Counted.{shareOf}
 use borrow.Author.Needs.{needs}

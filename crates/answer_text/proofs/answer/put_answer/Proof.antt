@@ -5,8 +5,8 @@ use mir.Syntax.{w64}
 use Rattle.integers.proofs.Machine.{read}
 use Rattle.model.specs.Text.{ascii}
 use Rattle.model.specs.Program.{answerText}
-use Rattle.calls.specs.declared.answer.Answer.{Answer}
-use Rattle.calls.specs.Answers.{answerOf}
+use Rattle.model.specs.declared.Answer.{Answer}
+use Rattle.model.specs.Answers.{answerOf}
 use Rattle.output.proofs.Laid.{put-as}
 use Rattle.answer_text.proofs.Answers.{accepted-text, was-checked, has-settled, was-spent}
 use borrow.Author.Needs.{needs}

@@ -20,7 +20,7 @@ use Rattle.model.specs.Calls.{Outcome, figures, settled, spent, imageOf, figure
 use Rattle.model.specs.Accepted.{RunAllowed}
 use Rattle.model.proofs.Answers.{run-answer, run-flow, run-image, run-work}
 use Rattle.model.proofs.Accepted.{told, run-accepted, run-number}
-use Rattle.certificate.specs.Demand.{RunDemand}
+use Rattle.model.specs.Demand.{RunDemand}
 use Rattle.certificate.proofs.Grid.{run-demand, ending-flow}
 use Rattle.runs.specs.Ends.{BoxEnds}
 use Rattle.runs.specs.Limits.{Within}

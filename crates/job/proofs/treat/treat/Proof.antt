@@ -10,7 +10,7 @@ use lib.Seq.{length-take-le}
 use Rattle.model.specs.declared.Terms.{Terms}
 use Rattle.model.specs.declared.Rounds.{Rounds}
 use Rattle.model.specs.Calls.{Answer, pixelsOf, pairsOf, checkAnswer, checkImage, runAnswer, runFlow, runImage, runWork}
-use Rattle.roundtrip.specs.RoundTrip.{allOf}
+use Rattle.model.specs.RoundTrip.{allOf}
 use Rattle.job.specs.Tables.{answerIn, flowIn, imageIn, workIn}
 use borrow.Author.Needs.{needs}
 use Rattle.job.proofs.treat.treat.Statement.{statement}

@@ -3,7 +3,7 @@ use mathlib.Core.Path.{_≡_, refl, sym, ap}
 use mathlib.Core.Bool.{Bool, true, false, cond}
 use borrow.Author.Needs.{needs}
 use mir.Val.{boolByte}
-use Rattle.tape_read.specs.Answers.{readAnswerOf}
+use Rattle.model.specs.Answers.{readAnswerOf}
 use Rattle.relief_c.proofs.Says.{same-job}
 use Rattle.relief_c.proofs.read.job_of.Statement.{statement}
 use Rattle.relief_c.proofs.read.job_of.Tie as tie

@@ -1,2 +1,0 @@
--- What the contracts for other languages cite beside the model's definitions.
-pub mod Plain

@@ -1,2 +1,0 @@
--- What the round trip says.
-pub mod RoundTrip

@@ -1,2 +1,0 @@
--- What the contracts cite: what the program prints.
-pub mod Printed
