@@ -1,16 +1,17 @@
 -- How much a change of the flow raises the floor: by what its falls gain, less the squared pulls of the change; and those
--- pulls are bounded by the largest degree. Assumes nothing.
+-- pulls are bounded by how many of the pairs that change meet at a pixel. Assumes nothing.
 use mathlib.Core.Path.{_≡_, refl, sym, ap, ap₂, _∙_, subst, subst₂}
-use mathlib.Core.Bool.{Bool, true, false, cond}
-use Prim.Native.Nat.{ℕ, zero, suc, _+_, _*_, _<_, _≤_}
+use mathlib.Core.Bool.{Bool, true, false, cond, _&&_}
+use Prim.Native.Nat.{ℕ, zero, suc, _+_, _<_}
+use native.Mathlib.Omega.{arith}
 use lib.Dec.{eqb}
-use lib.IntN.{ℤ, pos, _+ℤ_, _-ℤ_, _*ℤ_, *ℤ-comm}
+use lib.IntN.{ℤ, pos, negsuc, _+ℤ_, _-ℤ_, _*ℤ_, *ℤ-comm}
 use lib.Signed.{_≤ℤ_}
 use Rattle.integers.specs.Whole.{square}
 use Rattle.integers.specs.Sum.{total}
 use Rattle.integers.proofs.Parts.{parts, whole, by-≡, by-≤, of-≤}
 use Rattle.integers.proofs.Ring.{+ℤ-*ℤ}
-use Rattle.integers.proofs.Order.{≤ℤ-trans, *ℤ-mono, 0≤pos, ≤→pos, ≡→≤ℤ, square-nonneg, *ℤ-nonneg}
+use Rattle.integers.proofs.Order.{≤ℤ-trans, *ℤ-mono, ≤→pos, ≡→≤ℤ, square-nonneg, *ℤ-nonneg}
 use Rattle.integers.proofs.Total.{total-cong, total-+ℤ, total--ℤ, total-*ℤ, total-*ℤʳ, total-exchange, total-mono, total-nonneg, total-pick}
 use Rattle.integers.proofs.Cauchy.{cauchy-schwarz-signs}
 use Rattle.model.specs.Problem.{Problem, pairCount, firstOf, secondOf, fall, misfit, pull, image, floor, distance}
@@ -75,42 +76,60 @@ module _ (p : Problem) (sound : Sound p) (e : ℕ → ℤ) where
       combine lx lz d a b h k =
           by-≤ (search parts depth 12) (omega (whole, of-≤ h (search parts depth 12), of-≤ k (search parts depth 12)))
 
--- ---- the degree
+-- ---- the squared pulls
 
 -- 1 where a test holds, else 0
 bit : Bool → ℤ
 bit b = cond b (pos 1) (pos 0)
 
--- how pixel i lies in pair j: 1 as first, −1 as second, 0 as neither (or as both)
-incidence : Problem → ℕ → ℕ → ℤ
-incidence p i j = bit (eqb (firstOf p j) i) -ℤ bit (eqb (secondOf p j) i)
+-- whether a change is not 0
+changes : ℤ → Bool
+changes (pos zero) = false
+changes (pos (suc n)) = true
+changes (negsuc n) = true
 
-sign-cubed : (a b : Bool) → (bit a -ℤ bit b) *ℤ (bit a -ℤ bit b) *ℤ (bit a -ℤ bit b) ≡ bit a -ℤ bit b
-unfolding bit
+changes-bit : (x : ℤ) → bit (changes x) ≤ℤ square x
+unfolding bit changes
+changes-bit (pos zero) = record { le = tt }
+changes-bit (pos (suc n)) = ≤→pos (omega arith)
+changes-bit (negsuc n) = ≤→pos (omega arith)
+
+changes-choice : (x : ℤ) (a : Bool) → cond a x (pos 0) ≡ cond (changes x && a) x (pos 0)
+unfolding changes
+changes-choice (pos zero) true = refl
+changes-choice (pos zero) false = refl
+changes-choice (pos (suc n)) a = refl
+changes-choice (negsuc n) a = refl
+
+-- 1 for a, −1 for b, 0 for neither or both
+sign : Bool → Bool → ℤ
+sign a b = bit a -ℤ bit b
+
+sign-cubed : (a b : Bool) → sign a b *ℤ sign a b *ℤ sign a b ≡ sign a b
+unfolding bit sign
 sign-cubed true true = refl
 sign-cubed true false = refl
 sign-cubed false true = refl
 sign-cubed false false = refl
 
-sign-squared : (a b : Bool) → ((bit a -ℤ bit b) *ℤ (bit a -ℤ bit b)) ≤ℤ (bit a +ℤ bit b)
-unfolding bit
-sign-squared true true = record { le = tt }
-sign-squared true false = record { le = tt }
-sign-squared false true = record { le = tt }
-sign-squared false false = record { le = tt }
+sign-squared : (m a b : Bool) →
+    (square (sign (m && a) (m && b)) ≤ℤ (bit a +ℤ bit b)) × (square (sign (m && a) (m && b)) ≤ℤ bit m)
+unfolding bit sign
+sign-squared true true true = (record { le = tt }, record { le = tt })
+sign-squared true true false = (record { le = tt }, record { le = tt })
+sign-squared true false true = (record { le = tt }, record { le = tt })
+sign-squared true false false = (record { le = tt }, record { le = tt })
+sign-squared false true true = (record { le = tt }, record { le = tt })
+sign-squared false true false = (record { le = tt }, record { le = tt })
+sign-squared false false true = (record { le = tt }, record { le = tt })
+sign-squared false false false = (record { le = tt }, record { le = tt })
 
-signed-choice : (a b : Bool) (x : ℤ) → cond a x (pos 0) -ℤ cond b x (pos 0) ≡ (bit a -ℤ bit b) *ℤ x
-unfolding bit
+signed-choice : (a b : Bool) (x : ℤ) → cond a x (pos 0) -ℤ cond b x (pos 0) ≡ sign a b *ℤ x
+unfolding bit sign
 signed-choice true true x = by-≡ (search parts depth 12) (omega whole)
 signed-choice true false x = by-≡ (search parts depth 12) (omega whole)
 signed-choice false true x = by-≡ (search parts depth 12) (omega whole)
 signed-choice false false x = by-≡ (search parts depth 12) (omega whole)
-
-pull-by-incidence : (p : Problem) (e : ℕ → ℤ) (i : ℕ) → pull p e i ≡ total (pairCount p) (λ j. incidence p i j *ℤ e j)
-unfolding pull incidence
-pull-by-incidence p e i =
-    sym (total--ℤ (pairCount p) (λ j. cond (eqb (firstOf p j) i) (e j) (pos 0)) (λ j. cond (eqb (secondOf p j) i) (e j) (pos 0)))
-    ∙ total-cong (pairCount p) (λ j _. signed-choice (eqb (firstOf p j) i) (eqb (secondOf p j) i) (e j))
 
 count-total : (m : ℕ) (test : ℕ → Bool) → total m (λ j. bit (test j)) ≡ pos (countWhere m test)
 unfolding total countWhere bit
@@ -124,60 +143,84 @@ count-total (suc m) test = ap (λ (s : ℤ). s +ℤ bit (test m)) (count-total m
 mono-left : (u v s : ℤ) → pos 0 ≤ℤ s → u ≤ℤ v → (u *ℤ s) ≤ℤ (v *ℤ s)
 mono-left u v s h k = subst₂ _≤ℤ_ (*ℤ-comm s u) (*ℤ-comm s v) (*ℤ-mono h k)
 
-module _ (p : Problem) (sound : Sound p) (d : ℕ) (degrees : (i : ℕ) → i < p .pixels → degree p i ≤ d) (e : ℕ → ℤ) where
+module _ (p : Problem) (e : ℕ → ℤ) where
+  -- how pixel i lies in pair j: 1 as first, −1 as second, 0 as neither (or as both) or where the pair does not change
+  incidence : ℕ → ℕ → ℤ
+  incidence i j = sign (changes (e j) && eqb (firstOf p j) i) (changes (e j) && eqb (secondOf p j) i)
+
+  pull-by-incidence : (i : ℕ) → pull p e i ≡ total (pairCount p) (λ j. incidence i j *ℤ e j)
+  unfolding pull incidence
+  pull-by-incidence i =
+      sym (total--ℤ (pairCount p) (λ j. cond (eqb (firstOf p j) i) (e j) (pos 0)) (λ j. cond (eqb (secondOf p j) i) (e j) (pos 0)))
+      ∙ total-cong (pairCount p) (λ j _.
+      ap₂ (λ (a b : ℤ). a -ℤ b) (changes-choice (e j) (eqb (firstOf p j) i)) (changes-choice (e j) (eqb (secondOf p j) i))
+      ∙ signed-choice (changes (e j) && eqb (firstOf p j) i) (changes (e j) && eqb (secondOf p j) i) (e j))
+
   -- the squared incidence
   met : ℕ → ℕ → ℤ
-  met i j = incidence p i j *ℤ incidence p i j
+  met i j = incidence i j *ℤ incidence i j
 
   met-bits : (i j : ℕ) → met i j ≤ℤ (bit (eqb (firstOf p j) i) +ℤ bit (eqb (secondOf p j) i))
   unfolding met incidence
-  met-bits i j = sign-squared (eqb (firstOf p j) i) (eqb (secondOf p j) i)
+  met-bits i j = sign-squared (changes (e j)) (eqb (firstOf p j) i) (eqb (secondOf p j) i) .0
 
-  -- a pixel meets at most d pairs ..
-  pairs-met : (i : ℕ) → i < p .pixels → total (pairCount p) (met i) ≤ℤ pos d
-  unfolding degree
-  pairs-met i l =
+  -- How many of the pairs that change meet at pixel i
+  pub meeting : ℕ → ℤ
+  meeting i = total (pairCount p) (met i)
+
+  -- they are no more than its degree ..
+  pub meeting-degree : (i : ℕ) → meeting i ≤ℤ pos (degree p i)
+  unfolding meeting degree
+  meeting-degree i =
       ≤ℤ-trans (total-mono (pairCount p) (λ j _. met-bits i j))
-      (≤ℤ-trans (≡→≤ℤ (total-+ℤ (pairCount p) (λ j. bit (eqb (firstOf p j) i)) (λ j. bit (eqb (secondOf p j) i))
+      (≡→≤ℤ (total-+ℤ (pairCount p) (λ j. bit (eqb (firstOf p j) i)) (λ j. bit (eqb (secondOf p j) i))
       ∙ ap₂ (λ (a b : ℤ). a +ℤ b) (count-total (pairCount p) (λ j. eqb (firstOf p j) i)) (count-total (pairCount p) (λ j. eqb (secondOf p j) i))))
-      (≤→pos (degrees i l)))
 
-  -- .. and a pair at most two pixels
-  pixels-met : (j : ℕ) → j < pairCount p → total (p .pixels) (λ i. met i j) ≤ℤ pos 2
-  unfolding bit
-  pixels-met j l =
-      ≤ℤ-trans (total-mono (p .pixels) (λ i _. met-bits i j))
-      (≡→≤ℤ (total-+ℤ (p .pixels) (λ i. bit (eqb (firstOf p j) i)) (λ i. bit (eqb (secondOf p j) i))
-      ∙ ap₂ (λ (a b : ℤ). a +ℤ b)
-      (total-pick (firstOf p j) (λ _. pos 1) (p .pixels) (sound .first-in j l))
-      (total-pick (secondOf p j) (λ _. pos 1) (p .pixels) (sound .second-in j l))))
+  -- .. and no more than all that change, each of which has a square of 1 or more
+  pub meeting-squares : (i : ℕ) → meeting i ≤ℤ total (pairCount p) (λ j. square (e j))
+  unfolding meeting met incidence
+  meeting-squares i =
+      total-mono (pairCount p) (λ j _.
+      ≤ℤ-trans (sign-squared (changes (e j)) (eqb (firstOf p j) i) (eqb (secondOf p j) i) .1) (changes-bit (e j)))
 
   -- the squares of the change at the pairs that pixel i meets
   around : ℕ → ℤ
   around i = total (pairCount p) (λ j. met i j *ℤ (e j *ℤ e j))
 
-  pixel-pull : (i : ℕ) → i < p .pixels → square (pull p e i) ≤ℤ (pos d *ℤ around i)
-  unfolding met around incidence
-  pixel-pull i l =
-      subst (λ (q : ℤ). square q ≤ℤ (pos d *ℤ around i)) (sym (pull-by-incidence p e i))
-      (≤ℤ-trans
-      (cauchy-schwarz-signs (incidence p i) e (pairCount p) (λ j _. sign-cubed (eqb (firstOf p j) i) (eqb (secondOf p j) i)))
-      (mono-left (total (pairCount p) (met i)) (pos d) (around i)
-      (total-nonneg (pairCount p) (λ j _. *ℤ-nonneg (square-nonneg (incidence p i j)) (square-nonneg (e j))))
-      (pairs-met i l)))
+  around-nonneg : (i : ℕ) → pos 0 ≤ℤ around i
+  unfolding around met
+  around-nonneg i = total-nonneg (pairCount p) (λ j _. *ℤ-nonneg (square-nonneg (incidence i j)) (square-nonneg (e j)))
 
-  -- The squared pulls of a change are at most 2 × the largest degree × its squares
-  pub pull-degree : total (p .pixels) (λ i. square (pull p e i)) ≤ℤ (pos (2 * d) *ℤ total (pairCount p) (λ j. square (e j)))
-  unfolding around
-  pull-degree =
-      let n : ℕ = p .pixels in
-      let m : ℕ = pairCount p in
-      ≤ℤ-trans (total-mono n pixel-pull)
-      (≤ℤ-trans (≡→≤ℤ (total-*ℤ n (pos d) around ∙ ap (λ (s : ℤ). pos d *ℤ s) (total-exchange n m (λ i j. met i j *ℤ (e j *ℤ e j)))))
-      (≤ℤ-trans (*ℤ-mono (0≤pos d) (total-mono m (λ j l.
-      ≤ℤ-trans (≡→≤ℤ (total-*ℤʳ n (λ i. met i j) (e j *ℤ e j)))
-      (mono-left (total n (λ i. met i j)) (pos 2) (e j *ℤ e j) (square-nonneg (e j)) (pixels-met j l)))))
-      (≡→≤ℤ (ap (λ (s : ℤ). pos d *ℤ s) (total-*ℤ m (pos 2) (λ j. square (e j))) ∙ doubled-degree (total m (λ j. square (e j)))))))
-    where
-      doubled-degree : (s : ℤ) → pos d *ℤ (pos 2 *ℤ s) ≡ pos (2 * d) *ℤ s
-      doubled-degree s = by-≡ (search parts depth 12) (omega whole)
+  pixel-pull : (i : ℕ) → square (pull p e i) ≤ℤ (meeting i *ℤ around i)
+  unfolding meeting met around incidence
+  pixel-pull i =
+      subst (λ (q : ℤ). square q ≤ℤ (meeting i *ℤ around i)) (sym (pull-by-incidence i))
+      (cauchy-schwarz-signs (incidence i) e (pairCount p)
+      (λ j _. sign-cubed (changes (e j) && eqb (firstOf p j) i) (changes (e j) && eqb (secondOf p j) i)))
+
+  module _ (sound : Sound p) where
+    -- a pair is met by at most two pixels
+    pixels-met : (j : ℕ) → j < pairCount p → total (p .pixels) (λ i. met i j) ≤ℤ pos 2
+    unfolding bit
+    pixels-met j l =
+        ≤ℤ-trans (total-mono (p .pixels) (λ i _. met-bits i j))
+        (≡→≤ℤ (total-+ℤ (p .pixels) (λ i. bit (eqb (firstOf p j) i)) (λ i. bit (eqb (secondOf p j) i))
+        ∙ ap₂ (λ (a b : ℤ). a +ℤ b)
+        (total-pick (firstOf p j) (λ _. pos 1) (p .pixels) (sound .first-in j l))
+        (total-pick (secondOf p j) (λ _. pos 1) (p .pixels) (sound .second-in j l))))
+
+    -- Where at most q of the pairs that change meet at a pixel, the squared pulls are at most 2 × q × the squares of the change
+    pub pull-degree : (q : ℤ) → pos 0 ≤ℤ q → ((i : ℕ) → i < p .pixels → meeting i ≤ℤ q) →
+        total (p .pixels) (λ i. square (pull p e i)) ≤ℤ (q *ℤ (pos 2 *ℤ total (pairCount p) (λ j. square (e j))))
+    unfolding around
+    pull-degree q positive few =
+        let n : ℕ = p .pixels in
+        let m : ℕ = pairCount p in
+        ≤ℤ-trans (total-mono n (λ i l. ≤ℤ-trans (pixel-pull i) (mono-left (meeting i) q (around i) (around-nonneg i) (few i l))))
+        (≤ℤ-trans (≡→≤ℤ (total-*ℤ n q around))
+        (*ℤ-mono positive
+        (≤ℤ-trans (≡→≤ℤ (total-exchange n m (λ i j. met i j *ℤ (e j *ℤ e j))))
+        (≤ℤ-trans (total-mono m (λ j l.
+        ≤ℤ-trans (≡→≤ℤ (total-*ℤʳ n (λ i. met i j) (e j *ℤ e j)))
+        (mono-left (total n (λ i. met i j)) (pos 2) (e j *ℤ e j) (square-nonneg (e j)) (pixels-met j l))))
+        (≡→≤ℤ (total-*ℤ m (pos 2) (λ j. square (e j))))))))

@@ -6,6 +6,7 @@ use Prim.Native.Nat.{ℕ, zero, suc, _+_, _*_, _≤_, _<_, zero-le}
 use lib.IntN.{ℤ, pos, natAbs, _*ℤ_}
 use lib.ListN.{length, getD-replicate}
 use lib.Signed.{_≤ℤ_, _<ℤ_}
+use Rattle.integers.proofs.Parts.{parts, whole, by-<, of-<}
 use Rattle.model.specs.Lists.{at}
 use Rattle.model.specs.Problem.{Problem, pairCount, Feasible, weightSum, slack}
 use Rattle.model.specs.declared.Terms.{Terms}
@@ -82,15 +83,15 @@ unfolding ending quickFlow
 ending-flow t r samples weights box =
     let p : Problem = grid t samples weights in
     let e =
-    steady-ends nearestEighth p (grid-sound t samples weights box) 4 2 4 nearest-eighth-rounding (λ i _. degree-at-most-4 t samples weights i) (r .allowance)
+    steady-ends nearestEighth p (grid-sound t samples weights box) 4 nearest-eighth-rounding (λ i _. degree-at-most-4 t samples weights i) (r .allowance)
     (quickRounds eighth p (r .quick) .iterate) (iterate-size eighth p (r .quick)) (quick-feasible eighth p (r .quick))
     in
     (e .size, e .feasible)
 
 -- the bounds of a run's rounds, whatever the scan and the terms
 run-bounds : (t : Terms) (r : Rounds) (samples : List ℕ) (weights : List ℤ) → t .low ≤ t .high →
-    (pos (2 * ending t r samples weights .moved) ≤ℤ slack (grid t samples weights) (at (quickFlow t r samples weights)))
-    × (slack (grid t samples weights) (at (quickFlow t r samples weights)) <ℤ pos (2 * (r .allowance + 1)) → ending t r samples weights .settled ≡ true)
+    (pos (8 * ending t r samples weights .moved) ≤ℤ slack (grid t samples weights) (at (quickFlow t r samples weights)))
+    × (slack (grid t samples weights) (at (quickFlow t r samples weights)) <ℤ pos (8 * (r .allowance + 1)) → ending t r samples weights .settled ≡ true)
     × (ending t r samples weights .settled ≡ true → slack (grid t samples weights) (at (ending t r samples weights .flow)) ≤ℤ (pos 16 *ℤ weightSum (grid t samples weights)))
 unfolding ending quickFlow weightSum
 run-bounds t r samples weights box =
@@ -100,10 +101,13 @@ run-bounds t r samples weights box =
     let size = iterate-size eighth p (r .quick) in
     let within = quick-feasible eighth p (r .quick) in
     let degrees : (i : ℕ) → i < p .pixels → degree p i ≤ 4 = λ i _. degree-at-most-4 t samples weights i in (
-      moved-bound nearestEighth p sound 4 2 4 nearest-eighth-rounding degrees (r .allowance) start size within,
-      settles nearestEighth p sound 4 2 4 nearest-eighth-rounding degrees (r .allowance) start size within,
-      settled-bound nearestEighth p sound 4 2 4 nearest-eighth-rounding degrees (r .allowance) start size within,
+      moved-bound nearestEighth p sound 4 nearest-eighth-rounding degrees (r .allowance) start size within,
+      settles nearestEighth p sound 4 nearest-eighth-rounding degrees (r .allowance) start size within,
+      settled-bound nearestEighth p sound 4 nearest-eighth-rounding degrees (r .allowance) start size within,
     )
+
+fourfold : {x : ℤ} (k : ℕ) → x <ℤ pos (2 * k) → x <ℤ pos (8 * k)
+fourfold k h = by-< (search parts depth 12) (omega (whole, of-< h (search parts depth 12)))
 
 -- the outcome tells whether the rounds settled
 told-settled : (b : Bool) → cond b settled spent ≡ settled → b ≡ true
@@ -123,6 +127,9 @@ run-demand t r samples weights former formerImage work {flow} {values} {a} e f g
     let left : flow ≡ ending t r samples weights .flow = f ∙ run-flow t r samples weights former formerImage work yes in
     let given : a ≡ runFigures t r samples weights = e ∙ run-answer t r samples weights former formerImage work yes in
     let outcome : a .outcome ≡ cond (ending t r samples weights .settled) settled spent = ap (λ (x : Answer). x .outcome) given in
+    let sooner : slack p (at (quickFlow t r samples weights)) <ℤ pos (8 * (r .allowance + 1)) → a .outcome ≡ settled =
+    λ h. outcome ∙ ap (λ (b : Bool). cond b settled spent) (run-bounds t r samples weights box .1 h)
+    in
     record {
       certificate =
           certificate p (grid-sound t samples weights box) flow values a
@@ -130,7 +137,8 @@ run-demand t r samples weights former formerImage work {flow} {values} {a} e f g
           (held t samples weights box flow _ _ (g ∙ run-image t r samples weights former formerImage work yes ∙ ap (imageOf t samples) (sym left))
           (given ∙ ap (figuresOf (cond (ending t r samples weights .settled) settled spent) (ending t r samples weights .moved) t samples weights) (sym left)));
       moved = rw (ap (λ (x : Answer). x .moved) given) (run-bounds t r samples weights box .0);
-      settles = λ h. outcome ∙ ap (λ (b : Bool). cond b settled spent) (run-bounds t r samples weights box .1 h);
+      settles = λ h. sooner (fourfold (r .allowance + 1) h);
+      settlesSooner = sooner;
       settled =
           λ h.
           subst (λ (s : ℤ). s ≤ℤ (pos 16 *ℤ weightSum p)) (sym (ap (λ (x : Answer). x .slack) given))

@@ -60,20 +60,20 @@ pub record Ended (share : ℤ → ℤ) (p : Problem) (r a : ℕ) (flow : List �
   pub used-up : s .settled ≡ false → s .moved ≡ a
   pub unrest : s .settled ≡ false → (j : ℕ) × (j < pairCount p) × (stepped share p (at (s .flow)) j ≢ at (s .flow) j)
 
-module _ (share : ℤ → ℤ) (p : Problem) (sound : Sound p) (d r c : ℕ) (law : Rounding share (2 * d) r c)
-    (degrees : (i : ℕ) → i < p .pixels → degree p i ≤ d)
+module _ (share : ℤ → ℤ) (p : Problem) (sound : Sound p) (c : ℕ) (law : Rounding share c)
+    (degrees : (i : ℕ) → i < p .pixels → degree p i ≤ c)
   where
     -- a round that moves a pair raises the floor
     pub round-raises : (flow : List ℤ) → Feasible p (at flow) → (j : ℕ) → j < pairCount p → stepped share p (at flow) j ≢ at flow j →
-        (floor p (at flow) +ℤ pos r) ≤ℤ floor p (at (step share p flow))
+        (floor p (at flow) +ℤ pos (2 * c)) ≤ℤ floor p (at (step share p flow))
     round-raises flow within j l moves =
-        subst (λ (v : ℤ). (floor p (at flow) +ℤ pos r) ≤ℤ v) (floor-cong p (λ i k. sym (step-at share p flow i k)))
-        (step-raises share p sound d r c law degrees (at flow) within j l moves)
+        subst (λ (v : ℤ). (floor p (at flow) +ℤ pos (2 * c)) ≤ℤ v) (floor-cong p (λ i k. sym (step-at share p flow i k)))
+        (step-raises share p sound c law degrees (at flow) within j l moves)
 
     -- no round made: nothing moved
     unmoved : (a : ℕ) (flow : List ℤ) (t : Bool) → length flow ≡ pairCount p → Feasible p (at flow) →
         ltb (firstMoving share p (at flow)) (pairCount p) ≡ not t → (t ≡ false → a ≡ 0) →
-        Ended share p r a flow (record { flow = flow; moved = 0; settled = t })
+        Ended share p (2 * c) a flow (record { flow = flow; moved = 0; settled = t })
     unmoved a flow t size within tested none =
         record {
           size = size;
@@ -87,12 +87,12 @@ module _ (share : ℤ → ℤ) (p : Problem) (sound : Sound p) (d r c : ℕ) (la
               (firstMoving share p (at flow), l, moving share p (at flow) l);
         }
       where
-        nothing : (v : ℤ) → (v +ℤ pos (r * 0)) ≤ℤ v
+        nothing : (v : ℤ) → (v +ℤ pos (2 * c * 0)) ≤ℤ v
         nothing v = by-≤ (search parts depth 12) (omega whole)
 
     -- one round before others
-    one-round : (a : ℕ) (flow : List ℤ) (s : Steady) → (floor p (at flow) +ℤ pos r) ≤ℤ floor p (at (step share p flow)) →
-        Ended share p r a (step share p flow) s → Ended share p r (suc a) flow (oneMore s)
+    one-round : (a : ℕ) (flow : List ℤ) (s : Steady) → (floor p (at flow) +ℤ pos (2 * c)) ≤ℤ floor p (at (step share p flow)) →
+        Ended share p (2 * c) a (step share p flow) s → Ended share p (2 * c) (suc a) flow (oneMore s)
     one-round a flow s risen e =
         record {
           size = e .size;
@@ -103,12 +103,12 @@ module _ (share : ℤ → ℤ) (p : Problem) (sound : Sound p) (d r c : ℕ) (la
           unrest = e .unrest;
         }
       where
-        longer : (u v w : ℤ) (k : ℕ) → (u +ℤ pos r) ≤ℤ v → (v +ℤ pos (r * k)) ≤ℤ w → (u +ℤ pos (r * suc k)) ≤ℤ w
+        longer : (u v w : ℤ) (k : ℕ) → (u +ℤ pos (2 * c)) ≤ℤ v → (v +ℤ pos (2 * c * k)) ≤ℤ w → (u +ℤ pos (2 * c * suc k)) ≤ℤ w
         longer u v w k h l =
             by-≤ (search parts depth 12) (omega (whole, of-≤ h (search parts depth 12), of-≤ l (search parts depth 12)))
 
     pub steady-ends : (a : ℕ) (flow : List ℤ) → length flow ≡ pairCount p → Feasible p (at flow) →
-        Ended share p r a flow (steadyRounds share p a flow)
+        Ended share p (2 * c) a flow (steadyRounds share p a flow)
     unfolding steadyRounds
     steady-ends zero flow size within =
         unmoved 0 flow (not (ltb (firstMoving share p (at flow)) (pairCount p))) size within
@@ -122,8 +122,8 @@ module _ (share : ℤ → ℤ) (p : Problem) (sound : Sound p) (d r c : ℕ) (la
         (steady-ends a (step share p flow) (step-size share p flow) (step-feasible share p flow))
       where
         go : (b : Bool) → ltb (firstMoving share p (at flow)) (pairCount p) ≡ b →
-            Ended share p r a (step share p flow) (steadyRounds share p a (step share p flow)) →
-            Ended share p r (suc a) flow
+            Ended share p (2 * c) a (step share p flow) (steadyRounds share p a (step share p flow)) →
+            Ended share p (2 * c) (suc a) flow
             (elim b as (λ _. Steady) [
               | true ↦ oneMore (steadyRounds share p a (step share p flow))
               | false ↦ record { flow = flow; moved = 0; settled = true }
@@ -137,25 +137,25 @@ module _ (share : ℤ → ℤ) (p : Problem) (sound : Sound p) (d r c : ℕ) (la
     -- ---- what that says of the starting slack
 
     module _ (a : ℕ) (flow : List ℤ) (size : length flow ≡ pairCount p) (within : Feasible p (at flow)) where
-      ends : Ended share p r a flow (steadyRounds share p a flow)
+      ends : Ended share p (2 * c) a flow (steadyRounds share p a flow)
       ends = steady-ends a flow size within
 
       -- the floor never passes the price of the image that the rounds began with
       ceiling : (g : ℕ → ℤ) → Feasible p g → floor p g ≤ℤ price p (image p (at flow))
       ceiling g held = floor-below p sound g held (image p (at flow)) (image-in-box p sound (at flow))
 
-      -- r × moved is at most the starting slack
-      pub moved-bound : pos (r * steadyRounds share p a flow .moved) ≤ℤ slack p (at flow)
+      -- 2 × c × moved is at most the starting slack
+      pub moved-bound : pos (2 * c * steadyRounds share p a flow .moved) ≤ℤ slack p (at flow)
       unfolding slack
       moved-bound =
           under (floor p (at flow)) (floor p (at (steadyRounds share p a flow .flow))) (price p (image p (at flow)))
-          (r * steadyRounds share p a flow .moved) (ends .raised) (ceiling (at (steadyRounds share p a flow .flow)) (ends .feasible))
+          (2 * c * steadyRounds share p a flow .moved) (ends .raised) (ceiling (at (steadyRounds share p a flow .flow)) (ends .feasible))
         where
           under : (u v w : ℤ) (k : ℕ) → (u +ℤ pos k) ≤ℤ v → v ≤ℤ w → pos k ≤ℤ (w -ℤ u)
           under u v w k h l = by-≤ (search parts depth 12) (omega (whole, of-≤ h (search parts depth 12)))
 
-      -- a run that is spent has r × (allowance + 1) at most the starting slack
-      pub spent-bound : steadyRounds share p a flow .settled ≡ false → pos (r * (a + 1)) ≤ℤ slack p (at flow)
+      -- a run that is spent has 2 × c × (allowance + 1) at most the starting slack
+      pub spent-bound : steadyRounds share p a flow .settled ≡ false → pos (2 * c * (a + 1)) ≤ℤ slack p (at flow)
       unfolding slack
       spent-bound e =
           let s : Steady = steadyRounds share p a flow in
@@ -165,13 +165,13 @@ module _ (share : ℤ → ℤ) (p : Problem) (sound : Sound p) (d r c : ℕ) (la
           (round-raises (s .flow) (ends .feasible) (w .0) (w .1) (w .2))
           (ceiling (at (step share p (s .flow))) (step-feasible share p (s .flow)))
         where
-          once-more : (u v x w : ℤ) (k : ℕ) → k ≡ a → (u +ℤ pos (r * k)) ≤ℤ v → (v +ℤ pos r) ≤ℤ x → x ≤ℤ w → pos (r * (a + 1)) ≤ℤ (w -ℤ u)
+          once-more : (u v x w : ℤ) (k : ℕ) → k ≡ a → (u +ℤ pos (2 * c * k)) ≤ℤ v → (v +ℤ pos (2 * c)) ≤ℤ x → x ≤ℤ w → pos (2 * c * (a + 1)) ≤ℤ (w -ℤ u)
           once-more u v x w k q h l o =
-              let n : r * k ≡ r * a = ap (λ (i : ℕ). r * i) q in
+              let n : 2 * c * k ≡ 2 * c * a = ap (λ (i : ℕ). 2 * c * i) q in
               by-≤ (search parts depth 12) (omega (whole, of-≤ h (search parts depth 12), of-≤ l (search parts depth 12)))
 
-      -- so a run settles whenever r × (allowance + 1) exceeds it
-      pub settles : slack p (at flow) <ℤ pos (r * (a + 1)) → steadyRounds share p a flow .settled ≡ true
+      -- so a run settles whenever 2 × c × (allowance + 1) exceeds it
+      pub settles : slack p (at flow) <ℤ pos (2 * c * (a + 1)) → steadyRounds share p a flow .settled ≡ true
       settles h = by (steadyRounds share p a flow .settled) refl
         where
           by : (b : Bool) → steadyRounds share p a flow .settled ≡ b → b ≡ true
@@ -182,4 +182,4 @@ module _ (share : ℤ → ℤ) (p : Problem) (sound : Sound p) (d r c : ℕ) (la
       pub settled-bound : steadyRounds share p a flow .settled ≡ true →
           slack p (at (steadyRounds share p a flow .flow)) ≤ℤ (pos (4 * c) *ℤ total (pairCount p) (λ j. pos (p .weight j)))
       settled-bound e =
-          settled-slack share p (2 * d) r c law (at (steadyRounds share p a flow .flow)) (ends .feasible) (ends .at-rest e)
+          settled-slack share p c law (at (steadyRounds share p a flow .flow)) (ends .feasible) (ends .at-rest e)

@@ -1,25 +1,25 @@
 -- One step: it keeps the flow within the weights and, where it moves a pair, raises the floor; and where it moves none,
 -- the slack is small. For any pair system and any rounding that obeys the rounding law. Assumes nothing.
-use mathlib.Core.Path.{_≡_, sym, ap, ap₂, _∙_, subst, subst₂}
+use mathlib.Core.Path.{_≡_, sym, subst}
 use mathlib.Core.Logic.{_≢_, ⊎-elim}
-use Prim.Native.Nat.{ℕ, _*_, _<_, _≤_}
+use Prim.Native.Nat.{ℕ, _+_, _*_, _<_, _≤_}
 use native.Mathlib.Nat.{mul-le-mul-left}
-use lib.IntN.{ℤ, pos, natAbs, negℤ, _+ℤ_, _-ℤ_, _*ℤ_, ℤ-discrete}
-use lib.Signed.{_≤ℤ_, _<ℤ_, ≤ℤ-refl}
+use lib.IntN.{ℤ, pos, natAbs, negℤ, _+ℤ_, _-ℤ_, _*ℤ_}
+use lib.Signed.{_≤ℤ_, _<ℤ_}
 use Rattle.integers.specs.Whole.{abs, square, clamp}
 use Rattle.integers.specs.Sum.{total}
 use Rattle.integers.proofs.Parts.{parts, whole, by-≡, by-≤, of-≤, of-≡, of-<}
-use Rattle.integers.proofs.Order.{≤ℤ-trans, ≤ℤ-total, ≤ℤ-antisym, +ℤ-mono, 0≤pos, ≡→≤ℤ}
+use Rattle.integers.proofs.Order.{≤ℤ-trans, ≤ℤ-total, ≤ℤ-antisym, 0≤pos, ≤→pos, ≡→≤ℤ, *ℤ-gaps, square-nonneg, square-positive}
 use Rattle.integers.proofs.Absolute.{natAbs→lower, natAbs→upper, natAbs-neg, pair-≤, pair-top, pair-bottom}
 use Rattle.integers.proofs.Clamp.{Place, below, above, inside, clamp-place, natAbs-clamp, clamp-step}
-use Rattle.integers.proofs.Total.{total--ℤ, total-*ℤ, total-mono, term-≤-total}
+use Rattle.integers.proofs.Total.{total-*ℤ, total-mono, term-≤-total}
 use Rattle.model.specs.Problem.{Problem, pairCount, fall, Feasible, pull, image, floor, slack}
 use Rattle.model.specs.Rounds.{stepped}
 use Rattle.model.proofs.Degree.{degree}
 use Rattle.certificate.proofs.Lagrangian.{Sound}
 use Rattle.certificate.proofs.Congruence.{floor-cong}
 use Rattle.certificate.proofs.Distance.{slack-by-pairs}
-use Rattle.certificate.proofs.Ascent.{ascent, pull-degree}
+use Rattle.certificate.proofs.Ascent.{ascent, meeting, meeting-degree, meeting-squares, pull-degree}
 use Rattle.certificate.proofs.Rounding.{Rounding}
 
 -- A step stays within the weights
@@ -27,12 +27,15 @@ pub stepped-feasible : (share : ℤ → ℤ) (p : Problem) (f : ℕ → ℤ) →
 unfolding stepped
 stepped-feasible share p f j l = natAbs-clamp (p .weight j) (f j +ℤ share (fall p (image p f) j))
 
-module _ (share : ℤ → ℤ) (p : Problem) (sound : Sound p) (d r c : ℕ) (law : Rounding share (2 * d) r c)
-    (degrees : (i : ℕ) → i < p .pixels → degree p i ≤ d) (f : ℕ → ℤ) (within : Feasible p f)
+module _ (share : ℤ → ℤ) (p : Problem) (sound : Sound p) (c : ℕ) (law : Rounding share c)
+    (degrees : (i : ℕ) → i < p .pixels → degree p i ≤ c) (f : ℕ → ℤ) (within : Feasible p f)
   where
-    -- what a step changes at pair j
+    -- what a step changes at pair j, and the squares of all its changes
     change : ℕ → ℤ
     change j = stepped share p f j -ℤ f j
+
+    squares : ℤ
+    squares = total (pairCount p) (λ j. square (change j))
 
     change-between : (j : ℕ) → j < pairCount p → pos 0 ≤ℤ (change j *ℤ (share (fall p (image p f) j) -ℤ change j))
     unfolding change stepped
@@ -40,62 +43,67 @@ module _ (share : ℤ → ℤ) (p : Problem) (sound : Sound p) (d r c : ℕ) (la
         clamp-step (negℤ (pos (p .weight j))) (pos (p .weight j)) (f j) (share (fall p (image p f) j))
         (natAbs→lower (f j) (within j l)) (natAbs→upper (f j) (within j l))
 
-    -- what it gains there
-    gained : ℕ → ℤ
-    gained j = pos 2 *ℤ (change j *ℤ fall p (image p f) j) -ℤ pos (2 * d) *ℤ square (change j)
+    -- what its falls gain
+    falls-gain : (pos (c + 1) *ℤ squares) ≤ℤ total (pairCount p) (λ j. change j *ℤ fall p (image p f) j)
+    unfolding squares
+    falls-gain =
+        ≤ℤ-trans (≡→≤ℤ (sym (total-*ℤ (pairCount p) (pos (c + 1)) (λ j. square (change j)))))
+        (total-mono (pairCount p) (λ j l. law .gain (fall p (image p f) j) (change j) (change-between j l)))
 
-    gained-moving : (j : ℕ) → j < pairCount p → change j ≢ pos 0 → pos r ≤ℤ gained j
-    unfolding gained
-    gained-moving j l = law .gain (fall p (image p f) j) (change j) (change-between j l)
-
-    gained-nonneg : (j : ℕ) → j < pairCount p → pos 0 ≤ℤ gained j
-    gained-nonneg j l = by (ℤ-discrete (change j) (pos 0))
-      where
-        still : (e v : ℤ) → e ≡ pos 0 → pos 2 *ℤ (e *ℤ v) -ℤ pos (2 * d) *ℤ square e ≡ pos 0
-        still e v z =
-            ap (λ (u : ℤ). pos 2 *ℤ (u *ℤ v) -ℤ pos (2 * d) *ℤ square u) z ∙ by-≡ (search parts depth 12) (omega whole)
-
-        by : Dec (change j ≡ pos 0) → pos 0 ≤ℤ gained j
-        by (yes z) = unfold gained in ≡→≤ℤ (sym (still (change j) (fall p (image p f) j) z))
-        by (no m) = ≤ℤ-trans (0≤pos r) (gained-moving j l m)
-
-    -- all gains together are no more than the rise of the floor
-    gains-rise : (floor p f +ℤ total (pairCount p) gained) ≤ℤ floor p (stepped share p f)
-    unfolding gained change
-    gains-rise =
-        let m : ℕ = pairCount p in
-        let v : ℕ → ℤ = fall p (image p f) in
-        let a : ℤ = pos 2 *ℤ total m (λ j. change j *ℤ v j) in
-        let split : total m gained ≡ a -ℤ pos (2 * d) *ℤ total m (λ j. square (change j)) =
-        total--ℤ m (λ j. pos 2 *ℤ (change j *ℤ v j)) (λ j. pos (2 * d) *ℤ square (change j))
-        ∙ ap₂ (λ (u w : ℤ). u -ℤ w) (total-*ℤ m (pos 2) (λ j. change j *ℤ v j)) (total-*ℤ m (pos (2 * d)) (λ j. square (change j)))
-        in
-        subst₂ (λ (s t : ℤ). (floor p f +ℤ s) ≤ℤ t) (sym split)
+    -- the rise of the floor, where at most q of the pairs that change meet at a pixel
+    rise : (q : ℤ) → pos 0 ≤ℤ q → ((i : ℕ) → i < p .pixels → meeting p change i ≤ℤ q) →
+        (floor p f +ℤ pos 2 *ℤ ((pos (c + 1) -ℤ q) *ℤ squares)) ≤ℤ floor p (stepped share p f)
+    unfolding squares change
+    rise q positive few =
+        subst (λ (v : ℤ). (floor p f +ℤ pos 2 *ℤ ((pos (c + 1) -ℤ q) *ℤ squares)) ≤ℤ v)
         (floor-cong p (λ j _. back (f j) (stepped share p f j)))
-        (combine (floor p f) a (total (p .pixels) (λ i. square (pull p change i))) (pos (2 * d) *ℤ total m (λ j. square (change j)))
-        (floor p (λ j. f j +ℤ change j)) (ascent p sound change f) (pull-degree p sound d degrees change))
+        (combine (floor p f) (total (pairCount p) (λ j. change j *ℤ fall p (image p f) j))
+        (total (p .pixels) (λ i. square (pull p change i))) q squares (floor p (λ j. f j +ℤ change j))
+        (ascent p sound change f) falls-gain (pull-degree p change sound q positive few))
       where
         back : (u v : ℤ) → u +ℤ (v -ℤ u) ≡ v
         back u v = by-≡ (search parts depth 12) (omega whole)
 
-        combine : (u a s t v : ℤ) → (u +ℤ (a -ℤ s)) ≤ℤ v → s ≤ℤ t → (u +ℤ (a -ℤ t)) ≤ℤ v
-        combine u a s t v h k = by-≤ (search parts depth 12) (omega (whole, of-≤ h (search parts depth 12)))
+        combine : (u a t q s v : ℤ) → (u +ℤ (pos 2 *ℤ a -ℤ t)) ≤ℤ v → (pos (c + 1) *ℤ s) ≤ℤ a → t ≤ℤ (q *ℤ (pos 2 *ℤ s)) →
+            (u +ℤ pos 2 *ℤ ((pos (c + 1) -ℤ q) *ℤ s)) ≤ℤ v
+        combine u a t q s v h k l =
+            by-≤ (search parts depth 12)
+            (omega (whole, of-≤ h (search parts depth 12), of-≤ k (search parts depth 12), of-≤ l (search parts depth 12)))
 
-    -- A step that moves at least one pair raises the floor by at least r
-    pub step-raises : (j : ℕ) → j < pairCount p → stepped share p f j ≢ f j → (floor p f +ℤ pos r) ≤ℤ floor p (stepped share p f)
-    unfolding change
+    -- A step that moves at least one pair raises the floor by at least 2 × c. Let the squares of its change sum to s: at most
+    -- min(c, s) of the pairs that it moves meet at a pixel, and 2 × (c + 1 − min(c, s)) × s is least at s = 1 and at s = c,
+    -- where it is 2 × c. (To the nearest, with twice the degree for a divisor, that is the divisor: `nearest-rounding`)
+    pub step-raises : (j : ℕ) → j < pairCount p → stepped share p f j ≢ f j → (floor p f +ℤ pos (2 * c)) ≤ℤ floor p (stepped share p f)
+    unfolding squares change
     step-raises j l moves =
-        ≤ℤ-trans
-        (+ℤ-mono (≤ℤ-refl (floor p f))
-        (≤ℤ-trans (gained-moving j l (λ z. moves (no-change (stepped share p f j) (f j) z))) (term-≤-total (pairCount p) gained-nonneg l)))
-        gains-rise
+        ⊎-elim
+        (λ (k : squares ≤ℤ pos c).
+        few (floor p f) squares (floor p (stepped share p f)) some k
+        (rise squares (≤ℤ-trans (0≤pos 1) some) (λ i _. meeting-squares p change i)))
+        (λ (k : pos c <ℤ squares).
+        many (floor p f) squares (floor p (stepped share p f)) k
+        (rise (pos c) (0≤pos c) (λ i o. ≤ℤ-trans (meeting-degree p change i) (≤→pos (degrees i o)))))
+        (≤ℤ-total squares (pos c))
       where
         no-change : (u v : ℤ) → u -ℤ v ≡ pos 0 → u ≡ v
         no-change u v z = by-≡ (search parts depth 12) (omega (whole, of-≡ z (search parts depth 12)))
 
+        some : pos 1 ≤ℤ squares
+        some =
+            ≤ℤ-trans (square-positive (λ z. moves (no-change (stepped share p f j) (f j) z)))
+            (term-≤-total (pairCount p) (λ i _. square-nonneg (change i)) l)
+
+        few : (u s v : ℤ) → pos 1 ≤ℤ s → s ≤ℤ pos c → (u +ℤ pos 2 *ℤ ((pos (c + 1) -ℤ s) *ℤ s)) ≤ℤ v → (u +ℤ pos (2 * c)) ≤ℤ v
+        few u s v o k h =
+            by-≤ (search parts depth 12)
+            (omega (whole, of-≤ h (search parts depth 12), of-≤ (*ℤ-gaps o k) (search parts depth 12)))
+
+        many : (u s v : ℤ) → pos c <ℤ s → (u +ℤ pos 2 *ℤ ((pos (c + 1) -ℤ pos c) *ℤ s)) ≤ℤ v → (u +ℤ pos (2 * c)) ≤ℤ v
+        many u s v k h = by-≤ (search parts depth 12) (omega (whole, of-≤ h (search parts depth 12)))
+
 -- ---- where no pair moves
 
-module _ (share : ℤ → ℤ) (b r c : ℕ) (law : Rounding share b r c) (w : ℕ) (f v : ℤ) (held : natAbs f ≤ w) where
+module _ (share : ℤ → ℤ) (c : ℕ) (law : Rounding share c) (w : ℕ) (f v : ℤ) (held : natAbs f ≤ w) where
   -- weight × |fall| − flow × fall is at most 2 c × weight: a small fall ..
   small : natAbs v ≤ c → (pos w *ℤ abs v -ℤ f *ℤ v) ≤ℤ (pos (2 * c) *ℤ pos w)
   small h =
@@ -138,16 +146,16 @@ module _ (share : ℤ → ℤ) (b r c : ℕ) (law : Rounding share b r c) (w : �
           (≤ℤ-total (share v) (pos 0))
 
 -- The slack of a flow that no step moves is at most 4 c × the sum of the weights
-pub settled-slack : (share : ℤ → ℤ) (p : Problem) (b r c : ℕ) → Rounding share b r c → (f : ℕ → ℤ) → Feasible p f →
+pub settled-slack : (share : ℤ → ℤ) (p : Problem) (c : ℕ) → Rounding share c → (f : ℕ → ℤ) → Feasible p f →
     ((j : ℕ) → j < pairCount p → stepped share p f j ≡ f j) →
     slack p f ≤ℤ (pos (4 * c) *ℤ total (pairCount p) (λ j. pos (p .weight j)))
 unfolding stepped
-settled-slack share p b r c law f within still =
+settled-slack share p c law f within still =
     let m : ℕ = pairCount p in
     let v : ℕ → ℤ = fall p (image p f) in
     subst (λ (s : ℤ). s ≤ℤ (pos (4 * c) *ℤ total m (λ j. pos (p .weight j)))) (sym (slack-by-pairs p f))
     (twice (total m (λ j. pos (p .weight j) *ℤ abs (v j) -ℤ f j *ℤ v j)) (total m (λ j. pos (p .weight j)))
-    (≤ℤ-trans (total-mono m (λ j l. pair-settled share b r c law (p .weight j) (f j) (v j) (within j l) (still j l)))
+    (≤ℤ-trans (total-mono m (λ j l. pair-settled share c law (p .weight j) (f j) (v j) (within j l) (still j l)))
     (≡→≤ℤ (total-*ℤ m (pos (2 * c)) (λ j. pos (p .weight j))))))
   where
     twice : (s t : ℤ) → s ≤ℤ (pos (2 * c) *ℤ t) → (pos 2 *ℤ s) ≤ℤ (pos (4 * c) *ℤ t)

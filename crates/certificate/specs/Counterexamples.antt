@@ -3,9 +3,10 @@
 -- and the second fails, and that the bounds listed last are met exactly.
 --
 -- What holds, and so has no row: 17 for 16; in the distance law and of two flows, the slack taken before the clamp (a fall
--- is no larger after the clamp, so neither is the slack); and 3 to 8 for 2: a round raises the floor by at least 10 − 2 where
--- it moves one pair, 20 − 6 for two, 30 − 12 for three, and 2 for each of four or more (by hand, not proved here). So
--- 2 × moved meets the starting slack only where both are 0, and 2 × (allowance + 1) of a spent run never does.
+-- is no larger after the clamp, so neither is the slack); and 3 to 8 for the 2 of request F-1's rule, of which 8 is promised
+-- beside it. 8 × moved meets the starting slack only where both are 0 (by hand, not proved here): where every round raises
+-- the floor by 8 and no more, each moves the image by the pull of its change, so that the last image is not the first, and
+-- the distance law adds their squared distance, 2 or more.
 use mathlib.Core.Bool.{Bool}
 use mathlib.Core.List.{List, [], _∷_, _++_}
 use Prim.Native.Nat.{ℕ, _+_, _*_}
@@ -129,22 +130,22 @@ settledRows =
     ∷ beside (settledWithin (16 * (0 + 258)) joint (run joint 7 0)) (settledWithin (16 * (1 * 2)) joint (run joint 7 0))
     ∷ []
 
--- 2 × moved is at most the slack of the flow that the quick rounds leave
+-- 8 × moved is at most the slack of the flow that the quick rounds leave
 unfoldable pub movedRows : List Alteration
 movedRows =
     let p : Problem = scanTwoByOne 125 0 255 in
     let q : Problem = scanThreeByThree in
     let r : Problem = readingsFourByOne in
     -- the slack of R: P is −112 with slack 7488, R is −125 with slack 0, and one round moves
-    beside (movedWithin 2 p (start p 2) (run p 2 1)) (movedWithin 2 p (ahead p 2) (run p 2 1))
-    -- 11 for 2: one quick round leaves slack 10, and one round moves
-    ∷ beside (movedWithin 2 q (start q 1) (run q 1 1)) (movedWithin 11 q (start q 1) (run q 1 1))
-    -- 9 for 2, of the law for any readings (a search found no run of a job below 11): slack 26, and three rounds move a
-    -- pair each
-    ∷ beside (movedWithin 2 r (start r 0) (run r 0 3)) (movedWithin 9 r (start r 0) (run r 0 3))
+    beside (movedWithin 8 p (start p 2) (run p 2 1)) (movedWithin 8 p (ahead p 2) (run p 2 1))
+    -- 11 for 8: one quick round leaves slack 10, and one round moves
+    ∷ beside (movedWithin 8 q (start q 1) (run q 1 1)) (movedWithin 11 q (start q 1) (run q 1 1))
+    -- 9 for 8, of the law for any readings (a search found no run of a job below 11): slack 26, and three rounds move a
+    -- pair each. Longer rows of such readings have slack 8 × k + 2 for k rounds
+    ∷ beside (movedWithin 8 r (start r 0) (run r 0 3)) (movedWithin 9 r (start r 0) (run r 0 3))
     ∷ []
 
--- A run settles whenever 2 × (allowance + 1) exceeds that slack
+-- A run settles whenever 2 × (allowance + 1) exceeds that slack, and already when 8 × (allowance + 1) does
 unfoldable pub settlesRows : List Alteration
 settlesRows =
     let p : Problem = scanRow 1 3 (0 ∷ 0 ∷ 2 ∷ []) in
@@ -156,9 +157,9 @@ settlesRows =
     beside (settlesWhen 2 nearestEighth p 1 1) (settlesWhen 2 eighthAway p 1 1)
     -- d / 8 rounded down: one quick round leaves the flow 0 0 −1, with slack 2, and two rounds move
     ∷ beside (settlesWhen 2 nearestEighth four 1 1) (settlesWhen 2 eighthDown four 1 1)
-    -- 11 and 9 for 2: the runs above, with one round fewer; at these slacks, 10 and 26, the statement claims nothing
-    ∷ beside (settlesWhen 2 nearestEighth q 1 0) (settlesWhen 11 nearestEighth q 1 0)
-    ∷ beside (settlesWhen 2 nearestEighth r 0 2) (settlesWhen 9 nearestEighth r 0 2)
+    -- 11 and 9 for 8: the runs above, with one round fewer; at these slacks, 10 and 26, the statement claims nothing
+    ∷ beside (settlesWhen 8 nearestEighth q 1 0) (settlesWhen 11 nearestEighth q 1 0)
+    ∷ beside (settlesWhen 8 nearestEighth r 0 2) (settlesWhen 9 nearestEighth r 0 2)
     ∷ []
 
 unfoldable pub rows : List Alteration

@@ -98,6 +98,11 @@ square-zero {x = pos zero} h = refl
 square-zero {x = pos (suc n)} h = absurd (omega whole)
 square-zero {x = negsuc n} h = absurd (omega whole)
 
+pub square-positive : {x : ℤ} → x ≢ pos 0 → pos 1 ≤ℤ square x
+square-positive {x = pos zero} h = absurd (h refl)
+square-positive {x = pos (suc n)} h = ≤→pos (omega arith)
+square-positive {x = negsuc n} h = ≤→pos (omega arith)
+
 -- ---- the tests
 
 true→T : {t : Bool} → t ≡ true → T t

@@ -3,9 +3,9 @@
 -- a step gains that is no longer than such a quotient.
 use mathlib.Core.Path.{_≡_, refl, sym, ap, _∙_, subst}
 use mathlib.Core.Bool.{Bool, true, false, cond}
-use mathlib.Core.Logic.{_≢_, ⊎-elim, inl, inr}
+use mathlib.Core.Logic.{inl, inr}
 use Prim.Native.Nat.{ℕ, zero, suc, _+_, _-_, _*_, _/_, _%_, _≤_, _<_}
-use native.Mathlib.Nat.{div-mul-le-self, div-add-mod', mod-lt, div-eq-of-lt, div-eq-of-lt-le, add-div-right, mul-le-mul-right, mul-le-mul-left, mul-le-mul, le-trans, lt-div-mul-add, add-zero, eq-zero-or-pos}
+use native.Mathlib.Nat.{div-mul-le-self, div-add-mod', mod-lt, div-eq-of-lt, div-eq-of-lt-le, add-div-right, mul-le-mul-right, mul-le-mul-left, le-trans, lt-div-mul-add, add-zero}
 use native.Mathlib.Omega.{arith}
 use borrow.Author.Tests.{ltb-true, ltb-false}
 use lib.Dec.{ltb}
@@ -14,7 +14,7 @@ use lib.Signed.{_≤ℤ_, _<ℤ_, shrZ}
 use Rattle.integers.specs.Whole.{square, quotient, nearest}
 use Rattle.integers.proofs.Parts.{parts, whole, by-≡, by-≤, of-<}
 use Rattle.integers.proofs.Order.{pos→≤, ≡→≤ℤ, 0≤pos, *ℤ-nonneg, *ℤ-nonpos, pos-natAbs-nonneg, negℤ-mono, ≤ℤ-total, <ℤ→≤ℤ}
-use Rattle.integers.proofs.Absolute.{natAbs-neg, natAbs-product, natAbs-zero, square-natAbs}
+use Rattle.integers.proofs.Absolute.{natAbs-neg, natAbs-product, square-natAbs}
 use Rattle.integers.proofs.Between.{between-natAbs, between-nonneg, between-nonpos}
 
 abbrev pub rounded : ℕ → ℕ → ℤ → ℤ
@@ -114,28 +114,28 @@ module _ (h b : ℕ) where
   rounded-nonpos (pos (suc n)) k l = absurd (omega (whole, pos→≤ l))
   rounded-nonpos (negsuc n) k l = negℤ-mono (0≤pos ((suc n + h) / b))
 
--- ---- what a step gains that is no longer than the quotient, against its square times b = g + 2 × h
+-- ---- what a step gains that is no longer than the quotient by b = g + h: at least g × its square
 
-module _ (h g : ℕ) (x e : ℤ) (positive : 0 < g) (between : pos 0 ≤ℤ (e *ℤ (rounded h (g + 2 * h) x -ℤ e))) where
+self-≤-square : (n : ℕ) → n ≤ n * n
+self-≤-square zero = omega arith
+self-≤-square (suc n) = omega arith
+
+module _ (h g : ℕ) (x e : ℤ) (positive : 0 < g) (between : pos 0 ≤ℤ (e *ℤ (rounded h (g + h) x -ℤ e))) where
   goes-along : pos 0 ≤ℤ (x *ℤ e)
   goes-along =
       elim (≤ℤ-total (pos 0) x) [
-        | inl k ↦ *ℤ-nonneg k (between-nonneg e (rounded h (g + 2 * h) x) between (rounded-nonneg h (g + 2 * h) x k))
+        | inl k ↦ *ℤ-nonneg k (between-nonneg e (rounded h (g + h) x) between (rounded-nonneg h (g + h) x k))
         | inr k ↦
             *ℤ-nonpos (<ℤ→≤ℤ k)
-            (between-nonpos e (rounded h (g + 2 * h) x) between (rounded-nonpos h (g + 2 * h) x (omega arith) (<ℤ→≤ℤ k)))
+            (between-nonpos e (rounded h (g + h) x) between (rounded-nonpos h (g + h) x (omega arith) (<ℤ→≤ℤ k)))
       ]
 
-  length-≤ : natAbs e * (g + 2 * h) ≤ natAbs x + h
+  length-≤ : natAbs e * (g + h) ≤ natAbs x + h
   length-≤ =
-      le-trans (mul-le-mul-right (g + 2 * h) (between-natAbs e (rounded h (g + 2 * h) x) between))
-      (natAbs-rounded-≤ h (g + 2 * h) x)
+      le-trans (mul-le-mul-right (g + h) (between-natAbs e (rounded h (g + h) x) between)) (natAbs-rounded-≤ h (g + h) x)
 
-  one : e ≢ pos 0 → 1 ≤ natAbs e
-  one m = ⊎-elim (λ (z : natAbs e ≡ 0). absurd (m (natAbs-zero z))) (λ (l : zero < natAbs e). l) (eq-zero-or-pos (natAbs e))
-
-  pub step-gain : e ≢ pos 0 → pos g ≤ℤ (pos 2 *ℤ (e *ℤ x) -ℤ pos (g + 2 * h) *ℤ square e)
-  step-gain m =
+  pub step-gain : (pos g *ℤ square e) ≤ℤ (e *ℤ x)
+  step-gain =
       rw (*ℤ-comm e x, square-natAbs e, ← pos-natAbs-nonneg goes-along, natAbs-product x e)
       (by-≤ (search parts depth 12)
-      (omega (whole, mul-le-mul-right (natAbs e) length-≤, mul-le-mul-left g (mul-le-mul (one m) (one m)), mul-le-mul-left h (mul-le-mul-left (natAbs e) (one m)))))
+      (omega (whole, mul-le-mul-right (natAbs e) length-≤, mul-le-mul-left h (self-≤-square (natAbs e)))))

@@ -57,15 +57,18 @@ pub record Certificate (p : Problem) (flow image : List ℤ) (a : Answer) : Type
 abbrev pub CheckDemand : Terms → List ℕ → List ℤ → List ℤ → List ℤ → Answer → Type 0
 CheckDemand t samples weights flow image a = Certificate (grid t samples weights) flow image a
 
--- Demand 3 for run: the certificate of the flow and the image that it leaves; 2 × moved is at most the slack of the flow
--- that the quick rounds leave; a run settles whenever 2 × (allowance + 1) exceeds that slack; and a settled run's slack is
--- at most 16 × the sum of the weights (SPECIFICATION 8.7, 8.8), which without a weight buffer is weight × pairs (`uniform-sum`
--- of model/proofs/Weights.antt)
+-- Demand 3 for run: the certificate of the flow and the image that it leaves; 8 × moved is at most the slack of the flow
+-- that the quick rounds leave; a run settles whenever 2 × (allowance + 1) exceeds that slack, as request F-1 has it, and
+-- already when 8 × (allowance + 1) does; and a settled run's slack is at most 16 × the sum of the weights (SPECIFICATION 8.7,
+-- 8.8), which without a weight buffer is weight × pairs (`uniform-sum` of model/proofs/Weights.antt)
 pub record RunDemand (t : Terms) (r : Rounds) (samples : List ℕ) (weights flow image : List ℤ) (a : Answer) : Type 0 where
   pub certificate : Certificate (grid t samples weights) flow image a
-  pub moved : pos (2 * a .moved) ≤ℤ Model.slack (grid t samples weights) (at (quickFlow t r samples weights))
+  pub moved : pos (8 * a .moved) ≤ℤ Model.slack (grid t samples weights) (at (quickFlow t r samples weights))
   pub settles :
       Model.slack (grid t samples weights) (at (quickFlow t r samples weights)) <ℤ pos (2 * (r .allowance + 1)) →
+      a .outcome ≡ Calls.settled
+  pub settlesSooner :
+      Model.slack (grid t samples weights) (at (quickFlow t r samples weights)) <ℤ pos (8 * (r .allowance + 1)) →
       a .outcome ≡ Calls.settled
   pub settled : a .outcome ≡ Calls.settled → a .slack ≤ℤ (pos 16 *ℤ weightSum (grid t samples weights))
 
