@@ -318,8 +318,9 @@ uint32_t relief_check(
 /*
  * Run does the quick rounds from flow 0, then steady rounds until no pair would move or the
  * allowance is used up (ROUNDS, above), and fills flow and image. It settles whenever
- * 2 * (allowance + 1) is more than the slack after the quick rounds, and a settled run's slack is
- * at most 16 * the sum of the pairs' weights, which is 16 * weight * pairs without weights.
+ * 2 * (allowance + 1) is more than the slack after the quick rounds, and already when
+ * 8 * (allowance + 1) is; 8 * moved is at most that slack. A settled run's slack is at most
+ * 16 * the sum of the pairs' weights, which is 16 * weight * pairs without weights.
  *
  * quick      the number of quick rounds, at most RELIEF_MAX_QUICK
  * allowance  the most steady rounds

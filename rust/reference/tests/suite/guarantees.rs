@@ -113,8 +113,8 @@ fn runs_are_certified_and_bounded() {
         let starting_slack = problem.duality_gap(&start);
         let moved = answer.figures.moved;
         let allowance = u32::from(case.rounds.allowance);
-        assert!(2 * i128::from(moved) <= starting_slack);
-        if 2 * i128::from(allowance + 1) > starting_slack {
+        assert!(8 * i128::from(moved) <= starting_slack);
+        if 8 * i128::from(allowance + 1) > starting_slack {
             assert_eq!(answer.figures.outcome, Outcome::Settled);
             sure_to_settle += 1;
         }
