@@ -11,7 +11,7 @@ ghost use Rattle.model.specs.Demand.{CheckDemand};
 ghost use Rattle.model.specs.Plain.{termsOf, told, Handed};
 
 #[no_mangle]
-pub extern "C" fn relief_check(
+pub extern "C" fn relief_call_check(
     width: u32,
     height: u32,
     weight: u32,

@@ -10,7 +10,7 @@ ghost use Rattle.model.specs.Accepted.{PriceAllowed};
 ghost use Rattle.model.specs.Plain.{termsOf, Handed};
 
 #[no_mangle]
-pub extern "C" fn relief_price(
+pub extern "C" fn relief_call_price(
     width: u32,
     height: u32,
     weight: u32,

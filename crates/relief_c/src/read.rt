@@ -71,7 +71,7 @@ fn job_of(a: ReadResult) -> Job
 }
 
 #[no_mangle]
-pub extern "C" fn relief_read(
+pub extern "C" fn relief_call_read(
     tape: &[u8],
     samples: &mut [u8],
     weights: &mut [i32],

@@ -12,7 +12,7 @@ ghost use Rattle.model.specs.Demand.{RunDemand};
 ghost use Rattle.model.specs.Plain.{termsOf, roundsOf, told, Handed};
 
 #[no_mangle]
-pub extern "C" fn relief_run(
+pub extern "C" fn relief_call_run(
     width: u32,
     height: u32,
     weight: u32,

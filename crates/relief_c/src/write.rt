@@ -38,7 +38,7 @@ fn written_of(a: WriteResult) -> Written
 }
 
 #[no_mangle]
-pub extern "C" fn relief_write(
+pub extern "C" fn relief_call_write(
     width: u32,
     height: u32,
     weight: u32,

@@ -1,12 +1,12 @@
--- `relief_c::run::relief_run` meets its contract. Assumes nothing.
+-- `relief_c::run::relief_call_run` meets its contract. Assumes nothing.
 use borrow.Author.Needs.{needs}
 use mir.Syntax.{w64}
 use mathlib.Core.Path.{refl}
 use Rattle.integers.proofs.Machine.{read}
 use Rattle.model.proofs.Accepted.{zero-by}
 use Rattle.relief_c.proofs.Says.{same, run-by}
-use Rattle.relief_c.proofs.run.relief_run.Statement.{statement}
-use Rattle.relief_c.proofs.run.relief_run.Tie as tie
+use Rattle.relief_c.proofs.run.relief_call_run.Statement.{statement}
+use Rattle.relief_c.proofs.run.relief_call_run.Tie as tie
 
 run-requires : tie.Need-run-requires
 run-requires c κs = search needs
@@ -32,7 +32,7 @@ returns c =
     let left = k .1 .1 .1 in
     (same (k .0) bits (n .ensures), (k .1 .0, (k .1 .1 .0, (left .0, (zero-by (given .number) (left .1 .0), run-by given (left .1 .1))))))
 
-pub relief-run-spec : {M : Type 1} → statement M
-relief-run-spec =
+pub relief-call-run-spec : {M : Type 1} → statement M
+relief-call-run-spec =
     tie.close
     (tie.spec run-requires numbers-of-requires same-length same-length-2 same-length-3 returns)

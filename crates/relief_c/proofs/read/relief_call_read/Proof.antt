@@ -1,9 +1,9 @@
--- `relief_c::read::relief_read` meets its contract. Assumes nothing.
+-- `relief_c::read::relief_call_read` meets its contract. Assumes nothing.
 use borrow.Author.Needs.{needs}
 use Rattle.model.proofs.Accepted.{zero-by}
 use Rattle.relief_c.proofs.Says.{same-job, back-by}
-use Rattle.relief_c.proofs.read.relief_read.Statement.{statement}
-use Rattle.relief_c.proofs.read.relief_read.Tie as tie
+use Rattle.relief_c.proofs.read.relief_call_read.Statement.{statement}
+use Rattle.relief_c.proofs.read.relief_call_read.Tie as tie
 
 read-requires : tie.Need-read-requires
 read-requires c κs = search needs
@@ -28,7 +28,7 @@ returns c =
     let left = k .1 .1 .1 in
     (same-job n (k .0), (k .1 .0, (k .1 .1 .0, (left .0, (zero-by (n .number) (left .1 .0), back-by n (called .last .1 .0) (called .last .1 .1 .0) (called .last .1 .1 .1 .0) (left .1 .1))))))
 
-pub relief-read-spec : {M : Type 1} → statement M
-relief-read-spec =
+pub relief-call-read-spec : {M : Type 1} → statement M
+relief-call-read-spec =
     tie.close
     (tie.spec read-requires job-of-requires same-length same-length-2 same-length-3 returns)
