@@ -68,9 +68,8 @@
  * Every buffer is a pointer and then its length in values. Lengths must be exact, but for those of
  * relief_read and for relief_write's output; weights, and relief_write's flow, may have length 0.
  * - Alignment: every pointer, to a buffer or to a number, has the natural alignment of its type.
- * - Null: no pointer is ever null, also where the length is 0, as that of weights which are none.
- *   Any aligned pointer does there, such as the address of a variable of that type (so, for no
- *   weights, not NULL, 0 but &none, 0 with int32_t none = 0); malloc(0) may give null.
+ * - Null: a buffer of length 0 may be null, such as NULL, 0 for no weights, or what malloc(0) gave.
+ *   No other pointer is ever null.
  * - Overlap: what a call writes to, buffers and numbers, overlaps nothing else that it is lent.
  *   Buffers that are const may overlap each other.
  *
@@ -125,11 +124,15 @@
 extern "C" {
 #endif
 
-/* The version. Before 1.0.0 a change that callers must follow raises MINOR. */
+/*
+ * The version. Before 1.0.0 a change that callers must follow raises MINOR. What makes a call by
+ * this header links only with a library of the same MAJOR and MINOR: any other lacks the function
+ * that is named after these (THE LIBRARY ITSELF, below).
+ */
 #define RELIEF_VERSION_MAJOR 0
-#define RELIEF_VERSION_MINOR 4
+#define RELIEF_VERSION_MINOR 5
 #define RELIEF_VERSION_PATCH 0
-#define RELIEF_VERSION_STRING "0.4.0"
+#define RELIEF_VERSION_STRING "0.5.0"
 
 /* The limits: the largest number of each kind that is allowed. */
 #define RELIEF_MAX_SIDE 4096           /* width and height; the smallest is 1 */
@@ -269,6 +272,74 @@ enum relief_outcome {
 };
 
 /*
+ * THE LIBRARY ITSELF
+ *
+ * The functions that it defines. From C and C++ make the calls that follow them, relief_price to
+ * relief_write: inline functions with the same arguments, which allow null for a buffer of length 0
+ * and refer to the function that is named after the version.
+ *
+ * A language that does not compile this header calls relief_call_price to relief_call_write. It
+ * lends no null pointer, also where a length is 0 (any aligned pointer does there), and refers to
+ * the version's function itself: without that it would link with a library of any version.
+ */
+
+/* The version's function: relief_version_0_5 for 0.5, and so on. It gives PATCH. To see what a
+   library has: nm librelief_c.a | grep relief_version. */
+#define RELIEF_VERSION_JOINED(major, minor) relief_version_##major##_##minor
+#define RELIEF_VERSION_NAMED(major, minor) RELIEF_VERSION_JOINED(major, minor)
+#define RELIEF_VERSION_FUNCTION RELIEF_VERSION_NAMED(RELIEF_VERSION_MAJOR, RELIEF_VERSION_MINOR)
+uint32_t RELIEF_VERSION_FUNCTION(void);
+
+uint32_t relief_call_price(
+    uint32_t width, uint32_t height, uint32_t weight, uint8_t low, uint8_t high,
+    const uint8_t *samples, size_t samples_len,
+    const int32_t *weights, size_t weights_len,
+    const int32_t *image, size_t image_len,
+    uint64_t *place, uint32_t *outcome, uint32_t *moved,
+    uint64_t *price, int64_t *floor, uint64_t *slack);
+
+uint32_t relief_call_check(
+    uint32_t width, uint32_t height, uint32_t weight, uint8_t low, uint8_t high,
+    const uint8_t *samples, size_t samples_len,
+    const int32_t *weights, size_t weights_len,
+    const int32_t *flow, size_t flow_len,
+    int32_t *image, size_t image_len,
+    uint64_t *place, uint32_t *outcome, uint32_t *moved,
+    uint64_t *price, int64_t *floor, uint64_t *slack);
+
+uint32_t relief_call_run(
+    uint32_t width, uint32_t height, uint32_t weight, uint8_t low, uint8_t high,
+    uint32_t quick, uint16_t allowance,
+    const uint8_t *samples, size_t samples_len,
+    const int32_t *weights, size_t weights_len,
+    int32_t *flow, size_t flow_len,
+    int32_t *image, size_t image_len,
+    int32_t *work, size_t work_len,
+    uint64_t *place, uint32_t *outcome, uint32_t *moved,
+    uint64_t *price, int64_t *floor, uint64_t *slack);
+
+uint32_t relief_call_read(
+    const uint8_t *tape, size_t tape_len,
+    uint8_t *samples, size_t samples_len,
+    int32_t *weights, size_t weights_len,
+    int32_t *flow, size_t flow_len,
+    uint64_t *place, uint32_t *width, uint32_t *height, uint32_t *weight, uint8_t *low,
+    uint8_t *high, uint32_t *quick, uint16_t *allowance, uint32_t *weighted, uint32_t *flowed);
+
+uint32_t relief_call_write(
+    uint32_t width, uint32_t height, uint32_t weight, uint8_t low, uint8_t high,
+    uint32_t quick, uint16_t allowance,
+    const uint8_t *samples, size_t samples_len,
+    const int32_t *weights, size_t weights_len,
+    const int32_t *flow, size_t flow_len,
+    uint8_t *output, size_t output_len,
+    uint64_t *place, uint64_t *count);
+
+/* A buffer and its length as the library takes them: for null and 0 the address of none, which is
+   neither read nor written. */
+#define RELIEF_LENT(buffer, none) (buffer || buffer##_len != 0 ? buffer : &none), buffer##_len
+
+/*
  * Price judges a given image.
  *
  * samples  one for each pixel
@@ -281,13 +352,22 @@ enum relief_outcome {
  *
  * Refusals: 1, 2, 3; 4, 19, 6; 2 (weights); 9.
  */
-uint32_t relief_price(
+static inline uint32_t relief_price(
     uint32_t width, uint32_t height, uint32_t weight, uint8_t low, uint8_t high,
     const uint8_t *samples, size_t samples_len,
     const int32_t *weights, size_t weights_len,
     const int32_t *image, size_t image_len,
     uint64_t *place, uint32_t *outcome, uint32_t *moved,
-    uint64_t *price, int64_t *floor, uint64_t *slack);
+    uint64_t *price, int64_t *floor, uint64_t *slack)
+{
+    uint8_t no_byte = 0;
+    int32_t no_value = 0;
+    RELIEF_VERSION_FUNCTION();
+    return relief_call_price(
+        width, height, weight, low, high, RELIEF_LENT(samples, no_byte),
+        RELIEF_LENT(weights, no_value), RELIEF_LENT(image, no_value), place, outcome, moved, price,
+        floor, slack);
+}
 
 /*
  * Check judges a given flow and fills the image.
@@ -306,14 +386,23 @@ uint32_t relief_price(
  *
  * Refusals: 1, 2, 3; 4, 5, 19, 6; 2 (weights); 8.
  */
-uint32_t relief_check(
+static inline uint32_t relief_check(
     uint32_t width, uint32_t height, uint32_t weight, uint8_t low, uint8_t high,
     const uint8_t *samples, size_t samples_len,
     const int32_t *weights, size_t weights_len,
     const int32_t *flow, size_t flow_len,
     int32_t *image, size_t image_len,
     uint64_t *place, uint32_t *outcome, uint32_t *moved,
-    uint64_t *price, int64_t *floor, uint64_t *slack);
+    uint64_t *price, int64_t *floor, uint64_t *slack)
+{
+    uint8_t no_byte = 0;
+    int32_t no_value = 0;
+    RELIEF_VERSION_FUNCTION();
+    return relief_call_check(
+        width, height, weight, low, high, RELIEF_LENT(samples, no_byte),
+        RELIEF_LENT(weights, no_value), RELIEF_LENT(flow, no_value), RELIEF_LENT(image, no_value),
+        place, outcome, moved, price, floor, slack);
+}
 
 /*
  * Run does the quick rounds from flow 0, then steady rounds until no pair would move or the
@@ -336,7 +425,7 @@ uint32_t relief_check(
  *
  * Refusals: 1, 2, 3, 10; 4, 5, 19, 6, 7; 2 (weights).
  */
-uint32_t relief_run(
+static inline uint32_t relief_run(
     uint32_t width, uint32_t height, uint32_t weight, uint8_t low, uint8_t high,
     uint32_t quick, uint16_t allowance,
     const uint8_t *samples, size_t samples_len,
@@ -345,7 +434,16 @@ uint32_t relief_run(
     int32_t *image, size_t image_len,
     int32_t *work, size_t work_len,
     uint64_t *place, uint32_t *outcome, uint32_t *moved,
-    uint64_t *price, int64_t *floor, uint64_t *slack);
+    uint64_t *price, int64_t *floor, uint64_t *slack)
+{
+    uint8_t no_byte = 0;
+    int32_t no_value = 0;
+    RELIEF_VERSION_FUNCTION();
+    return relief_call_run(
+        width, height, weight, low, high, quick, allowance, RELIEF_LENT(samples, no_byte),
+        RELIEF_LENT(weights, no_value), RELIEF_LENT(flow, no_value), RELIEF_LENT(image, no_value),
+        RELIEF_LENT(work, no_value), place, outcome, moved, price, floor, slack);
+}
 
 /*
  * Read takes a tape of one job and gives the job's terms.
@@ -381,13 +479,22 @@ uint32_t relief_run(
  * record wins. With 13 the tape was cut: fetch it again. With 18 it was never finished, or was cut
  * right behind a record: send it back, unless the sender's is longer.
  */
-uint32_t relief_read(
+static inline uint32_t relief_read(
     const uint8_t *tape, size_t tape_len,
     uint8_t *samples, size_t samples_len,
     int32_t *weights, size_t weights_len,
     int32_t *flow, size_t flow_len,
     uint64_t *place, uint32_t *width, uint32_t *height, uint32_t *weight, uint8_t *low,
-    uint8_t *high, uint32_t *quick, uint16_t *allowance, uint32_t *weighted, uint32_t *flowed);
+    uint8_t *high, uint32_t *quick, uint16_t *allowance, uint32_t *weighted, uint32_t *flowed)
+{
+    uint8_t no_byte = 0;
+    int32_t no_value = 0;
+    RELIEF_VERSION_FUNCTION();
+    return relief_call_read(
+        RELIEF_LENT(tape, no_byte), RELIEF_LENT(samples, no_byte), RELIEF_LENT(weights, no_value),
+        RELIEF_LENT(flow, no_value), place, width, height, weight, low, high, quick, allowance,
+        weighted, flowed);
+}
 
 /*
  * Write makes the tape of a job.
@@ -402,14 +509,25 @@ uint32_t relief_read(
  *
  * Refusals: 1, 2, 3, 10; 4, 5, 19, 16; 2 (weights); 8.
  */
-uint32_t relief_write(
+static inline uint32_t relief_write(
     uint32_t width, uint32_t height, uint32_t weight, uint8_t low, uint8_t high,
     uint32_t quick, uint16_t allowance,
     const uint8_t *samples, size_t samples_len,
     const int32_t *weights, size_t weights_len,
     const int32_t *flow, size_t flow_len,
     uint8_t *output, size_t output_len,
-    uint64_t *place, uint64_t *count);
+    uint64_t *place, uint64_t *count)
+{
+    uint8_t no_byte = 0;
+    int32_t no_value = 0;
+    RELIEF_VERSION_FUNCTION();
+    return relief_call_write(
+        width, height, weight, low, high, quick, allowance, RELIEF_LENT(samples, no_byte),
+        RELIEF_LENT(weights, no_value), RELIEF_LENT(flow, no_value), RELIEF_LENT(output, no_byte),
+        place, count);
+}
+
+#undef RELIEF_LENT
 
 #ifdef __cplusplus
 }

@@ -14,8 +14,10 @@ size_t relief_boundary_tape_bytes(size_t samples, size_t weights, size_t flow);
 size_t relief_boundary_read_samples(size_t tape);
 size_t relief_boundary_read_flow(size_t tape);
 
+/* The header's version. The library has the same MAJOR and MINOR, or this would not link. */
 const char *relief_boundary_version(void)
 {
+    RELIEF_VERSION_FUNCTION();
     return RELIEF_VERSION_STRING;
 }
 

@@ -5,7 +5,7 @@ set -euo pipefail
 cd "$(dirname "$0")/.."
 features=$(bash tools/library.sh)
 if [[ " $features " != *" run "* ]]; then
-    echo "librelief_c.a does not define relief_run yet" >&2
+    echo "librelief_c.a does not define relief_call_run" >&2
     exit 1
 fi
 mkdir -p target/examples

@@ -1,14 +1,19 @@
 #!/usr/bin/env bash
-# Compiles tests/header.c, which uses include/relief.h alone, as C11 and as C++17 with every warning an error, and runs both.
-# The last line is `header: 0 failures`.
+# The header without the library: compiles tests/header.c, which makes no call, and tests/layer.c, which has functions in
+# place of the library's, as C11 and as C++17 with every warning an error, without and with optimization, and runs them.
+# The lines end in `0 failures`.
 set -euo pipefail
 cd "$(dirname "$0")/.."
 # beside target/, which rt ci removes
 folder=$(mktemp -d)
 trap 'rm -rf "$folder"' EXIT
-gcc -std=c11 -O2 -Wall -Wextra -pedantic -Werror -Iinclude tests/header.c -o "$folder/header"
-"$folder/header"
-if command -v g++ > /dev/null; then
-    g++ -x c++ -std=c++17 -O2 -Wall -Wextra -pedantic -Werror -Iinclude tests/header.c -o "$folder/header-cpp"
-    "$folder/header-cpp"
-fi
+for compiler in "gcc -std=c11 -x c" "g++ -std=c++17 -x c++"; do
+    read -ra compiler <<< "$compiler"
+    command -v "${compiler[0]}" > /dev/null || continue
+    for level in -O0 -O2; do
+        for program in header layer; do
+            "${compiler[@]}" "$level" -Wall -Wextra -pedantic -Werror -Iinclude "tests/$program.c" -o "$folder/$program"
+            "$folder/$program"
+        done
+    done
+done

@@ -24,9 +24,9 @@ defines() {
 }
 
 features=()
-if defines relief_price relief_check; then features+=(judge); fi
-if defines relief_run; then features+=(run); fi
-if defines relief_read relief_write; then features+=(tape); fi
+if defines relief_call_price relief_call_check; then features+=(judge); fi
+if defines relief_call_run; then features+=(run); fi
+if defines relief_call_read relief_call_write; then features+=(tape); fi
 if [ ${#features[@]} = 0 ]; then
     echo "$archive defines none of the calls" >&2
     exit 1

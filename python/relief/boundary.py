@@ -27,11 +27,11 @@ _READ = [POINTER(number) for number in
          (c_uint64, c_uint32, c_uint32, c_uint32, c_uint8, c_uint8, c_uint32, c_uint16, c_uint32, c_uint32)]
 
 _FUNCTIONS = {
-    "relief_price": (c_uint32, [*_TERMS, *3 * _BUFFER, *_FIGURES]),
-    "relief_check": (c_uint32, [*_TERMS, *4 * _BUFFER, *_FIGURES]),
-    "relief_run": (c_uint32, [*_TERMS, *_ROUNDS, *5 * _BUFFER, *_FIGURES]),
-    "relief_read": (c_uint32, [*4 * _BUFFER, *_READ]),
-    "relief_write": (c_uint32, [*_TERMS, *_ROUNDS, *4 * _BUFFER, POINTER(c_uint64), POINTER(c_uint64)]),
+    "relief_call_price": (c_uint32, [*_TERMS, *3 * _BUFFER, *_FIGURES]),
+    "relief_call_check": (c_uint32, [*_TERMS, *4 * _BUFFER, *_FIGURES]),
+    "relief_call_run": (c_uint32, [*_TERMS, *_ROUNDS, *5 * _BUFFER, *_FIGURES]),
+    "relief_call_read": (c_uint32, [*4 * _BUFFER, *_READ]),
+    "relief_call_write": (c_uint32, [*_TERMS, *_ROUNDS, *4 * _BUFFER, POINTER(c_uint64), POINTER(c_uint64)]),
     "relief_boundary_version": (c_char_p, []),
     "relief_boundary_text": (c_char_p, [c_uint32]),
     "relief_boundary_max_weight": (c_uint32, []),
@@ -108,25 +108,25 @@ def _judged(function, *arguments) -> Tuple[int, int, Figures]:
 
 def price(terms: Terms, samples: np.ndarray, weights: np.ndarray, image: np.ndarray) -> Tuple[int, int, Figures]:
     """Judges a given image."""
-    return _judged(_library.relief_price, *terms, *_lent(samples, weights, image))
+    return _judged(_library.relief_call_price, *terms, *_lent(samples, weights, image))
 
 
 def check(terms: Terms, samples: np.ndarray, weights: np.ndarray, flow: np.ndarray,
           image: np.ndarray) -> Tuple[int, int, Figures]:
     """Judges a given flow and fills the image."""
-    return _judged(_library.relief_check, *terms, *_lent(samples, weights, flow, image))
+    return _judged(_library.relief_call_check, *terms, *_lent(samples, weights, flow, image))
 
 
 def run(terms: Terms, quick: int, steady: int, samples: np.ndarray, weights: np.ndarray, flow: np.ndarray,
         image: np.ndarray, work: np.ndarray) -> Tuple[int, int, Figures]:
     """Does the rounds and fills flow and image."""
-    return _judged(_library.relief_run, *terms, quick, steady, *_lent(samples, weights, flow, image, work))
+    return _judged(_library.relief_call_run, *terms, quick, steady, *_lent(samples, weights, flow, image, work))
 
 
 def read(tape: np.ndarray, samples: np.ndarray, weights: np.ndarray, flow: np.ndarray) -> Tuple[int, int, Read]:
     """Reads a tape into the fronts of the buffers."""
     place, numbers = c_uint64(), [pointer._type_() for pointer in _READ[1:]]
-    refusal = _library.relief_read(*_lent(tape, samples, weights, flow), byref(place), *map(byref, numbers))
+    refusal = _library.relief_call_read(*_lent(tape, samples, weights, flow), byref(place), *map(byref, numbers))
     width, height, weight, low, high, quick, steady, weighted, flowed = (number.value for number in numbers)
     return refusal, place.value, Read(Terms(width, height, weight, low, high), quick, steady, bool(weighted), bool(flowed))
 
@@ -136,7 +136,7 @@ def write(terms: Terms, quick: int, steady: int, samples: np.ndarray, weights: n
     """Writes a tape into the front of the output, and gives the number of its bytes."""
     place, count = c_uint64(), c_uint64()
     buffers = _lent(samples, weights, flow, output)
-    refusal = _library.relief_write(*terms, quick, steady, *buffers, byref(place), byref(count))
+    refusal = _library.relief_call_write(*terms, quick, steady, *buffers, byref(place), byref(count))
     return refusal, place.value, count.value
 
 

@@ -1,4 +1,5 @@
-//! The boundary: the functions of `include/relief.h` over slices. All `unsafe` code is here.
+//! The boundary: the library's own functions (`include/relief.h`) over slices. All `unsafe` code is
+//! here. A slice of length 0 has a pointer that is aligned and not null, as these functions need it.
 //!
 //! Nothing checks these declarations against the library's source. So every number that a
 //! call is to set starts as the largest of its type, and a call panics where the header's
@@ -74,9 +75,22 @@ impl Answer {
     }
 }
 
+unsafe extern "C" {
+    /// The library's function that is named after its version; it gives the patch. Every call comes
+    /// to it by [`verdict`], so that none links with a library of another version.
+    #[link_name = concat!(
+        "relief_version_",
+        env!("CARGO_PKG_VERSION_MAJOR"),
+        "_",
+        env!("CARGO_PKG_VERSION_MINOR")
+    )]
+    safe fn library_patch() -> u32;
+}
+
 /// What a call returned, once it is seen that an accepted one gives place 0, and a refused
 /// one `zeros` for all other numbers.
 fn verdict(number: u32, place: u64, zeros: bool) -> Result<(), Refusal> {
+    library_patch();
     if number == 0 {
         assert_eq!(place, 0, "accepted with a place");
         return Ok(());

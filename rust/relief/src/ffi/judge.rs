@@ -4,7 +4,7 @@ use super::Answer;
 use crate::{Figures, Outcome, Refusal, Terms};
 
 unsafe extern "C" {
-    fn relief_price(
+    fn relief_call_price(
         width: u32,
         height: u32,
         weight: u32,
@@ -24,7 +24,7 @@ unsafe extern "C" {
         slack: *mut u64,
     ) -> u32;
 
-    fn relief_check(
+    fn relief_call_check(
         width: u32,
         height: u32,
         weight: u32,
@@ -68,7 +68,7 @@ pub fn price(
     let mut answer = Answer::UNSET;
     // SAFETY: each buffer comes with its own length, and the numbers are locals.
     let number = unsafe {
-        relief_price(
+        relief_call_price(
             terms.width,
             terms.height,
             terms.weight,
@@ -132,7 +132,7 @@ pub fn check(
     let mut answer = Answer::UNSET;
     // SAFETY: as in `price`; `image` overlaps nothing, since it is borrowed mutably.
     let number = unsafe {
-        relief_check(
+        relief_call_check(
             terms.width,
             terms.height,
             terms.weight,

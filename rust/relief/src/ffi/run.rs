@@ -4,7 +4,7 @@ use super::Answer;
 use crate::{Figures, Outcome, Refusal, Rounds, Terms};
 
 unsafe extern "C" {
-    fn relief_run(
+    fn relief_call_run(
         width: u32,
         height: u32,
         weight: u32,
@@ -74,7 +74,7 @@ pub fn run(
     // SAFETY: each buffer comes with its own length, those that are filled overlap nothing,
     // since they are borrowed mutably, and the numbers are locals.
     let number = unsafe {
-        relief_run(
+        relief_call_run(
             terms.width,
             terms.height,
             terms.weight,

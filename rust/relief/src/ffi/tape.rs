@@ -4,7 +4,7 @@ use super::verdict;
 use crate::{Job, Refusal, Rounds, Terms};
 
 unsafe extern "C" {
-    fn relief_read(
+    fn relief_call_read(
         tape: *const u8,
         tape_len: usize,
         samples: *mut u8,
@@ -25,7 +25,7 @@ unsafe extern "C" {
         flowed: *mut u32,
     ) -> u32;
 
-    fn relief_write(
+    fn relief_call_write(
         width: u32,
         height: u32,
         weight: u32,
@@ -114,7 +114,7 @@ pub fn read(
     // SAFETY: each buffer comes with its own length, those that are filled overlap nothing,
     // since they are borrowed mutably, and the numbers are locals.
     let number = unsafe {
-        relief_read(
+        relief_call_read(
             tape.as_ptr(),
             tape.len(),
             samples.as_mut_ptr(),
@@ -181,7 +181,7 @@ pub fn write(
     let (mut place, mut count) = (u64::MAX, u64::MAX);
     // SAFETY: as in `read`.
     let number = unsafe {
-        relief_write(
+        relief_call_write(
             terms.width,
             terms.height,
             terms.weight,
