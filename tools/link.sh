@@ -1,9 +1,9 @@
 #!/usr/bin/env bash
-# Builds the static library and links it with what has its version and with what has another. With the header as it is,
-# a program links, and null for buffers of length 0 does what tests/null.c says. Where the header or the library has
-# another MINOR, the linker fails and names the version's function: of programs that make one call each, and of the Rust
-# wrapper and the Python package. By gcc and, where they are there, g++, clang and clang++, without and with
-# optimization. The last line is `link: N programs, 0 failures`.
+# Builds the static library and links it with callers of its version and of another. With header and library as they
+# are, programs link, and tests/null.c finds that null for buffers of length 0 changes nothing. Where the header or the
+# library has another MINOR, the linker fails, and names the version's function and no other: for each of the header's
+# calls, for the Rust wrapper and for the Python package. By gcc and, where they are there, g++, clang and clang++,
+# without and with optimization. The last line is `link: N programs, 0 failures`.
 set -euo pipefail
 cd "$(dirname "$0")/.."
 features=$(bash tools/library.sh)
@@ -40,7 +40,8 @@ objcopy --redefine-sym "$version=$other" "$archive" "$folder/library/librelief_c
 # a program for each call, which refers to nothing else of the header, and one for all of them
 printf '#include "relief.h"\nint main(void) { return 0; }\n' | tee "${calls[@]/#/$folder/}" > "$folder/all"
 for call in "${calls[@]}"; do
-    printf 'void (*volatile %s)(void) = (void (*)(void))relief_%s;\n' "$call" "$call" | tee -a "$folder/$call" >> "$folder/all"
+    printf 'void (*volatile %s)(void) = (void (*)(void))relief_%s;\n' "$call" "$call" |
+        tee -a "$folder/$call" >> "$folder/all"
 done
 
 # The library has the calls and the version, and no function of another name: what was compiled with a header before
@@ -59,7 +60,8 @@ refuses() {
         fail "$what links"
         return
     fi
-    missing=$(grep -oE 'undefined (reference to|symbol:) .?relief_\w+' "$folder/said" | grep -oE '\w+$' | sort -u | paste -sd ' ' || true)
+    missing=$(grep -oE 'undefined (reference to|symbol:) .?relief_\w+' "$folder/said" | grep -oE '\w+$' | sort -u |
+        paste -sd ' ' || true)
     if [ "$missing" != "$function" ]; then
         cat "$folder/said" >&2
         fail "$what fails for ${missing:-no function}, not for $function"
@@ -72,18 +74,19 @@ matched() {
     shift
     programs=$((programs + 1))
     if ! { "$@" -Iinclude "$program" -x none "$archive" -o "$folder/program" && "$folder/program"; }; then
-        fail "$program by $*"
+        fail "${program##*/} by $*"
     fi
 }
 
-# mismatched PROGRAM COMPILER..: a program with another header, and with another library
+# mismatched PROGRAM COMPILER..: a program with another library, and with another header
 mismatched() {
     local program=$1
     shift
     "$@" -Iinclude -c "$program" -o "$folder/program.o"
-    refuses "$version" "$program by $* with another library" "$1" "$folder/program.o" "$folder/library/librelief_c.a" -o "$folder/program"
+    refuses "$version" "${program##*/} by $* with another library" \
+        "$1" "$folder/program.o" "$folder/library/librelief_c.a" -o "$folder/program"
     "$@" -I"$folder/header" -c "$program" -o "$folder/program.o"
-    refuses "$other" "$program by $* with another header" "$1" "$folder/program.o" "$archive" -o "$folder/program"
+    refuses "$other" "${program##*/} by $* with another header" "$1" "$folder/program.o" "$archive" -o "$folder/program"
 }
 
 strict=(-Wall -Wextra -pedantic -Werror)
@@ -101,8 +104,8 @@ for call in "${calls[@]}"; do
 done
 
 export RELIEF_LIB_DIR=$folder/library
-wrapper=(cargo test --manifest-path rust/Cargo.toml --offline --quiet --no-run -p relief --test suite --target-dir "$folder/cargo")
-refuses "$version" "the Rust wrapper with another library" "${wrapper[@]}"
+refuses "$version" "the Rust wrapper with another library" \
+    cargo test --manifest-path rust/Cargo.toml --target-dir "$folder/cargo" --offline --quiet -p relief --no-run
 refuses "$version" "the Python package with another library" bash tools/python.sh
 
 echo "link: $programs programs, $failures failures"

@@ -1,9 +1,10 @@
 #!/usr/bin/env bash
 # All tests. First the layout, the header and the second implementation's own tests; then every proof from nothing, with
 # the must-fail edits and the programs' stored answers (`rt ci`); then what was proved there is compared with the second
-# implementation on a part of the inputs, called with guard pages behind its buffers, and called through the Rust
-# wrapper and the Python package; the picture scripts are tested, and the examples run and compared with what is stored. Any
-# step that fails ends it. The last line is the last line of `rt ci`: `N passed, 0 failed`.
+# implementation on a part of the inputs, called with guard pages behind its buffers, linked with callers of its version
+# and of another, and called through the Rust wrapper and the Python package; the picture scripts are tested, and the
+# examples run and compared with what is stored. Any step that fails ends it. The last line is the last line of `rt ci`:
+# `N passed, 0 failed`.
 set -euo pipefail
 cd "$(dirname "$0")/.."
 # what is tested is built here, not another library or program that the caller names
@@ -35,6 +36,9 @@ bash tools/static.sh quick
 
 echo "== the static library with a guard page behind every buffer"
 bash tools/guard.sh
+
+echo "== the static library linked by callers of its version and of another"
+bash tools/link.sh
 
 echo "== the Rust wrapper"
 (cd rust && cargo test --offline --quiet -p relief)

@@ -14,7 +14,8 @@
 //! A weight, 0 to [`MAX_WEIGHT`] sub-units, says how strongly its pair is smoothed: with 0, as at a
 //! joint, not at all. Weights of length 0 are none, and every pair has the weight of the [`Terms`].
 //!
-//! A call is there with its feature: `judge` (price, check), `run`, `tape` (read, write).
+//! A call is there with its feature: `judge` (price, check), `run`, `tape` (read, write). It links
+//! only with a library of this crate's major and minor version.
 //!
 //! Lengths of buffers are counted in values and must be exact, unless a call says
 //! otherwise. [`Terms::pixel_count`], [`Terms::pair_count`], [`tape_bytes`],
