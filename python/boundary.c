@@ -1,8 +1,8 @@
 /*
  * What include/relief.h has as macros and as texts, as functions of the shared library, so that the
- * Python package takes versions, counts and texts from the header and repeats none. For the calls it
- * uses the library's own functions, relief_call_price to relief_call_write. tools/python.sh links
- * this with librelief_c.a into python/relief/librelief.so.
+ * Python package takes versions, counts and texts from the header and repeats none. Its calls are
+ * the library's own functions, relief_call_price to relief_call_write. tools/python.sh links this
+ * with librelief_c.a into python/relief/librelief.so.
  */
 #include "relief.h"
 

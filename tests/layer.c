@@ -1,8 +1,8 @@
 /*
  * The header's calls without the library: in place of its functions stand ones that note what they
- * are handed. Every term, number and buffer is handed on as it is, but for null with length 0, which
- * becomes an aligned address; the answer is handed back; and the version's function is called. C11
- * and C++17. It prints one line.
+ * are handed. Every term, number and buffer is handed on as it is, but for null with length 0:
+ * that becomes an aligned address. The answer is handed back, and the version's function is called.
+ * It is C11 and C++17, and prints one line.
  */
 #include <stdbool.h>
 #include <stdio.h>

@@ -1,8 +1,8 @@
 /*
  * The library with null for buffers of length 0: every call, on two sizes, with every choice of its
  * buffers lent with length 0, answers and leaves the other buffers as it does where these point to
- * something. And the library's patch is the header's. C11 and C++17; tools/link.sh links and runs
- * it. It prints one line.
+ * something. And the library's patch is the header's. It is C11 and C++17, and prints one line;
+ * tools/link.sh links and runs it.
  */
 #include <inttypes.h>
 #include <stdio.h>
@@ -96,8 +96,8 @@ static void write_tape(const struct job *j, struct answer *a)
         j->flow, j->flow_len, j->tape, j->tape_len, &a->place, &a->count);
 }
 
-/* A call, with the buffers that it must be lent for 2 by 1 pixels, and those that it need not. For 1
-   by 1 it needs none of those with a value for each pair. */
+/* A call, with the buffers that it must be lent for 2 by 1 pixels, and those that it need not. For
+   1 by 1 it needs none of those with a value for each pair. */
 static const struct call {
     const char *name;
     void (*make)(const struct job *, struct answer *);
