@@ -24,7 +24,7 @@ array-share-prefix-tape : tie.Need-array-share-prefix-tape
 array-share-prefix-tape c = search needs
 
 slice-aggregate-clean : tie.Need-slice-aggregate-clean
-slice-aggregate-clean c = sym (length-take-le _ _ (c .before .before .before .read-input .ensures))
+slice-aggregate-clean c = sym (length-take-le _ _ (c .before .before .before .read-input .ensures .0))
 
 clean-requires : tie.Need-clean-requires
 clean-requires c κs = search needs
