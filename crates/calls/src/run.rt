@@ -50,16 +50,17 @@ pub fn run(
     buffers::clear(work);
     let end = steady_rounds(t, lower, upper, r.allowance, samples, weights, flow, image);
     let f = figures::of_flow(t, samples, weights, flow, image);
+    let moved = end.moved;
     if end.settled {
         Answer::Settled {
-            moved: end.moved,
+            moved,
             price: f.price,
             floor: f.floor,
             slack: f.slack,
         }
     } else {
         Answer::Spent {
-            moved: end.moved,
+            moved,
             price: f.price,
             floor: f.floor,
             slack: f.slack,
