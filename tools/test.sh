@@ -1,10 +1,10 @@
 #!/usr/bin/env bash
-# All tests. First the layout, the header and the second implementation's own tests; then every proof from nothing, with
-# the must-fail edits and the programs' stored answers (`rt ci`); then what was proved there is compared with the second
-# implementation on a part of the inputs, called with guard pages behind its buffers, linked with callers of its version
-# and of another, and called through the Rust wrapper and the Python package; the picture scripts are tested, and the
-# examples run and compared with what is stored. Any step that fails ends it. The last line is the last line of `rt ci`:
-# `N passed, 0 failed`.
+# All tests. First the layout, the table of must-fail edits, the header and the second implementation's own tests; then every
+# proof from nothing, with the must-fail edits and the programs' stored answers (`rt ci`), and whether each edit was refused
+# where it says; then what was proved there is compared with the second implementation on a part of the inputs, called with
+# guard pages behind its buffers, linked with callers of its version and of another, and called through the Rust wrapper and
+# the Python package; the picture scripts are tested, and the examples run and compared with what is stored. Any step that
+# fails ends it. The last line is the last line of `rt ci`: `N passed, 0 failed`.
 set -euo pipefail
 cd "$(dirname "$0")/.."
 # what is tested is built here, not another library or program that the caller names
@@ -18,6 +18,9 @@ bash tools/python.sh packages
 echo "== layout of the Rattle files"
 rt fmt --check
 
+echo "== the must-fail edits and their table"
+python3 tools/edits.py --check
+
 echo "== the C header"
 bash tools/header.sh
 
@@ -27,6 +30,9 @@ echo "== the second implementation (Rust, offline)"
 echo "== every proof, must-fail edit and program"
 # three at a time: rt waits for a whole batch of crates or edits before it begins another
 RT_JOBS=${RT_JOBS:-3} rt ci | tee "$proofs"
+
+echo "== where each must-fail edit was refused"
+python3 tools/edits.py --logs
 
 echo "== the static library beside the second implementation"
 # compiled once, from what was proved above; every step below takes it as it is
