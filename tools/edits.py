@@ -101,6 +101,11 @@ def kind(edit, public):
     return "public" if (edit.crate, edit.at) in public else "inner"
 
 
+def counts(found):
+    public = public_functions()
+    return collections.Counter(kind(edit, public) for edit in found)
+
+
 # -- the table
 
 def cell(edit):
@@ -113,7 +118,7 @@ def cell(edit):
 
 
 def block(found):
-    kinds = collections.Counter(kind(edit, public_functions()) for edit in found)
+    kinds = counts(found)
     lines = [
         BEGIN,
         "",
@@ -139,6 +144,7 @@ def with_block(found):
 # -- what can be said without a proof
 
 def faults(found):
+    public, listed = public_functions(), crates()
     names = {f"{edit.crate}/{edit.label}" for edit in found}
     for edit in found:
         name = f"{edit.crate}/{edit.label}"
@@ -150,8 +156,8 @@ def faults(found):
             yield f"{name}: no line '# for: ..', or another reason than {REASONS.pattern.replace('|', ', ')}"
         if ("definition" in edit.reasons or "table" in edit.reasons) == of_code(edit):
             yield f"{name}: 'definition' or 'table' is said of the edits of specs/, and of these alone"
-        if "public" in edit.reasons and (edit.crate, edit.at) not in public_functions():
-            yield f"{name}: it is not refused at a public promise"
+        if ("public" in edit.reasons) != (kind(edit, public) == "public"):
+            yield f"{name}: 'public' is said of the edits of code that are refused at a public promise, and of these alone"
         texts = {}
         for file, old, new in edit.pairs:
             path = TOP / "crates" / edit.crate / (file or "")
@@ -167,7 +173,7 @@ def faults(found):
             texts[file] = text.replace(old, new)
         if not edit.pairs:
             yield f"{name}: it edits nothing"
-    for crate, function in public_functions():
+    for crate, function in public:
         shown = sum(edit.crate == crate and edit.at == function and of_code(edit) for edit in found)
         if shown < 2:
             yield f"{crate}: {function} has {shown} edits that are refused at its own promise; two are due"
@@ -175,7 +181,7 @@ def faults(found):
         text = path.read_text(encoding="utf-8")
         for name in sorted(set(re.findall(r"`([a-z_0-9]+/[a-z_0-9]+)`", text))):
             crate, label = name.split("/")
-            if crate in crates() and name not in names and not (TOP / "crates" / crate / label).exists():
+            if crate in listed and name not in names and not (TOP / "crates" / crate / label).exists():
                 yield f"{path.relative_to(TOP)}: {name} is no edit"
     if with_block(found) is None:
         yield "docs/REVIEW.md: the markers of the table are not there"
@@ -207,7 +213,7 @@ def facts_of_promise(proof):
 
 
 # an error says what differs, or that nothing proves it; any other one (a name or a field that is not there) is the proof file's
-FACT = re.compile(r"the two types|but this has type|no proof of|`omega`|does not (hold|follow)")
+FACT = re.compile(r"the two (types|sides)|but this has type|no proof of|the goal does not follow")
 UNFIT = re.compile(r"that can be named from here|has no field|is not in scope|not admitted")
 LIMIT = re.compile(r"limit was met|broke off|ran out of|took more than (?!200000 steps)")
 
@@ -216,18 +222,19 @@ def first_error(lines):
     """The log's first error, with the lines that go on with it; none where the log has no such line."""
     for at, line in enumerate(lines):
         if re.match(r"\S+: error: ", line):
-            rest = [more for more in lines[at + 1:]]
-            end = next((i for i, more in enumerate(rest) if not more.startswith("  ")), len(rest))
-            return "\n".join([line, *rest[:end]])
+            end = next((i for i in range(at + 1, len(lines)) if not lines[i].startswith("  ")), len(lines))
+            return "\n".join(lines[at:end])
     return None
 
 
 def judge_log(edit, log):
     """What is wrong with an edit's log; nothing where its first error is where the edit says, at a fact."""
     lines = log.read_text(encoding="utf-8", errors="replace").splitlines()
-    if "logic=not-proved" not in lines and not any(line.startswith("logic=not-proved") for line in lines):
+    if not any(line.startswith("logic=not-proved") for line in lines):
         return "the prover did not refuse it"
     at = AT.fullmatch(edit.at)
+    if not at:
+        return "it does not say where"
     error = first_error(lines)
     if error is None:
         # no proof file: the function is proved by a search of the toolchain's own, which says how it ended in notes
@@ -287,9 +294,8 @@ def main(arguments):
         print(fault, file=sys.stderr)
     if wrong:
         sys.exit(1)
-    public = public_functions()
     print(done)
-    print(", ".join(f"{count} {name}" for name, count in collections.Counter(kind(edit, public) for edit in found).most_common()))
+    print(f"{len(found)} edits:", ", ".join(f"{count} {name}" for name, count in counts(found).most_common()))
 
 
 if __name__ == "__main__":
