@@ -20,6 +20,7 @@ rt fmt --check
 
 echo "== the must-fail edits and their table"
 python3 tools/edits.py --check
+python3 tests/edits.py
 
 echo "== the C header"
 bash tools/header.sh

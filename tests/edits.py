@@ -1,0 +1,124 @@
+#!/usr/bin/env python3
+"""Tests of tools/edits.py: what it says of an edit's log, and of edits and documents that do not fit. No proof is run.
+
+    python3 tests/edits.py
+"""
+
+import pathlib
+import sys
+import tempfile
+import unittest
+
+sys.dont_write_bytecode = True
+sys.path.insert(0, str(pathlib.Path(__file__).resolve().parent.parent / "tools"))
+import edits  # noqa: E402
+
+PROOF = """use a.Tie as tie
+
+asked-requires : tie.Need-asked-requires
+asked-requires c = ends c
+
+ends : (c : tie.After-asked) → Ends
+ends c = search needs
+
+last : (c : tie.After-last) → Last
+last c = search needs
+
+returns-2 : tie.Need-returns-2
+returns-2 c = last (c .before)
+"""
+FACT = "as printed, the two types differ only where one has `0` (expected) and the other has `1` (found)"
+
+
+def log(path, message, *more):
+    return "\n".join([f"/x/must-fail/calls/label/{path}:3:1: error: {message}", *more, "fn calls::run: not proved", "logic=not-proved", ""])
+
+
+class Logs(unittest.TestCase):
+    def setUp(self):
+        folder = tempfile.TemporaryDirectory()
+        self.addCleanup(folder.cleanup)
+        self.top, edits.TOP = edits.TOP, pathlib.Path(folder.name)
+        self.addCleanup(setattr, edits, "TOP", self.top)
+        self.proof = edits.TOP / "crates/calls/proofs/run/Proof.antt"
+        self.proof.parent.mkdir(parents=True)
+        self.proof.write_text(PROOF, encoding="utf-8")
+
+    def judged(self, at, text):
+        path = edits.TOP / "log"
+        path.write_text(text, encoding="utf-8")
+        return edits.judge_log(edits.Edit("calls", "label", "a wrong answer", at, ["public"], [("src/run.rt", "a", "b")]), path)
+
+    def test_a_fact_of_the_promise(self):
+        for declared in ["returns-2", "last"]:
+            self.assertIsNone(self.judged("run", log("proofs/run/Proof.antt", f"`{declared}`: {FACT}")))
+
+    def test_another_function(self):
+        self.assertIn("refused at run", self.judged("check", log("proofs/run/Proof.antt", f"`last`: {FACT}")))
+
+    def test_what_a_callee_asks(self):
+        for declared in ["asked-requires", "ends"]:
+            text = log("proofs/run/Proof.antt", f"`{declared}`: {FACT}")
+            self.assertIn("(asks)", self.judged("run", text))
+            self.assertIsNone(self.judged("run (asks)", text))
+
+    def test_a_law(self):
+        text = log("proofs/Values.antt", f"`values`: {FACT}", "  not shown (expected: computing it took more than 200000 steps)")
+        self.assertIsNone(self.judged("values in Values", text))
+        self.assertIn("values in Values", self.judged("values in Bounds", text))
+
+    def test_an_unfit_proof_file(self):
+        for message in ["`Tie` has no `Need-last` that can be named from here", "record `Start` has no field `before`"]:
+            self.assertIn("unfit", self.judged("run", log("proofs/run/Proof.antt", f"`last`: {message}")))
+
+    def test_a_limit(self):
+        tried = "`search`: no proof of `P` was found."
+        self.assertIn("limit", self.judged("run", log("proofs/run/Proof.antt", f"`last`: {tried} It stopped 6 lemmas deep")))
+        self.assertIsNone(self.judged("run", log("proofs/run/Proof.antt", f"`last`: {tried} Every way was tried: no")))
+        self.assertIn("limit", self.judged("run", log("proofs/run/Proof.antt", "`last`: a resource limit was met")))
+
+    def test_anything_else(self):
+        self.assertIn("no fact", self.judged("run", log("proofs/run/Proof.antt", "`last`: a name is missing")))
+
+    def test_no_proof_file(self):
+        lost = "fn calls::run::short: no proof: expected `short-spec` in x; `search` does not close `returns`\nlogic=not-proved\n"
+        ended = "note: Every way was tried: a deeper search would find nothing either.\n"
+        self.assertIsNone(self.judged("short (search)", ended + lost))
+        self.assertIn("(search)", self.judged("short", ended + lost))
+        self.assertIn("limit", self.judged("short (search)", lost))
+
+    def test_proved_all_the_same(self):
+        self.assertIn("did not refuse", self.judged("run", "logic=proved functions=3\n"))
+
+
+class Faults(unittest.TestCase):
+    def faults(self, **changed):
+        found = [edit._replace(**changed) if edit.label == "settled_when_spent" else edit for edit in edits.edits()]
+        return "\n".join(edits.faults(found))
+
+    def test_none(self):
+        self.assertEqual(self.faults(), "")
+
+    def test_each(self):
+        for changed, said in [
+            (dict(rules_out=""), "what it rules out"),
+            (dict(at=""), "no line '# at"),
+            (dict(at="run (asks)"), "'public' is said"),
+            (dict(reasons=[]), "no line '# for"),
+            (dict(reasons=["definition"]), "'definition' or 'table'"),
+            (dict(pairs=[]), "edits nothing"),
+            (dict(pairs=[("src/run.rt", "Answer", "b")]), "times in src/run.rt"),
+            (dict(pairs=[("proofs/Lib.antt", "a", "b")]), "below src/ or specs/"),
+            (dict(pairs=[("src/price.rt", "    ensures { λ r. ⌜ answerOf r ≡", "b")]), "edits a contract"),
+            (dict(label="renamed"), "calls/settled_when_spent is no edit"),
+            (dict(rules_out="another answer"), "stale"),
+        ]:
+            self.assertIn(said, self.faults(**changed))
+
+    def test_two_for_each_public_promise(self):
+        found = [edit for edit in edits.edits() if (edit.crate, edit.at) != ("tape_write", "write")]
+        self.assertIn("write has 0 edits", "\n".join(edits.faults(found)))
+
+
+if __name__ == "__main__":
+    unittest.main()
