@@ -31,7 +31,8 @@ FACT = "as printed, the two types differ only where one has `0` (expected) and t
 
 
 def log(path, message, *more):
-    return "\n".join([f"/x/must-fail/calls/label/{path}:3:1: error: {message}", *more, "fn calls::run: not proved", "logic=not-proved", ""])
+    first = f"/x/must-fail/calls/label/{path}:3:1: error: {message}"
+    return "\n".join([first, *more, "fn calls::run: not proved", "logic=not-proved", ""])
 
 
 class Logs(unittest.TestCase):
@@ -52,6 +53,10 @@ class Logs(unittest.TestCase):
     def test_a_fact_of_the_promise(self):
         for declared in ["returns-2", "last"]:
             self.assertIsNone(self.judged("run", log("proofs/run/Proof.antt", f"`{declared}`: {FACT}")))
+
+    def test_the_other_words_for_a_fact(self):
+        for said in ["`omega`: the goal does not follow from what it read", "what it leaves must be a path whose two ends are equal"]:
+            self.assertIsNone(self.judged("run", log("proofs/run/Proof.antt", "`last`: a first line", f"  {said}")))
 
     def test_another_function(self):
         self.assertIn("refused at run", self.judged("check", log("proofs/run/Proof.antt", f"`last`: {FACT}")))

@@ -85,7 +85,8 @@ def public_functions():
     """(crate, function) of each public promise."""
     found = [(crate, name) for crate, names in PUBLIC.items() for name in names]
     for path in sorted((TOP / "crates/relief_c/src").glob("*.rt")):
-        found += [("relief_c", name) for name in re.findall(r'pub extern "C" fn (relief_call_\w+)', path.read_text(encoding="utf-8"))]
+        text = path.read_text(encoding="utf-8")
+        found += [("relief_c", name) for name in re.findall(r'pub extern "C" fn (relief_call_\w+)', text)]
     return found
 
 
@@ -212,8 +213,9 @@ def facts_of_promise(proof):
     return rests
 
 
-# an error says what differs, or that nothing proves it; any other one (a name or a field that is not there) is the proof file's
-FACT = re.compile(r"the two (types|sides)|but this has type|no proof of|the goal does not follow")
+# what an error says where a fact does not hold: two types or sides differ, a search or omega finds no proof, or what a rewriting
+# leaves is no equation of two equal ends. Any other one (a name or a field that is not there) is the proof file's.
+FACT = re.compile(r"the two (types|sides)|but this has type|no proof of|the goal does not follow|a path whose two ends are equal")
 UNFIT = re.compile(r"that can be named from here|has no field|is not in scope|not admitted")
 LIMIT = re.compile(r"limit was met|broke off|ran out of|took more than (?!200000 steps)")
 
