@@ -16,7 +16,7 @@ function, `(asks)` says that the proof fails first at what a function called ask
 `(search)` that there is no proof file, and the toolchain's own search found no proof of what the function promises. With
 neither, what fails is what the function promises, or a fact from which its proof takes that.
 `for:` says why the edit is there: `checklist` (document 01's named wrong answers), `trap`, `form` (a place that takes a named
-form), a request `F-1` to `F-7`, `public` (one of those that show a public promise), `definition` (of a definition in specs/),
+form), a request of document 02 (`F-6`), `public` (one of those that show a public promise), `definition` (of a definition in specs/),
 `table` (shows that a table of counterexamples can fail). Of the crates in TABLES, whose edits are all of the last kind, both
 lines may be left out.
 """
@@ -31,7 +31,7 @@ REVIEW = TOP / "docs/REVIEW.md"
 BEGIN = "<!-- made by tools/edits.py from the edits' own comments: begin -->"
 END = "<!-- made by tools/edits.py: end -->"
 
-# The promises that leave the repository, each with at least two edits. The C functions are found by their attribute.
+# The public promises, each with at least two edits. The C functions are found by their names.
 PUBLIC = {
     "calls": ["check", "price", "run"],
     "tape_read": ["read"],
@@ -41,7 +41,7 @@ PUBLIC = {
 }
 # The crates all of whose edits show that a table can fail, and the equation at which each is refused.
 TABLES = {"certificate": "counterexamples in Counterexamples"}
-REASONS = re.compile(r"checklist|trap|form|F-[1-7]|public|definition|table")
+REASONS = re.compile(r"checklist|trap|form|F-\d+|public|definition|table")
 AT = re.compile(r"(?P<function>[a-z][a-z_0-9]*)(?: \((?P<how>asks|search)\))?|(?P<law>\S+) in (?P<file>[A-Z]\w*)")
 
 Edit = collections.namedtuple("Edit", "crate label rules_out at reasons pairs")
@@ -91,7 +91,7 @@ def public_functions():
 
 
 def of_code(edit):
-    return all(name.startswith("src/") for name, _, _ in edit.pairs)
+    return all((name or "").startswith("src/") for name, _, _ in edit.pairs)
 
 
 def kind(edit, public):
@@ -154,7 +154,7 @@ def faults(found):
         if not AT.fullmatch(edit.at):
             yield f"{name}: no line '# at: FUNCTION', '# at: FUNCTION (asks)', '# at: FUNCTION (search)' or '# at: LAW in FILE'"
         if not edit.reasons or not all(REASONS.fullmatch(reason) for reason in edit.reasons):
-            yield f"{name}: no line '# for: ..', or another reason than {REASONS.pattern.replace('|', ', ')}"
+            yield f"{name}: no line '# for: ..', or another reason than checklist, trap, form, F-n, public, definition, table"
         if ("definition" in edit.reasons or "table" in edit.reasons) == of_code(edit):
             yield f"{name}: 'definition' or 'table' is said of the edits of specs/, and of these alone"
         if ("public" in edit.reasons) != (kind(edit, public) == "public"):
