@@ -22,6 +22,9 @@ echo "== the must-fail edits and their table"
 python3 tools/edits.py --check
 python3 tests/edits.py
 
+echo "== the list of what a reader must believe"
+python3 tools/believed.py --check
+
 echo "== the C header"
 bash tools/header.sh
 
