@@ -1,5 +1,6 @@
-// The version, so that a caller and a library of different ones do not link: MAJOR and MINOR are in the name, which
-// include/relief.h, the Rust wrapper and the Python package ask the linker for; PATCH is what it gives.
+// The version, so that a caller and a library of different ones do not link: MAJOR and MINOR are in the
+// name, which include/relief.h, the Rust wrapper and the Python package ask the linker for; PATCH is
+// what it gives.
 
 ghost use mathlib.Core.Path.{_≡_};
 
