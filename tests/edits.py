@@ -45,10 +45,11 @@ class Logs(unittest.TestCase):
         self.proof.parent.mkdir(parents=True)
         self.proof.write_text(PROOF, encoding="utf-8")
 
-    def judged(self, at, text):
+    def judged(self, at, text, shape=""):
         path = edits.TOP / "log"
         path.write_text(text, encoding="utf-8")
-        return edits.judge_log(edits.Edit("calls", "label", "a wrong answer", at, ["public"], [("src/run.rt", "a", "b")]), path)
+        edit = edits.Edit("calls", "label", "a wrong answer", at, ["public"], shape, [("src/run.rt", "a", "b")])
+        return edits.judge_log(edit, path)
 
     def test_a_fact_of_the_promise(self):
         for declared in ["returns-2", "last"]:
@@ -82,15 +83,23 @@ class Logs(unittest.TestCase):
         self.assertIsNone(self.judged("run", log("proofs/run/Proof.antt", f"`last`: {tried} Every way was tried: no")))
         self.assertIn("limit", self.judged("run", log("proofs/run/Proof.antt", "`last`: a resource limit was met")))
 
+    def test_another_shape(self):
+        shifted = "  expected type `tie.Need-a`, but this has type `tie.Need-b`"
+        text = log("proofs/run/Proof.antt", f"`last`: {FACT}", "/x: error: `run-spec`: a", shifted)
+        self.assertIn("shape", self.judged("run", text))
+        self.assertIsNone(self.judged("run", text, "two calls exchanged"))
+        self.assertIn("shape", self.judged("run", log("proofs/run/Proof.antt", f"`last`: {FACT}"), "two calls exchanged"))
+
     def test_anything_else(self):
         self.assertIn("no fact", self.judged("run", log("proofs/run/Proof.antt", "`last`: a name is missing")))
 
     def test_no_proof_file(self):
         lost = "fn calls::run::short: no proof: expected `short-spec` in x; `search` does not close `returns`\nlogic=not-proved\n"
-        ended = "note: Every way was tried: a deeper search would find nothing either.\n"
+        ended = "note: `returns`: `search`: no proof of `P`\n  was found. Every way was tried: a deeper search would find nothing either.\n"
         self.assertIsNone(self.judged("short (search)", ended + lost))
         self.assertIn("(search)", self.judged("short", ended + lost))
         self.assertIn("limit", self.judged("short (search)", lost))
+        self.assertIn("limit", self.judged("short (search)", "note: `search`: no proof of `Q`\n  was found.\n" + ended + lost))
 
     def test_proved_all_the_same(self):
         self.assertIn("did not refuse", self.judged("run", "logic=proved functions=3\n"))
@@ -115,6 +124,8 @@ class Faults(unittest.TestCase):
             (dict(pairs=[("src/run.rt", "Answer", "b")]), "times in src/run.rt"),
             (dict(pairs=[("proofs/Lib.antt", "a", "b")]), "below src/ or specs/"),
             (dict(pairs=[("src/price.rt", "    ensures { λ r. ⌜ answerOf r ≡", "b")]), "edits a contract"),
+            (dict(pairs=[("src/price.rt", "answerOf r ≡ priceAnswer t", "b")]), "edits a contract"),
+            (dict(pairs=[("src/price.rt", "ghost use Rattle.model.specs.Accepted", "b")]), "edits a contract"),
             (dict(label="renamed"), "calls/settled_when_spent is no edit"),
             (dict(rules_out="another answer"), "stale"),
         ]:

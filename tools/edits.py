@@ -15,6 +15,10 @@ An edit, crates/CRATE/must-fail/LABEL.edit, begins with
 function, `(asks)` says that the proof fails first at what a function called asks, or at an index, a length or the like, and
 `(search)` that there is no proof file, and the toolchain's own search found no proof of what the function promises. With
 neither, what fails is what the function promises, or a fact from which its proof takes that.
+An edit after which another fact is due at some place of the proof says in a third line how it changes the shape of the code:
+
+    # shape: two calls exchanged
+
 `for:` says why the edit is there: `checklist` (document 01's named wrong answers), `trap`, `form` (a place that takes a named
 form), a request of document 02 (`F-6`), `public` (one of those that show a public promise), `definition` (of a definition in specs/),
 `table` (shows that a table of counterexamples can fail). Of the crates in TABLES, whose edits are all of the last kind, both
@@ -44,7 +48,7 @@ TABLES = {"certificate": "counterexamples in Counterexamples"}
 REASONS = re.compile(r"checklist|trap|form|F-\d+|public|definition|table")
 AT = re.compile(r"(?P<function>[a-z][a-z_0-9]*)(?: \((?P<how>asks|search)\))?|(?P<law>\S+) in (?P<file>[A-Z]\w*)")
 
-Edit = collections.namedtuple("Edit", "crate label rules_out at reasons pairs")
+Edit = collections.namedtuple("Edit", "crate label rules_out at reasons shape pairs")
 
 
 def crates():
@@ -56,7 +60,7 @@ def crates():
 def read_edit(path):
     words, fields, pairs, name, old = [], {}, [], None, None
     for line in path.read_text(encoding="utf-8").splitlines():
-        if line.startswith("# at: ") or line.startswith("# for: "):
+        if re.match("# (at|for|shape): ", line):
             key, value = line[2:].split(": ", 1)
             fields[key] = value.strip()
         elif line.startswith("# "):
@@ -71,7 +75,7 @@ def read_edit(path):
     if crate in TABLES:
         fields = {"at": TABLES[crate], "for": "table", **fields}
     reasons = fields["for"].split(", ") if "for" in fields else []
-    return Edit(crate, path.stem, " ".join(words), fields.get("at", ""), reasons, pairs)
+    return Edit(crate, path.stem, " ".join(words), fields.get("at", ""), reasons, fields.get("shape", ""), pairs)
 
 
 def edits():
@@ -98,7 +102,7 @@ def kind(edit, public):
     if "table" in edit.reasons:
         return "table"
     if not of_code(edit):
-        return "definition"
+        return "definition" if edit.crate == "model" else "inner definition"
     return "public" if (edit.crate, edit.at) in public else "inner"
 
 
@@ -124,13 +128,15 @@ def block(found):
         BEGIN,
         "",
         f"{len(found)} edits: {kinds['public']} of a public function's code, refused at its own promise; {kinds['definition']} of a",
-        f"definition; {kinds['inner']} of the code of an inner function; {kinds['table']} of the table of counterexamples.",
+        f"definition that promises reach; {kinds['inner']} of the code of an inner function, and {kinds['inner definition']} of a",
+        f"definition of an inner layer; {kinds['table']} of the table of counterexamples.",
         "",
         "| Edit | What it rules out | Refused at | There for |",
         "|---|---|---|---|",
     ]
     for edit in found:
-        lines.append(f"| `{edit.crate}/{edit.label}` | {edit.rules_out} | {cell(edit)} | {', '.join(edit.reasons)} |")
+        ruled = edit.rules_out + (f" (shape: {edit.shape})" if edit.shape else "")
+        lines.append(f"| `{edit.crate}/{edit.label}` | {ruled} | {cell(edit)} | {', '.join(edit.reasons)} |")
     return "\n".join(lines + ["", END])
 
 
@@ -143,6 +149,18 @@ def with_block(found):
 
 
 # -- what can be said without a proof
+
+# a line of a contract, an import, or a comment
+CONTRACT = re.compile(r"^\s*(requires|ensures|ghost use|use|pub use|//|--)|⌜|⌝", re.M)
+
+
+def lines_of(text, old):
+    """The whole lines in which a text stands."""
+    at = text.index(old)
+    end = text.find("\n", at + len(old))
+    return text[text.rfind("\n", 0, at) + 1 : end if end >= 0 else len(text)]
+
+
 
 def faults(found):
     public, listed = public_functions(), crates()
@@ -169,8 +187,8 @@ def faults(found):
             if not old or text.count(old) != 1:
                 yield f"{name}: its text '{old}' is {text.count(old or '') if old else 0} times in {file}"
                 break
-            if re.match(r"\s*(requires|ensures)\b", old):
-                yield f"{name}: it edits a contract"
+            if CONTRACT.search(lines_of(text, old)):
+                yield f"{name}: it edits a contract, an import or a comment"
             texts[file] = text.replace(old, new)
         if not edit.pairs:
             yield f"{name}: it edits nothing"
@@ -217,6 +235,8 @@ def facts_of_promise(proof):
 # leaves is no equation of two equal ends. Any other one (a name or a field that is not there) is the proof file's.
 FACT = re.compile(r"the two (types|sides)|but this has type|no proof of|the goal does not follow|a path whose two ends are equal")
 UNFIT = re.compile(r"that can be named from here|has no field|is not in scope|not admitted")
+# one fact stands where another is due: the edit has changed the shape of the code
+SHIFTED = re.compile(r"expected type `tie\.Need-[^`]*`,?\s+but this has type `tie\.Need-")
 LIMIT = re.compile(r"limit was met|broke off|ran out of|took more than (?!200000 steps)")
 
 
@@ -244,7 +264,8 @@ def judge_log(edit, log):
         lost = re.search(r"^fn (\S+)::(\w+): no proof: .*`search` does not close `(returns|loop-holds|loop-again)", said, re.M)
         if not lost:
             return "it has no error, and no function of which it says that nothing is proved at its promise"
-        if "Every way was tried: a deeper search would find nothing either" not in said:
+        searches = re.findall(r"`search`: no proof of.*?(?=^note: |^fn |\Z)", said, re.M | re.S)
+        if not searches or not all("Every way was tried: a deeper search would find nothing either" in text for text in searches):
             return f"the search at {lost[2]} met a limit"
         return None if (at["function"], at["how"]) == (lost[2], "search") else f"refused at {lost[2]} (search)"
     place, message = error.split(": error: ", 1)
@@ -257,6 +278,8 @@ def judge_log(edit, log):
         return f"a limit was met: {path}, {declared}: {message.splitlines()[0][:160]}"
     if not FACT.search(message):
         return f"its first error is no fact: {path}, {declared}: {message.splitlines()[0][:160]}"
+    if bool(SHIFTED.search("\n".join(lines))) != bool(edit.shape):
+        return "another fact is due at some place of the proof: say so in a line '# shape: ..'" if not edit.shape else "the shape is kept"
     if path.endswith("/Proof.antt"):
         function = path.split("/")[-2]
         proof = TOP / "crates" / edit.crate / path

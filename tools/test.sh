@@ -24,6 +24,7 @@ python3 tests/edits.py
 
 echo "== the list of what a reader must believe"
 python3 tools/believed.py --check
+python3 tests/believed.py
 
 echo "== the C header"
 bash tools/header.sh

@@ -34,9 +34,10 @@ class Result:
         floor: the dual objective of the flow: no image of the box has a lower price. It may be negative.
         slack: price minus floor, the duality gap.
 
-    For every image of the box, price + squared distance of the two images <= its price + slack. The bounds below follow
-    from that for the best image, the one of least price in whatever fractions. They are in levels, of depths, and are the
-    least floating-point numbers that are not too small.
+    For every image of the box, price + squared distance of the two images <= its price + slack: proved on the grid of sub-units
+    and on every whole division of it, and extended to images of any fractions by hand (docs/PROOFS.md). The bounds below follow
+    from that for the best image, the one of least price. They are in levels, of depths, and are the least floating-point numbers
+    that are not too small.
 
     Arrays are read-only. ``job.codes`` is the caller's array where that could be lent, and so is the flow of a check: whoever
     writes to these afterwards changes what the result shows of them.

@@ -3,6 +3,7 @@ use mathlib.Core.Path.{_≡_, refl, sym, ap, _∙_, subst}
 use mathlib.Core.Bool.{Bool, true, false, cond}
 use mathlib.Core.List.{List}
 use Prim.Native.Nat.{ℕ, zero, suc, _+_, _*_, _≤_, _<_, zero-le}
+use lib.Dec.{lit<}
 use lib.IntN.{ℤ, pos, natAbs, _*ℤ_}
 use lib.ListN.{length, getD-replicate}
 use lib.Signed.{_≤ℤ_, _<ℤ_}
@@ -18,7 +19,7 @@ use Rattle.model.specs.Accepted.{CheckAllowed, RunAllowed}
 use Rattle.model.proofs.Sizes.{iterate-size}
 use Rattle.model.proofs.Range.{ends-ordered}
 use Rattle.model.proofs.Pairs.{neighbours, first-inside, second-inside}
-use Rattle.model.proofs.Degree.{degree, degree-at-most-4}
+use Rattle.model.proofs.Degree.{degree-at-most-4}
 use Rattle.model.proofs.Answers.{check-answer, check-image, runFigures, run-answer, run-flow, run-image, held-image}
 use Rattle.model.proofs.Accepted.{told, check-feasible, check-accepted, check-number, run-accepted, run-number}
 use Rattle.model.specs.Demand.{Figures, TwoFlows, CheckDemand, RunDemand}
@@ -26,7 +27,7 @@ use Rattle.certificate.proofs.Lagrangian.{Sound}
 use Rattle.certificate.proofs.Congruence.{price-cong}
 use Rattle.certificate.proofs.Division.{certificate, two-flows}
 use Rattle.certificate.proofs.Rounding.{nearest-eighth-rounding}
-use Rattle.certificate.proofs.Steady.{step-feasible, steady-ends, moved-bound, settled-bound, settles}
+use Rattle.certificate.proofs.Steady.{step-feasible, steady-ends, by-degree}
 
 -- the grid is a sound pair system
 pub grid-sound : (t : Terms) (samples : List ℕ) (weights : List ℤ) → t .low ≤ t .high → Sound (grid t samples weights)
@@ -93,18 +94,14 @@ run-bounds : (t : Terms) (r : Rounds) (samples : List ℕ) (weights : List ℤ) 
     (pos (8 * ending t r samples weights .moved) ≤ℤ slack (grid t samples weights) (at (quickFlow t r samples weights)))
     × (slack (grid t samples weights) (at (quickFlow t r samples weights)) <ℤ pos (8 * (r .allowance + 1)) → ending t r samples weights .settled ≡ true)
     × (ending t r samples weights .settled ≡ true → slack (grid t samples weights) (at (ending t r samples weights .flow)) ≤ℤ (pos 16 *ℤ weightSum (grid t samples weights)))
-unfolding ending quickFlow weightSum
+unfolding ending quickFlow weightSum nearestEighth
 run-bounds t r samples weights box =
     let p : Problem = grid t samples weights in
     let sound : Sound p = grid-sound t samples weights box in
     let start : List ℤ = quickRounds eighth p (r .quick) .iterate in
     let size = iterate-size eighth p (r .quick) in
     let within = quick-feasible eighth p (r .quick) in
-    let degrees : (i : ℕ) → i < p .pixels → degree p i ≤ 4 = λ i _. degree-at-most-4 t samples weights i in (
-      moved-bound nearestEighth p sound 4 nearest-eighth-rounding degrees (r .allowance) start size within,
-      settles nearestEighth p sound 4 nearest-eighth-rounding degrees (r .allowance) start size within,
-      settled-bound nearestEighth p sound 4 nearest-eighth-rounding degrees (r .allowance) start size within,
-    )
+    by-degree nearestEighth p sound 4 (lit< tt) (λ v. refl) (λ i _. degree-at-most-4 t samples weights i) (r .allowance) start size within
 
 fourfold : {x : ℤ} (k : ℕ) → x <ℤ pos (2 * k) → x <ℤ pos (8 * k)
 fourfold k h = by-< (search parts depth 12) (omega (whole, of-< h (search parts depth 12)))

@@ -10,8 +10,8 @@ use lib.Signed.{_≤ℤ_, _<ℤ_}
 use Rattle.integers.specs.Whole.{square, nearest}
 use Rattle.integers.proofs.Parts.{whole}
 use Rattle.integers.proofs.Order.{≤ℤ-total, <ℤ→≤ℤ}
-use Rattle.integers.proofs.Rounded.{rounded, quotient-rounded, nearest-rounded, zero-rounded, rounded-nonneg, rounded-nonpos, step-gain}
-use Rattle.model.specs.Rounds.{eighth, nearestEighth}
+use Rattle.integers.proofs.Rounded.{rounded, nearest-rounded, zero-rounded, rounded-nonneg, rounded-nonpos, step-gain}
+use Rattle.model.specs.Rounds.{nearestEighth}
 
 -- A step adds `share v` of a fall v and is cut off by the clamp, so that it changes the flow by some e from 0 to that. With
 -- c the largest fall that moves nothing, change × fall is at least (c + 1) × its square; and a share has its fall's sign
@@ -53,12 +53,6 @@ nearest-rounding share d positive is =
     is v
     ∙ ap (nearest v) (omega arith)
     ∙ nearest-rounded (d - 1) (d + 1 + (d - 1)) (omega arith) (omega arith) v)
-
--- d / 8 toward zero: a fall of 8 moves. (The share of quick rounds, of which demand 3 needs no law, and of steady rounds before
--- request F-1.)
-pub eighth-rounding : Rounding eighth 7
-unfolding eighth
-eighth-rounding = rounding eighth 0 7 (λ v. quotient-rounded v 8)
 
 -- d / 8 to the nearest, a half toward zero: a fall of 5 moves
 pub nearest-eighth-rounding : Rounding nearestEighth 4

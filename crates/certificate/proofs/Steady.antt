@@ -12,7 +12,7 @@ use lib.IntN.{ℤ, pos, natAbs, _+ℤ_, _-ℤ_, _*ℤ_}
 use lib.ListN.{length}
 use lib.Signed.{_≤ℤ_, _<ℤ_}
 use Rattle.integers.specs.Sum.{total}
-use Rattle.integers.specs.Whole.{sameZ}
+use Rattle.integers.specs.Whole.{sameZ, nearest}
 use Rattle.integers.proofs.Parts.{parts, whole, by-≤, of-≤, of-<}
 use Rattle.integers.proofs.Order.{sameZ-true, sameZ-false}
 use Rattle.model.specs.Lists.{at}
@@ -24,7 +24,7 @@ use Rattle.model.proofs.Degree.{degree}
 use Rattle.certificate.proofs.Lagrangian.{Sound, image-in-box}
 use Rattle.certificate.proofs.Congruence.{floor-cong}
 use Rattle.certificate.proofs.Distance.{floor-below}
-use Rattle.certificate.proofs.Rounding.{Rounding}
+use Rattle.certificate.proofs.Rounding.{Rounding, nearest-rounding}
 use Rattle.certificate.proofs.Step.{stepped-feasible, step-raises, settled-slack}
 
 module _ (share : ℤ → ℤ) (p : Problem) where
@@ -183,3 +183,19 @@ module _ (share : ℤ → ℤ) (p : Problem) (sound : Sound p) (c : ℕ) (law : 
           slack p (at (steadyRounds share p a flow .flow)) ≤ℤ (pos (4 * c) *ℤ total (pairCount p) (λ j. pos (p .weight j)))
       settled-bound e =
           settled-slack share p c law (at (steadyRounds share p a flow .flow)) (ends .feasible) (ends .at-rest e)
+
+-- With the divisor twice the degree: no pixel lies in more than d pairs, and a share is the nearest of 2 × d, a half toward zero.
+-- Then 2 × d × moved is at most the starting slack, a run settles whenever 2 × d × (allowance + 1) exceeds it, and a settled
+-- slack is at most 4 × d × the sum of the weights: 8, 8 and 16 at degree 4, 12, 12 and 24 at degree 6
+pub by-degree : (share : ℤ → ℤ) (p : Problem) → Sound p → (d : ℕ) → 0 < d → ((v : ℤ) → share v ≡ nearest v (2 * d)) →
+    ((i : ℕ) → i < p .pixels → degree p i ≤ d) → (a : ℕ) (flow : List ℤ) → length flow ≡ pairCount p → Feasible p (at flow) →
+    (pos (2 * d * steadyRounds share p a flow .moved) ≤ℤ slack p (at flow))
+    × (slack p (at flow) <ℤ pos (2 * d * (a + 1)) → steadyRounds share p a flow .settled ≡ true)
+    × (steadyRounds share p a flow .settled ≡ true →
+    slack p (at (steadyRounds share p a flow .flow)) ≤ℤ (pos (4 * d) *ℤ total (pairCount p) (λ j. pos (p .weight j))))
+by-degree share p sound d positive is degrees a flow size within =
+    let law : Rounding share d = nearest-rounding share d positive is in (
+      moved-bound share p sound d law degrees a flow size within,
+      settles share p sound d law degrees a flow size within,
+      settled-bound share p sound d law degrees a flow size within,
+    )

@@ -28,9 +28,6 @@ square-natAbs (negsuc n) = refl
 pub natAbs-square : (x : ℤ) → natAbs (square x) ≡ natAbs x * natAbs x
 natAbs-square x = natAbs-product x x
 
-pub natAbs-zero : {x : ℤ} → natAbs x ≡ 0 → x ≡ pos 0
-natAbs-zero {x} h = by-≡ (search parts depth 12) (omega (whole, natAbs-parts x))
-
 pub abs-nonpos : {x : ℤ} → x ≤ℤ pos 0 → abs x ≡ negℤ x
 abs-nonpos {x = pos n} h = by-≡ (search parts depth 12) (omega whole)
 abs-nonpos {x = negsuc n} h = refl

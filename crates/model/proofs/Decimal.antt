@@ -63,6 +63,12 @@ by-fuel (suc k) n h = go (decLe 10 n) (by-fuel k (n / 10))
     go (no l) q = subst⁻¹ (IsDecimal n) (one k n (omega (arith, l))) (single n (omega (arith, l)))
     go (yes l) q = subst⁻¹ (IsDecimal n) (more k n l) (behind k n l (q (omega (arith, l, h))))
 
+-- only 0 is written with the digit 0 in front, and that is its only digit
+longer : (n : ℕ) → 1 < length (decimal n) → 0 < n
+unfolding decimal decimalBy
+longer zero h = absurd (omega arith)
+longer (suc n) h = omega arith
+
 pub decimal-law : DecimalLaw
 unfolding decimal
-decimal-law n = let q = by-fuel (suc n) n (omega arith) in (q .digits, q .value, q .some, q .first)
+decimal-law n = let q = by-fuel (suc n) n (omega arith) in (q .digits, q .value, q .some, λ long. q .first (longer n long))

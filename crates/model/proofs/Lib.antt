@@ -4,7 +4,7 @@
 --     Refusals    of the first refusal
 --     Lists       of `table`, `chain` and `firstWhere`
 --     Root        the root is the largest whole number whose square is at most n
---     Decimal     the decimal text of a number has its digits
+--     Decimal     the decimal text of a number is its digits, without a leading zero
 --     Pairs       how many pairs there are, and which two pixels each has
 --     Degree      a pixel lies in at most 4 pairs
 --     Range       how large readings and the ends of the box are

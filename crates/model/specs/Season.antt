@@ -34,7 +34,7 @@ unfoldable pub bytesOf : Progress → ℕ
 bytesOf p = length (tapeOf (p .terms) (p .rounds) (p .samples) (p .weights) (p .flow))
 
 -- A job that was treated: its pixels, and the answer that the cleaning program gives. (A job that was read whole is refused
--- by no call any more; this is proved, and promised by `job::answer_of`.)
+-- by no call any more; this is proved, and promised by `job_answer::answer_of`.)
 pub record Treated : Type 0 where
   pub pixels : ℕ
   pub answer : Answer
@@ -168,7 +168,7 @@ abbrev pub Follows : Bool → List ℕ → Type 0
 Follows ended rest = ended ≡ true → rest ≡ []
 
 -- The text stands at the front of the output, and counts so many bytes: that of some input, and, unless that had ended, of
--- every input that begins with it. Which bytes were read no promise can say (DECISIONS 54)
+-- every input that begins with it. Which input, no promise can say: the text of any season meets this (DECISIONS 54)
 pub record TextOf (former : List ℕ) (count : ℕ) (output : List ℕ) : Type 0 where
   pub input : List ℕ
   pub ended : Bool

@@ -33,7 +33,7 @@ unfoldable pub valueFrom : ℕ → List ℕ → ℕ
 valueFrom n [] = n
 valueFrom n (d ∷ digits) = valueFrom (10 * n + (d - 48)) digits
 
--- What the text of n is: digits, one at least, that stand for n, and the first is 0 only where n is (proved: `decimal-law`,
+-- What the text of n is: digits, one at least, that stand for n, without a leading zero (proved: `decimal-law`,
 -- proofs/Decimal.antt)
 abbrev pub DecimalLaw : Type 0
 DecimalLaw =
@@ -41,7 +41,7 @@ DecimalLaw =
     Digits (decimal n)
     × (valueFrom 0 (decimal n) ≡ n)
     × (0 < length (decimal n))
-    × (0 < n → 48 < getD (decimal n) 0 0)
+    × (1 < length (decimal n) → 48 < getD (decimal n) 0 0)
 
 -- with a sign in front where it is negative
 unfoldable pub signedDecimal : ℤ → List ℕ

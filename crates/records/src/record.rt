@@ -15,7 +15,7 @@ ghost use Rattle.records.specs.Tally.{allSampled, may};
 ghost use Rattle.records.specs.Record.{formOf, wholeAt, gotAt};
 
 // What a kind byte gives: the length of the body, and whether the record is allowed here.
-pub enum Form {
+enum Form {
     Unknown,
     Body { body: usize, allowed: bool },
 }
@@ -35,7 +35,7 @@ fn all_or_none(count: usize, pairs: usize) -> bool
 }
 
 // Order: 1, 2, 3, all samples, then all pair weights or none, then all flow numbers or none, then 0.
-pub fn form_of(kind: u8, t: Tally) -> Form
+fn form_of(kind: u8, t: Tally) -> Form
     ensures { λ r. ⌜ r ≡ formOf kind (may t kind) ⌝ }
 {
     match kind {

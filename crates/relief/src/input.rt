@@ -11,9 +11,9 @@ pub struct Input {
     pub failed: bool,
 }
 
-// Reads until the buffer is full, the input ends or a read fails, which it does only where there is
-// room. Free are the bytes that the buffer then holds, and how many come: of these the operating
-// system's call promises nothing.
+// Reads until the buffer is full, the input ends or a read fails, which happens only where there is
+// room. How many bytes come, which they are, and whether a read fails is free: the operating system's
+// call promises nothing of it.
 pub fn read_input(buffer: &mut [u8]) -> Input
     ensures { λ r. ⌜ r .count ≤ length (now (buffer .exit)) ⌝ }
     ensures { λ r. ⌜ (r .failed ≡ true → r .count < length (now (buffer .exit))) ⌝ }

@@ -36,7 +36,9 @@ fn read_input() -> Ended
     )
 }
 
-// The text stands at the front of the output.
+// The text stands at the front of the output, for some input; which input that is, and whether a read
+// failed, is free (specs/Season.antt of `model`). Where one failed, count and output are free but for
+// the output's length.
 pub fn season_text(output: &mut [u8; 512]) -> Printed
     ensures { λ r. ⌜ (r .failed ≡ false → TextOf (now (output .entry)) (r .count) (now (output .exit))) ⌝ }
     ensures { λ r. ⌜ Counts (r .count) (now (output .exit)) ⌝ }

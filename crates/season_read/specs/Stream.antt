@@ -52,7 +52,7 @@ StepOf lent before s after (Step.Stop v) =
     Reports (atHand before (s .window)) (s .window .ended) lent (s .totals) (record { totals = s .totals; ending = v })
 StepOf lent before s after Step.Failed = Unit {0}
 
--- the report of a season: for the bytes that were read, and any behind them if the input had not ended
+-- the report of a season: for some bytes, and for these with any behind them if the input had not ended
 abbrev pub ReportOf : Lent → Ended → Type 0
 ReportOf lent e =
     e .failed ≡ false →

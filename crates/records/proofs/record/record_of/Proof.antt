@@ -1,13 +1,13 @@
 -- `records::record::record_of` meets its contract. Assumes nothing.
 use mathlib.Core.Path.{_≡_, ap, sym, _∙_}
-use mathlib.Core.Bool.{Bool, true, not}
+use mathlib.Core.Bool.{true, not}
 use Prim.Native.Nat.{ℕ}
 use borrow.Author.Needs.{needs}
 use borrow.Author.Tests.{lt-leb}
 use Rattle.model.specs.Tape.{known, bodyLength, recordRows}
 use Rattle.model.proofs.Refusals.{refused, passed}
 use Rattle.records.specs.Tally.{may}
-use Rattle.records.specs.Record.{formOf, wholeAt}
+use Rattle.records.specs.Record.{wholeAt}
 use Rattle.records.proofs.Rows.{form-unknown, form-known, known-kind, got-by}
 use Rattle.records.proofs.record.record_of.Statement.{statement}
 use Rattle.records.proofs.record.record_of.Tie as tie

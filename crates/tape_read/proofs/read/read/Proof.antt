@@ -1,8 +1,11 @@
 -- `tape_read::read::read` meets its contract. Assumes nothing.
 use mathlib.Core.Path.{_≡_, refl, sym, subst, subst⁻¹}
+use mathlib.Core.List.{List}
+use Prim.Native.Nat.{ℕ}
 use native.Mathlib.Omega.{arith}
 use Rattle.model.specs.declared.Lent.{Lent}
-use Rattle.model.specs.Tape.{lentBy}
+use Rattle.model.specs.Tape.{lentBy, nothing}
+use Rattle.records.specs.Tally.{tallyOf}
 use Rattle.records.specs.declared.tally.Tally.{Tally}
 use Rattle.tape_scan.specs.declared.scan.Scanned.{Scanned}
 use Rattle.tape_scan.specs.Scan.{Reached, StopsAt}
@@ -16,11 +19,12 @@ use Rattle.tape_read.proofs.read.read.Tie as tie
 fresh-requires : tie.Need-fresh-requires
 fresh-requires c κs = search needs
 
+-- where nothing has been read, the first record is reached, whatever is lent
+begun : {tape : List ℕ} {lent : Lent} {t : Tally} → t ≡ tallyOf nothing → Reached tape lent t 0
+begun {tape} {lent} e = subst⁻¹ (λ (t : Tally). Reached tape lent t 0) e (start tape lent)
+
 scan-tape-requires : tie.Need-scan-tape-requires
-scan-tape-requires c κs =
-    let a = c .before .before .before .args in
-    let lent : Lent = lentBy (a .samples .now) (a .weights .now) (a .flow .now) in
-    subst⁻¹ (λ (t : Tally). Reached (a .tape .now) lent t 0) (c .fresh .ensures) (start (a .tape .now) lent)
+scan-tape-requires c κs = begun (c .fresh .ensures)
 
 enum-known-scanned : tie.Need-enum-known-scanned
 enum-known-scanned c = search needs

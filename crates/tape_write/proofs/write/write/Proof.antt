@@ -1,7 +1,10 @@
 -- `tape_write::write::write` meets its contract. Assumes nothing.
-use mathlib.Core.Path.{sym, ap, _∙_}
+use mathlib.Core.Path.{_≡_, sym, ap, _∙_}
 use Prim.Native.Nat.{ℕ}
 use native.Mathlib.Omega.{arith}
+use lib.ListN.{length}
+use Rattle.model.specs.Verdict.{firstRefusal}
+use Rattle.model.specs.Tape.{writeRows}
 use Rattle.model.proofs.Accepted.{write-accepted}
 use Rattle.roundtrip.proofs.WriteRows.{written-answer, written-output}
 use Rattle.tape_write.proofs.Promised.{promised}
@@ -18,17 +21,23 @@ enum-known-v c = search needs
 enum-told : tie.Need-enum-told
 enum-told c = search needs
 
+-- the verdict is that of write's rows
+judged : (c : tie.After-judge-write) → let a = c .before .before .before .args in
+    c .judge-write .result
+    ≡ firstRefusal (writeRows (a .t) (a .r) (a .samples .now) (a .weights .now) (a .flow .now) (length (a .output .now)))
+judged c = c .judge-write .ensures
+
 lay-tape-requires : tie.Need-lay-tape-requires
 lay-tape-requires c κs =
-    let judged = c .before .before .before in
-    write-accepted _ _ _ _ _ (judged .before .before .before .args .output .now) .0
-    (sym (judged .judge-write .ensures) ∙ c .before .enum-told .given .1) .output-length
+    let k = c .before .before .before in
+    write-accepted _ _ _ _ _ (k .before .before .before .args .output .now) .0
+    (sym (judged k) ∙ c .before .enum-told .given .1) .output-length
 
 returns : tie.Need-returns
 returns c =
     let s = c .before .before .before .before .before .before in
     let a = s .args in
-    let v = sym (c .before .before .before .judge-write .ensures) ∙ c .before .v .given .1 in
+    let v = sym (judged (c .before .before .before)) ∙ c .before .v .given .1 in
     promised (a .t) (a .r) (a .samples .now) (a .weights .now) (a .flow .now) (a .output .now) (omega (arith, s .good))
     (sym (written-answer (a .t) (a .r) (a .samples .now) (a .weights .now) (a .flow .now) (a .output .now) v))
     (sym (written-output (a .t) (a .r) (a .samples .now) (a .weights .now) (a .flow .now) (a .output .now) v))
@@ -38,11 +47,11 @@ same-length c = search needs
 
 returns-2 : tie.Need-returns-2
 returns-2 c =
-    let told = c .before .before .before .before in
-    let judged = told .before .before in
-    let s = judged .before .before .before in
+    let known = c .before .before .before .before in
+    let k = known .before .before in
+    let s = k .before .before .before in
     let a = s .args in
-    let v = sym (judged .judge-write .ensures) ∙ told .enum-told .given .1 in
+    let v = sym (judged k) ∙ known .enum-told .given .1 in
     promised (a .t) (a .r) (a .samples .now) (a .weights .now) (a .flow .now) (a .output .now) (omega (arith, s .good))
     (ap (λ (n : ℕ). record { number = 0; place = 0; count = n }) (c .before .before .lay-tape .ensures .0)
     ∙ sym (written-answer (a .t) (a .r) (a .samples .now) (a .weights .now) (a .flow .now) (a .output .now) v))
