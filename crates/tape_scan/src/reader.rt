@@ -1,7 +1,6 @@
 // The tape's bytes and the offset of the next record, kept together. Each function over the struct is
 // thin: the work is done by `next_record`, on the slice and the number.
 
-use model::Lent;
 use records::record::Cursor;
 use records::record::Got;
 use records::record::next_record;
@@ -22,11 +21,12 @@ pub fn new<'a>(tape: &'a [u8], at: usize) -> Reader<'a>
 }
 
 // The next record: its kind with its numbers, and beside it the cursor that the reader is moved on to;
-// or a refusal with its offset. What has been read says which kinds may come.
-pub fn next<'a>(r: Reader<'a>, t: Tally, lent: Lent) -> Got
-    ensures { λ g. ⌜ g ≡ gotAt (lent .followed) (now (r .entry .tape)) (r .entry .at) t ⌝ }
+// or a refusal with its offset. What has been read says which kinds may come, and `followed` whether
+// more bytes may follow the end record.
+pub fn next<'a>(r: Reader<'a>, t: Tally, followed: bool) -> Got
+    ensures { λ g. ⌜ g ≡ gotAt followed (now (r .entry .tape)) (r .entry .at) t ⌝ }
 {
-    next_record(r.tape, r.at, t, lent.followed)
+    next_record(r.tape, r.at, t, followed)
 }
 
 // The reader moved on to the record at a cursor.

@@ -25,7 +25,7 @@ pub fn scan_tape(tape: &[u8], at: usize, before: Tally, lent: Lent) -> Scanned
     let mut r = new(tape, at);
     let mut t = before;
     loop {
-        let got = next(r, t, lent);
+        let got = next(r, t, lent.followed);
         let s = take(t, got, r.at, lent);
         match s {
             Step::Refused(number, place) => return Scanned::Refused(number, place, t, r.at),
