@@ -22,9 +22,6 @@ use Rattle.advance.proofs.Runs.{vertical-iterate, vertical-ahead, horiz
 use Rattle.advance.proofs.advance_grid.Statement.{statement}
 use Rattle.advance.proofs.advance_grid.Tie as tie
 
-sub-vertical : tie.Need-sub-vertical
-sub-vertical c = search needs
-
 -- the vertical pairs are within the flow and within the numbers ahead
 most : (c : tie.Start) → (vertical (c .args .width) (c .args .height) ≤ length (c .args .flow .now)) × (vertical (c .args .width) (c .args .height) ≤ length (c .args .ahead .now))
 most c = let v = vertical-most (c .pre .grid .size) in (omega (arith, c .pre .same-length), v)
@@ -97,9 +94,6 @@ mul-vertical c = omega (arith, vertical-most (c .pre .grid .size))
 part-of-requires : tie.Need-part-of-requires
 part-of-requires c κs = part-there (c .pre .grid .weights-limits) _ _ (omega (arith, grid-count (c .args .width) (c .args .height)))
 
-sub-part-of : tie.Need-sub-part-of
-sub-part-of c = search needs
-
 mul-part-of : tie.Need-mul-part-of
 mul-part-of c = omega (arith, flow-pairs (c .before), c .before .good .0 .0)
 
@@ -142,9 +136,6 @@ sub-advance-rows c = omega (arith, flow-most c)
 part-advance-rows-start : tie.Need-part-advance-rows-start
 part-advance-rows-start c = flow-most c
 
-part-advance-rows-end : tie.Need-part-advance-rows-end
-part-advance-rows-end c = search needs
-
 mul-advance-rows-2 : tie.Need-mul-advance-rows-2
 mul-advance-rows-2 c = let s = c .before .before .before .before .before .before .before .before in omega (arith, most s .1, s .good .1 .0 .1)
 
@@ -153,9 +144,6 @@ sub-advance-rows-2 c = omega (arith, ahead-most (c .before))
 
 part-advance-rows-start-2 : tie.Need-part-advance-rows-start-2
 part-advance-rows-start-2 c = ahead-most (c .before)
-
-part-advance-rows-end-2 : tie.Need-part-advance-rows-end-2
-part-advance-rows-end-2 c = search needs
 
 advance-rows-requires : tie.Need-advance-rows-requires
 advance-rows-requires c κs =
@@ -174,9 +162,6 @@ advance-rows-requires c κs =
 
 same-length : tie.Need-same-length
 same-length c = search needs
-
-same-length-2 : tie.Need-same-length-2
-same-length-2 c = search needs
 
 returns : tie.Need-returns
 returns c =
@@ -200,10 +185,10 @@ pub advance-grid-spec : {M : Type 1} → statement M
 advance-grid-spec =
     tie.close
     (tie.spec
-    sub-vertical
+    (λ c. search needs)
     mul-vertical
     part-of-requires
-    sub-part-of
+    (λ c. search needs)
     mul-part-of
     part-of-requires-2
     slice-relend-prefix-advance-pairs
@@ -214,12 +199,12 @@ advance-grid-spec =
     mul-advance-rows
     sub-advance-rows
     part-advance-rows-start
-    part-advance-rows-end
+    (λ c. search needs)
     mul-advance-rows-2
     sub-advance-rows-2
     part-advance-rows-start-2
-    part-advance-rows-end-2
+    (λ c. search needs)
     advance-rows-requires
     same-length
-    same-length-2
+    (λ c. search needs)
     returns)

@@ -58,27 +58,6 @@ loop-holds c = (filling-none _ _, filling-none _ _)
 number-or-requires : tie.Need-number-or-requires Inv-loop μ-loop
 number-or-requires c κs = let p = c .before .before .pre in own-inside (p .step .weights-limits) (omega (arith, p .same-length))
 
-mul-step-value : tie.Need-mul-step-value Inv-loop μ-loop
-mul-step-value c = search needs
-
-slice-copy-out-step-value : tie.Need-slice-copy-out-step-value Inv-loop μ-loop
-slice-copy-out-step-value c = search needs
-
-mul-step-value-2 : tie.Need-mul-step-value-2 Inv-loop μ-loop
-mul-step-value-2 c = search needs
-
-shared-slice-copy-out-step-value : tie.Need-shared-slice-copy-out-step-value Inv-loop μ-loop
-shared-slice-copy-out-step-value c = search needs
-
-add-step-value : tie.Need-add-step-value Inv-loop μ-loop
-add-step-value c = search needs
-
-mul-step-value-3 : tie.Need-mul-step-value-3 Inv-loop μ-loop
-mul-step-value-3 c = search needs
-
-shared-slice-copy-out-step-value-2 : tie.Need-shared-slice-copy-out-step-value-2 Inv-loop μ-loop
-shared-slice-copy-out-step-value-2 c = search needs
-
 step-value-requires : tie.Need-step-value-requires Inv-loop μ-loop
 step-value-requires c κs =
     let s = c .before .before .before .before .before .before in
@@ -86,12 +65,6 @@ step-value-requires c κs =
     let p = s .pre .step in
     rw (own (c .before .before .before), toZ-ofZ w32 (s .args .weight) (s .fits .weight), filling-rest (l .inv .1) (l .j) (pos 0) (le-refl (l .j)), element (s .args .ahead .now) (p .flow-most) (l .j), element (s .args .image .now) (p .image-most) (l .j), element (s .args .image .now) (p .image-most) (l .j + s .args .stride))
     (pair-limits p (l .j))
-
-mul-extrapolated : tie.Need-mul-extrapolated Inv-loop μ-loop
-mul-extrapolated c = search needs
-
-slice-copy-out-extrapolated : tie.Need-slice-copy-out-extrapolated Inv-loop μ-loop
-slice-copy-out-extrapolated c = search needs
 
 extrapolated-requires : tie.Need-extrapolated-requires Inv-loop μ-loop
 extrapolated-requires c κs =
@@ -103,21 +76,6 @@ extrapolated-requires c κs =
           (own-within _ (s .args .weights .now) (rw (toZ-ofZ w32 (s .args .weight) (s .fits .weight)) (s .pre .weight-most)) (s .pre .weights-most) (l .j))),
       s .pre .factor-most,
     )
-
-mul-t20 : tie.Need-mul-t20 Inv-loop μ-loop
-mul-t20 c = search needs
-
-slice-set-from-ahead : tie.Need-slice-set-from-ahead Inv-loop μ-loop
-slice-set-from-ahead c = search needs
-
-mul-next : tie.Need-mul-next Inv-loop μ-loop
-mul-next c = search needs
-
-slice-set-from-next : tie.Need-slice-set-from-next Inv-loop μ-loop
-slice-set-from-next c = search needs
-
-add-j : tie.Need-add-j Inv-loop μ-loop
-add-j c = search needs
 
 loop-less : tie.Need-loop-less Inv-loop μ-loop
 loop-less c = search needs
@@ -135,12 +93,6 @@ loop-again c =
           (next-is v)),
     )
 
-same-length : tie.Need-same-length Inv-loop μ-loop
-same-length c = search needs
-
-same-length-2 : tie.Need-same-length-2 Inv-loop μ-loop
-same-length-2 c = search needs
-
 returns : tie.Need-returns Inv-loop μ-loop
 returns c =
     let s = c .before .before in
@@ -157,24 +109,24 @@ advance-pairs-spec =
     μ-loop
     loop-holds
     number-or-requires
-    mul-step-value
-    slice-copy-out-step-value
-    mul-step-value-2
-    shared-slice-copy-out-step-value
-    add-step-value
-    mul-step-value-3
-    shared-slice-copy-out-step-value-2
+    (λ c. search needs)
+    (λ c. search needs)
+    (λ c. search needs)
+    (λ c. search needs)
+    (λ c. search needs)
+    (λ c. search needs)
+    (λ c. search needs)
     step-value-requires
-    mul-extrapolated
-    slice-copy-out-extrapolated
+    (λ c. search needs)
+    (λ c. search needs)
     extrapolated-requires
-    mul-t20
-    slice-set-from-ahead
-    mul-next
-    slice-set-from-next
-    add-j
+    (λ c. search needs)
+    (λ c. search needs)
+    (λ c. search needs)
+    (λ c. search needs)
+    (λ c. search needs)
     loop-less
     loop-again
-    same-length
-    same-length-2
+    (λ c. search needs)
+    (λ c. search needs)
     returns)

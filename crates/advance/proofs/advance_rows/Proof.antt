@@ -29,9 +29,6 @@ Inv-loop flow₀ ahead₀ image width height weight weights m across at₀ start
 abbrev μ-loop : tie.MeasureT-loop
 μ-loop flow₀ ahead₀ image width height weight weights m across at₀ start₀ row₀ flow ahead at start row = height - row
 
-sub-across : tie.Need-sub-across Inv-loop μ-loop
-sub-across c = search needs
-
 module _ (c : tie.In-loop Inv-loop μ-loop) where
   -- this row's stretch ends within the flow, and its pixels within the image
   stretch : c .before .loop .at + (c .before .before .args .width - 1) ≤ length (c .before .before .args .flow .now)
@@ -80,12 +77,6 @@ add-advance-pairs c = omega (arith, stretch (c .before))
 mul-advance-pairs : tie.Need-mul-advance-pairs Inv-loop μ-loop
 mul-advance-pairs c = omega (arith, stretch (c .before), c .before .before .before .good .0 .1)
 
-sub-advance-pairs : tie.Need-sub-advance-pairs Inv-loop μ-loop
-sub-advance-pairs c = search needs
-
-part-advance-pairs-start : tie.Need-part-advance-pairs-start Inv-loop μ-loop
-part-advance-pairs-start c = search needs
-
 part-advance-pairs-end : tie.Need-part-advance-pairs-end Inv-loop μ-loop
 part-advance-pairs-end c = omega (arith, stretch (c .before), same-flow (c .before))
 
@@ -95,12 +86,6 @@ add-advance-pairs-2 c = omega (arith, stretch (c .before .before))
 mul-advance-pairs-2 : tie.Need-mul-advance-pairs-2 Inv-loop μ-loop
 mul-advance-pairs-2 c = omega (arith, stretch (c .before .before), c .before .before .before .before .good .0 .1)
 
-sub-advance-pairs-2 : tie.Need-sub-advance-pairs-2 Inv-loop μ-loop
-sub-advance-pairs-2 c = search needs
-
-part-advance-pairs-start-2 : tie.Need-part-advance-pairs-start-2 Inv-loop μ-loop
-part-advance-pairs-start-2 c = search needs
-
 part-advance-pairs-end-2 : tie.Need-part-advance-pairs-end-2 Inv-loop μ-loop
 part-advance-pairs-end-2 c = omega (arith, stretch (c .before .before), same-ahead (c .before .before), c .before .before .before .before .pre .same-length)
 
@@ -109,12 +94,6 @@ add-advance-pairs-3 c = omega (arith, pixels (c .before .before .before))
 
 mul-advance-pairs-3 : tie.Need-mul-advance-pairs-3 Inv-loop μ-loop
 mul-advance-pairs-3 c = omega (arith, pixels (c .before .before .before), c .before .before .before .before .before .good .1 .1 .0 .1)
-
-sub-advance-pairs-3 : tie.Need-sub-advance-pairs-3 Inv-loop μ-loop
-sub-advance-pairs-3 c = search needs
-
-part-advance-pairs-start-3 : tie.Need-part-advance-pairs-start-3 Inv-loop μ-loop
-part-advance-pairs-start-3 c = search needs
 
 part-advance-pairs-end-3 : tie.Need-part-advance-pairs-end-3 Inv-loop μ-loop
 part-advance-pairs-end-3 c = pixels (c .before .before .before)
@@ -138,9 +117,6 @@ add-at c = omega (arith, stretch (c .before .before .before .before .before .bef
 
 add-start : tie.Need-add-start Inv-loop μ-loop
 add-start c = omega (arith, pixels (c .before .before .before .before .before .before .before))
-
-add-row : tie.Need-add-row Inv-loop μ-loop
-add-row c = search needs
 
 loop-less : tie.Need-loop-less Inv-loop μ-loop
 loop-less c = search needs
@@ -202,28 +178,28 @@ advance-rows-spec =
     (tie.spec
     Inv-loop
     μ-loop
-    sub-across
+    (λ c. search needs)
     loop-holds
     part-of-requires
     add-advance-pairs
     mul-advance-pairs
-    sub-advance-pairs
-    part-advance-pairs-start
+    (λ c. search needs)
+    (λ c. search needs)
     part-advance-pairs-end
     add-advance-pairs-2
     mul-advance-pairs-2
-    sub-advance-pairs-2
-    part-advance-pairs-start-2
+    (λ c. search needs)
+    (λ c. search needs)
     part-advance-pairs-end-2
     add-advance-pairs-3
     mul-advance-pairs-3
-    sub-advance-pairs-3
-    part-advance-pairs-start-3
+    (λ c. search needs)
+    (λ c. search needs)
     part-advance-pairs-end-3
     advance-pairs-requires
     add-at
     add-start
-    add-row
+    (λ c. search needs)
     loop-less
     loop-again
     same-length

@@ -14,12 +14,6 @@ use Rattle.figures.proofs.Objectives.{variation, misfit-at, variation-a
 use Rattle.figures.proofs.image_price.Statement.{statement}
 use Rattle.figures.proofs.image_price.Tie as tie
 
-cast-total-variation-grid : tie.Need-cast-total-variation-grid
-cast-total-variation-grid c = search needs
-
-cast-total-variation-grid-2 : tie.Need-cast-total-variation-grid-2
-cast-total-variation-grid-2 c = search needs
-
 allowed : (c : tie.After-struct-known) → Bounds.Allowed (c .before .before .args .t) (c .before .before .args .samples .now) (c .before .before .args .weights .now)
 allowed c = with-bytes _ _ _ (c .before .before .pre .terms) (c .before .before .pre .pair-weights) (c .struct-known .given .1 .1 .1 .1 .0 .fits) (λ i. omega (arith, c .before .shared-slice-known .given i))
 
@@ -42,9 +36,6 @@ data-term : (c : tie.After-misfit) → let s = c .before .before .before .before
     pos (c .misfit .result) ≡ misfit (grid (s .args .t) (s .args .samples .now) (s .args .weights .now)) (at (s .args .image .now))
 data-term c = let s = c .before .before .before .before .before in misfit-at (s .args .t) (s .args .samples .now) (s .args .weights .now) (s .args .image .now) (s .pre .image-length) (c .misfit .ensures)
 
-scale-requires : tie.Need-scale-requires
-scale-requires c κs = search needs
-
 objective-requires : tie.Need-objective-requires
 objective-requires c κs =
     let s = c .before .before .before .before .before .before in
@@ -66,10 +57,10 @@ pub image-price-spec : {M : Type 1} → statement M
 image-price-spec =
     tie.close
     (tie.spec
-    cast-total-variation-grid
-    cast-total-variation-grid-2
+    (λ c. search needs)
+    (λ c. search needs)
     total-variation-grid-requires
     misfit-requires
-    scale-requires
+    (λ c κs. search needs)
     objective-requires
     returns)

@@ -23,12 +23,6 @@ use Rattle.figures.proofs.Objectives.{variation, sized, price-is, price
 use Rattle.figures.proofs.of_flow.Statement.{statement}
 use Rattle.figures.proofs.of_flow.Tie as tie
 
-cast-w : tie.Need-cast-w
-cast-w c = search needs
-
-cast-h : tie.Need-cast-h
-cast-h c = search needs
-
 allowed : (c : tie.After-struct-known) → Bounds.Allowed (c .before .before .args .t) (c .before .before .args .samples .now) (c .before .before .args .weights .now)
 allowed c = with-bytes _ _ _ (c .before .before .pre .terms) (c .before .before .pre .pair-weights) (c .struct-known .given .1 .1 .1 .1 .0 .fits) (λ i. omega (arith, c .before .shared-slice-known .given i))
 
@@ -72,9 +66,6 @@ priced c =
     let p = grid (s .args .t) (s .args .samples .now) (s .args .weights .now) in
     price-fits (s .args .t) (s .args .samples .now) (s .args .weights .now) (s .pre .pair-weights) (image p (at (s .args .flow .now))) (data-term (c .before)) (sum-of-falls c) (allowed k)
     (image-inside (s .args .t) (s .args .samples .now) (s .args .weights .now) (allowed k) (at (s .args .flow .now)))
-
-scale-requires : tie.Need-scale-requires
-scale-requires c κs = search needs
 
 objective-requires : tie.Need-objective-requires
 objective-requires c κs = rw (c .scale .ensures) (omega (arith, largest-fits, priced (c .before)))
@@ -145,11 +136,11 @@ pub of-flow-spec : {M : Type 1} → statement M
 of-flow-spec =
     tie.close
     (tie.spec
-    cast-w
-    cast-h
+    (λ c. search needs)
+    (λ c. search needs)
     misfit-requires
     total-variation-grid-requires
-    scale-requires
+    (λ c κs. search needs)
     objective-requires
     total-work-grid-requires
     dual-requires

@@ -8,15 +8,6 @@ use Rattle.stencil.proofs.Readings.{reading-most}
 use Rattle.image_rows.proofs.column_value.Statement.{statement}
 use Rattle.image_rows.proofs.column_value.Tie as tie
 
-reading-requires : tie.Need-reading-requires
-reading-requires c κs = search needs
-
-number-or-requires : tie.Need-number-or-requires
-number-or-requires c κs = search needs
-
-number-or-requires-2 : tie.Need-number-or-requires-2
-number-or-requires-2 c κs = search needs
-
 pixel-value-requires : tie.Need-pixel-value-requires
 pixel-value-requires c κs =
     let s = c .before .before .before in
@@ -39,8 +30,8 @@ pub column-value-spec : {M : Type 1} → statement M
 column-value-spec =
     tie.close
     (tie.spec
-    reading-requires
-    number-or-requires
-    number-or-requires-2
+    (λ c κs. search needs)
+    (λ c κs. search needs)
+    (λ c κs. search needs)
     pixel-value-requires
     returns)

@@ -31,30 +31,12 @@ abbrev μ-loop : tie.MeasureT-loop
 loop-holds : tie.Need-loop-holds Inv-loop μ-loop
 loop-holds c = (omega arith, filling-none _ _, refl)
 
-mul-right : tie.Need-mul-right Inv-loop μ-loop
-mul-right c = search needs
-
-shared-slice-copy-out-right : tie.Need-shared-slice-copy-out-right Inv-loop μ-loop
-shared-slice-copy-out-right c = search needs
-
-shared-slice-read-column-value : tie.Need-shared-slice-read-column-value Inv-loop μ-loop
-shared-slice-read-column-value c = search needs
-
 column-value-requires : tie.Need-column-value-requires Inv-loop μ-loop
 column-value-requires c κs =
     let s = c .before .before .before .before .before in
     let l = c .before .before .before .loop in
     rw (element (s .args .across .now) (s .pre .across-most) (l .c), l .inv .2)
     (column-limits (s .pre) (l .c) (omega (arith, s .pre)) (at (s .args .across .now) (l .c)) (s .pre .across-most (l .c)))
-
-mul-t11 : tie.Need-mul-t11 Inv-loop μ-loop
-mul-t11 c = search needs
-
-slice-set-from-row : tie.Need-slice-set-from-row Inv-loop μ-loop
-slice-set-from-row c = search needs
-
-add-c : tie.Need-add-c Inv-loop μ-loop
-add-c c = search needs
 
 loop-less : tie.Need-loop-less Inv-loop μ-loop
 loop-less c = search needs
@@ -69,23 +51,11 @@ loop-again c =
       rw (add-one (l .c)) right,
     )
 
-shared-slice-read-column-value-2 : tie.Need-shared-slice-read-column-value-2 Inv-loop μ-loop
-shared-slice-read-column-value-2 c = search needs
-
 column-value-requires-2 : tie.Need-column-value-requires-2 Inv-loop μ-loop
 column-value-requires-2 c κs =
     let s = c .before .before .before .before in
     let l = c .before .before .loop in
     rw (l .inv .2) (column-limits (s .pre) (l .c) (omega (arith, s .pre)) (pos 0) zero-le)
-
-mul-t21 : tie.Need-mul-t21 Inv-loop μ-loop
-mul-t21 c = search needs
-
-slice-set-from-row-2 : tie.Need-slice-set-from-row-2 Inv-loop μ-loop
-slice-set-from-row-2 c = search needs
-
-same-length : tie.Need-same-length Inv-loop μ-loop
-same-length c = search needs
 
 returns : tie.Need-returns Inv-loop μ-loop
 returns c =
@@ -107,18 +77,18 @@ image-row-spec =
     Inv-loop
     μ-loop
     loop-holds
-    mul-right
-    shared-slice-copy-out-right
-    shared-slice-read-column-value
+    (λ c. search needs)
+    (λ c. search needs)
+    (λ c. search needs)
     column-value-requires
-    mul-t11
-    slice-set-from-row
-    add-c
+    (λ c. search needs)
+    (λ c. search needs)
+    (λ c. search needs)
     loop-less
     loop-again
-    shared-slice-read-column-value-2
+    (λ c. search needs)
     column-value-requires-2
-    mul-t21
-    slice-set-from-row-2
-    same-length
+    (λ c. search needs)
+    (λ c. search needs)
+    (λ c. search needs)
     returns)

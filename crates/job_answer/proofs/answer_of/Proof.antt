@@ -17,15 +17,6 @@ use borrow.Author.Needs.{needs}
 use Rattle.job_answer.proofs.answer_of.Statement.{statement}
 use Rattle.job_answer.proofs.answer_of.Tie as tie
 
-take-numbers-requires : tie.Need-take-numbers-requires
-take-numbers-requires c κs = search needs
-
-enum-known-got : tie.Need-enum-known-got
-enum-known-got c = search needs
-
-enum-known-got-2 : tie.Need-enum-known-got-2
-enum-known-got-2 c = search needs
-
 -- the bytes of the tape
 bytes : (c : tie.After-take-numbers) → (i : ℕ) → getD (c .before .before .before .before .before .before .args .tape .now) i 0 < 256
 bytes c i = omega (arith, c .before .before .before .before .before .shared-slice-known .given i)
@@ -53,15 +44,6 @@ treat-requires c κs =
 pixels-requires : tie.Need-pixels-requires
 pixels-requires c κs = allowed (job-read (c .before .before .before .before .before .before .before .before .before .before))
 
-same-length : tie.Need-same-length
-same-length c = search needs
-
-same-length-2 : tie.Need-same-length-2
-same-length-2 c = search needs
-
-same-length-3 : tie.Need-same-length-3
-same-length-3 c = search needs
-
 returns : tie.Need-returns
 returns c =
     let g = c .before in
@@ -70,21 +52,6 @@ returns c =
     turned-back (a .tape .now) (a .samples .now) (a .weights .now) (a .flow .now) (bytes s) (g .got .given .0 .0)
     (g .got .given .0 .1 .0)
     (ap readAnswerOf (sym (g .got .given .1)) ∙ s .take-numbers .ensures .0)
-
-same-length-4 : tie.Need-same-length-4
-same-length-4 c = search needs
-
-same-length-5 : tie.Need-same-length-5
-same-length-5 c = search needs
-
-same-length-6 : tie.Need-same-length-6
-same-length-6 c = search needs
-
-same-length-7 : tie.Need-same-length-7
-same-length-7 c = search needs
-
-same-length-8 : tie.Need-same-length-8
-same-length-8 c = search needs
 
 returns-2 : tie.Need-returns-2
 returns-2 c =
@@ -121,18 +88,18 @@ pub answer-of-spec : {M : Type 1} → statement M
 answer-of-spec =
     tie.close
     (tie.spec
-    take-numbers-requires
-    enum-known-got
-    enum-known-got-2
+    (λ c κs. search needs)
+    (λ c. search needs)
+    (λ c. search needs)
     treat-requires
     pixels-requires
-    same-length
-    same-length-2
-    same-length-3
+    (λ c. search needs)
+    (λ c. search needs)
+    (λ c. search needs)
     returns
-    same-length-4
-    same-length-5
-    same-length-6
-    same-length-7
-    same-length-8
+    (λ c. search needs)
+    (λ c. search needs)
+    (λ c. search needs)
+    (λ c. search needs)
+    (λ c. search needs)
     returns-2)

@@ -16,15 +16,6 @@ use borrow.Author.Needs.{needs}
 use Rattle.job_take.proofs.count_job.Statement.{statement}
 use Rattle.job_take.proofs.count_job.Tie as tie
 
-answer-of-requires : tie.Need-answer-of-requires
-answer-of-requires c κs = search needs
-
-enum-known-a : tie.Need-enum-known-a
-enum-known-a c = search needs
-
-enum-known-a-2 : tie.Need-enum-known-a-2
-enum-known-a-2 c = search needs
-
 -- what the answer says of the tape, by its case
 answered : (c : tie.After-answer-of) {x : Answered} → c .answer-of .result ≡ x →
     let a = c .before .before .before .before .before .before .before .before .args in
@@ -48,40 +39,10 @@ counted-requires c κs =
       slackAllowed = omega (arith, same, ap (λ (n : ℕ). mostSlack * n) (given .pixels), given .slack);
     }
 
-same-length : tie.Need-same-length
-same-length c = search needs
-
-same-length-2 : tie.Need-same-length-2
-same-length-2 c = search needs
-
-same-length-3 : tie.Need-same-length-3
-same-length-3 c = search needs
-
-same-length-4 : tie.Need-same-length-4
-same-length-4 c = search needs
-
-same-length-5 : tie.Need-same-length-5
-same-length-5 c = search needs
-
 returns : tie.Need-returns
 returns c =
     let g = c .before in
     answered (g .before .before .before .before .before .before .before .before) (g .a .given .1)
-
-same-length-6 : tie.Need-same-length-6
-same-length-6 c = search needs
-
-same-length-7 : tie.Need-same-length-7
-same-length-7 c = search needs
-
-same-length-8 : tie.Need-same-length-8
-same-length-8 c = search needs
-
-same-length-9 : tie.Need-same-length-9
-same-length-9 c = search needs
-
-same-length-10 : tie.Need-same-length-10
-same-length-10 c = search needs
 
 returns-2 : tie.Need-returns-2
 returns-2 c =
@@ -103,19 +64,19 @@ pub count-job-spec : {M : Type 1} → statement M
 count-job-spec =
     tie.close
     (tie.spec
-    answer-of-requires
-    enum-known-a
-    enum-known-a-2
+    (λ c κs. search needs)
+    (λ c. search needs)
+    (λ c. search needs)
     counted-requires
-    same-length
-    same-length-2
-    same-length-3
-    same-length-4
-    same-length-5
+    (λ c. search needs)
+    (λ c. search needs)
+    (λ c. search needs)
+    (λ c. search needs)
+    (λ c. search needs)
     returns
-    same-length-6
-    same-length-7
-    same-length-8
-    same-length-9
-    same-length-10
+    (λ c. search needs)
+    (λ c. search needs)
+    (λ c. search needs)
+    (λ c. search needs)
+    (λ c. search needs)
     returns-2)

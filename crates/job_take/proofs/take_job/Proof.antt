@@ -12,18 +12,6 @@ use borrow.Author.Needs.{needs}
 use Rattle.job_take.proofs.take_job.Statement.{statement}
 use Rattle.job_take.proofs.take_job.Tie as tie
 
-scan-tape-requires : tie.Need-scan-tape-requires
-scan-tape-requires c κs = search needs
-
-enum-known-s : tie.Need-enum-known-s
-enum-known-s c = search needs
-
-too-short-requires : tie.Need-too-short-requires
-too-short-requires c κs = search needs
-
-enum-known-s-2 : tie.Need-enum-known-s-2
-enum-known-s-2 c = search needs
-
 -- where the scan stopped, by the case of its answer
 stopped : (c : tie.After-scan-tape) {x : Scanned} → c .scan-tape .result ≡ x → let a = c .before .before .before .args in
     StopsAt (a .bytes .now) (lentIn (length (a .samples .now)) (length (a .weights .now)) (length (a .flow .now))) x
@@ -69,21 +57,6 @@ returns-2 c =
     let st = stopped (g .before .before) (g .s .given .1) in
     stopped-refused _ _ (st .0) (st .1) refl (sym (c .before .too-short .ensures) ∙ c .if1 .left)
 
-same-length : tie.Need-same-length
-same-length c = search needs
-
-same-length-2 : tie.Need-same-length-2
-same-length-2 c = search needs
-
-same-length-3 : tie.Need-same-length-3
-same-length-3 c = search needs
-
-same-length-4 : tie.Need-same-length-4
-same-length-4 c = search needs
-
-same-length-5 : tie.Need-same-length-5
-same-length-5 c = search needs
-
 returns-3 : tie.Need-returns-3
 returns-3 c =
     let k = c .before .before .before .before .before .before in
@@ -96,18 +69,18 @@ pub take-job-spec : {M : Type 1} → statement M
 take-job-spec =
     tie.close
     (tie.spec
-    scan-tape-requires
-    enum-known-s
-    too-short-requires
-    enum-known-s-2
+    (λ c κs. search needs)
+    (λ c. search needs)
+    (λ c κs. search needs)
+    (λ c. search needs)
     add-size
     slice-aggregate-count-job
     count-job-requires
     returns
     returns-2
-    same-length
-    same-length-2
-    same-length-3
-    same-length-4
-    same-length-5
+    (λ c. search needs)
+    (λ c. search needs)
+    (λ c. search needs)
+    (λ c. search needs)
+    (λ c. search needs)
     returns-3)

@@ -29,15 +29,6 @@ module _ (t : Terms) (samples : ℕ) (weights flow : List ℤ) (image : ℕ) whe
       let n = accepted-rows rows h .1 .1 .1 .1 in
       no-longer (inr (length-passes 5 flow (pairsOf t) .0 (n .0))) (optional-passes 19 weights (pairsOf t) .0 (n .1 .0))
 
-judge-terms-requires : tie.Need-judge-terms-requires
-judge-terms-requires c κs = search needs
-
-judge-lengths-requires : tie.Need-judge-lengths-requires
-judge-lengths-requires c κs = search needs
-
-first-requires : tie.Need-first-requires
-first-requires c κs = search needs
-
 judged : (c : tie.After-first) → let a = c .before .before .before .args in
     c .first .result ≡ firstRefusal (rows (a .t) (a .samples) (a .weights .now) (a .flow .now) (a .image))
 judged c =
@@ -47,26 +38,14 @@ judged c =
     under-terms (a .t) (lengthRows (pixelsOf (a .t)) (pairsOf (a .t)) (a .samples) n m (a .image)) (c .first .ensures)
     (c .before .before .judge-terms .ensures) (λ h. lengths-due (a .t) h (a .samples) n m (a .image) (search needs))
 
-enum-told : tie.Need-enum-told
-enum-told c = search needs
-
-enum-told-2 : tie.Need-enum-told-2
-enum-told-2 c = search needs
-
 returns : tie.Need-returns
 returns c = stopped _ _ (judged (c .before .before)) (c .enum-told2 .given .1)
-
-judge-weights-requires : tie.Need-judge-weights-requires
-judge-weights-requires c κs = search needs
 
 judge-flow-requires : tie.Need-judge-flow-requires
 judge-flow-requires c κs =
     let first = c .before .before .before in
     let a = first .before .before .before .args in
     each-weighed (a .t) (a .samples) (a .weights .now) (a .flow .now) (a .image) (sym (judged first) ∙ c .before .enum-told .given .1)
-
-first-requires-2 : tie.Need-first-requires-2
-first-requires-2 c κs = search needs
 
 returns-2 : tie.Need-returns-2
 returns-2 c =
@@ -79,13 +58,13 @@ pub judge-check-spec : {M : Type 1} → statement M
 judge-check-spec =
     tie.close
     (tie.spec
-    judge-terms-requires
-    judge-lengths-requires
-    first-requires
-    enum-told
-    enum-told-2
+    (λ c κs. search needs)
+    (λ c κs. search needs)
+    (λ c κs. search needs)
+    (λ c. search needs)
+    (λ c. search needs)
     returns
-    judge-weights-requires
+    (λ c κs. search needs)
     judge-flow-requires
-    first-requires-2
+    (λ c κs. search needs)
     returns-2)

@@ -18,30 +18,6 @@ use borrow.Author.Needs.{needs}
 use Rattle.judges.proofs.judge_price.Statement.{statement}
 use Rattle.judges.proofs.judge_price.Tie as tie
 
-lengths-due-requires : tie.Need-lengths-due-requires
-lengths-due-requires c κs = search needs
-
-exact-or-none-requires : tie.Need-exact-or-none-requires
-exact-or-none-requires c κs = search needs
-
-exact-requires : tie.Need-exact-requires
-exact-requires c κs = search needs
-
-exact-requires-2 : tie.Need-exact-requires-2
-exact-requires-2 c κs = search needs
-
-first-requires : tie.Need-first-requires
-first-requires c κs = search needs
-
-first-requires-2 : tie.Need-first-requires-2
-first-requires-2 c κs = search needs
-
-judge-terms-requires : tie.Need-judge-terms-requires
-judge-terms-requires c κs = search needs
-
-first-requires-3 : tie.Need-first-requires-3
-first-requires-3 c κs = search needs
-
 -- the rows of the terms and of the lengths
 abbrev rows : Terms → ℕ → ℕ → ℕ → List Row
 rows t samples weights image =
@@ -64,23 +40,8 @@ judged c =
     (joined _ _ (last .first .ensures) (row-by (exactOrNoneRow _ (length (a .weights .now))) (weights .exact-or-none .ensures) pairs)
     (row-by (exactRow _ (length (a .image .now))) (image .exact2 .ensures) pixels)))
 
-enum-told : tie.Need-enum-told
-enum-told c = search needs
-
-enum-told-2 : tie.Need-enum-told-2
-enum-told-2 c = search needs
-
 returns : tie.Need-returns
 returns c = stopped _ _ (judged (c .before .before)) (c .enum-told2 .given .1)
-
-judge-weights-requires : tie.Need-judge-weights-requires
-judge-weights-requires c κs = search needs
-
-judge-image-requires : tie.Need-judge-image-requires
-judge-image-requires c κs = search needs
-
-first-requires-4 : tie.Need-first-requires-4
-first-requires-4 c κs = search needs
 
 returns-2 : tie.Need-returns-2
 returns-2 c =
@@ -97,18 +58,18 @@ pub judge-price-spec : {M : Type 1} → statement M
 judge-price-spec =
     tie.close
     (tie.spec
-    lengths-due-requires
-    exact-or-none-requires
-    exact-requires
-    exact-requires-2
-    first-requires
-    first-requires-2
-    judge-terms-requires
-    first-requires-3
-    enum-told
-    enum-told-2
+    (λ c κs. search needs)
+    (λ c κs. search needs)
+    (λ c κs. search needs)
+    (λ c κs. search needs)
+    (λ c κs. search needs)
+    (λ c κs. search needs)
+    (λ c κs. search needs)
+    (λ c κs. search needs)
+    (λ c. search needs)
+    (λ c. search needs)
     returns
-    judge-weights-requires
-    judge-image-requires
-    first-requires-4
+    (λ c κs. search needs)
+    (λ c κs. search needs)
+    (λ c κs. search needs)
     returns-2)

@@ -17,32 +17,8 @@ use borrow.Author.Needs.{needs}
 use Rattle.judges.proofs.judge_run.Statement.{statement}
 use Rattle.judges.proofs.judge_run.Tie as tie
 
-lengths-due-requires : tie.Need-lengths-due-requires
-lengths-due-requires c κs = search needs
-
 mul-work-due : tie.Need-mul-work-due
 mul-work-due c = record { fits = omega (arith, c .before .lengths-due .ensures .1, pairs-few (c .before .before .args .t)) }
-
-judge-lengths-requires : tie.Need-judge-lengths-requires
-judge-lengths-requires c κs = search needs
-
-exact-requires : tie.Need-exact-requires
-exact-requires c κs = search needs
-
-first-requires : tie.Need-first-requires
-first-requires c κs = search needs
-
-judge-terms-requires : tie.Need-judge-terms-requires
-judge-terms-requires c κs = search needs
-
-judge-rounds-requires : tie.Need-judge-rounds-requires
-judge-rounds-requires c κs = search needs
-
-first-requires-2 : tie.Need-first-requires-2
-first-requires-2 c κs = search needs
-
-first-requires-3 : tie.Need-first-requires-3
-first-requires-3 c κs = search needs
 
 -- the rows of the terms, of the rounds and of the lengths
 abbrev rows : Terms → ℕ → ℕ → ℕ → ℕ → ℕ → ℕ → List Row
@@ -67,17 +43,8 @@ judged c =
     (joined _ _ (all .first .ensures) (lengths-due t h (a .samples) (length (a .weights .now)) (a .flow) (a .image) (lengths .judge-lengths .ensures))
     (row-by (λ m. exactRow 7 (a .work) (2 * m)) (work .exact .ensures) (counted .lengths-due .ensures .1 ∙ pairs-due t h))))
 
-enum-told : tie.Need-enum-told
-enum-told c = search needs
-
-enum-told-2 : tie.Need-enum-told-2
-enum-told-2 c = search needs
-
 returns : tie.Need-returns
 returns c = stopped _ _ (judged (c .before .before)) (c .enum-told2 .given .1)
-
-judge-weights-requires : tie.Need-judge-weights-requires
-judge-weights-requires c κs = search needs
 
 returns-2 : tie.Need-returns-2
 returns-2 c = went-on _ _ (judged (c .before .before .before)) (c .before .enum-told .given .1) (c .judge-weights .ensures)
@@ -86,17 +53,17 @@ pub judge-run-spec : {M : Type 1} → statement M
 judge-run-spec =
     tie.close
     (tie.spec
-    lengths-due-requires
+    (λ c κs. search needs)
     mul-work-due
-    judge-lengths-requires
-    exact-requires
-    first-requires
-    judge-terms-requires
-    judge-rounds-requires
-    first-requires-2
-    first-requires-3
-    enum-told
-    enum-told-2
+    (λ c κs. search needs)
+    (λ c κs. search needs)
+    (λ c κs. search needs)
+    (λ c κs. search needs)
+    (λ c κs. search needs)
+    (λ c κs. search needs)
+    (λ c κs. search needs)
+    (λ c. search needs)
+    (λ c. search needs)
     returns
-    judge-weights-requires
+    (λ c κs. search needs)
     returns-2)

@@ -30,12 +30,6 @@ size-most c =
 sub-requires : tie.Need-sub-requires
 sub-requires c κs = rw (toZ-ofZ w32 _ (c .fits .now), toZ-ofZ w32 _ (c .fits .earlier)) (omega arith)
 
-magnitude-requires : tie.Need-magnitude-requires
-magnitude-requires c κs = search needs
-
-cast-size : tie.Need-cast-size
-cast-size c = search needs
-
 mul-natural : tie.Need-mul-natural
 mul-natural c = record { fits = omega (arith, product-most (c .magnitude .result) (c .before .before .args .m) (size-most c) (c .before .before .pre .2)) }
 
@@ -44,9 +38,6 @@ cast-natural c = record { fits = omega (arith, share-most (c .magnitude .result)
 
 natural-requires : tie.Need-natural-requires
 natural-requires c κs = omega (arith, share-most (c .magnitude .result) (c .before .before .args .m) (size-most c) (c .before .before .pre .2))
-
-less-requires : tie.Need-less-requires
-less-requires c κs = search needs
 
 -- the number is small, and so is what is added or taken away
 small : (c : tie.After-natural) → natAbs (toZ w32 (ofZ w32 (c .natural .result))) ≤ 130560
@@ -99,12 +90,12 @@ extrapolated-spec =
     tie.close
     (tie.spec
     sub-requires
-    magnitude-requires
-    cast-size
+    (λ c κs. search needs)
+    (λ c. search needs)
     mul-natural
     cast-natural
     natural-requires
-    less-requires
+    (λ c κs. search needs)
     sub-requires-2
     add-requires
     returns

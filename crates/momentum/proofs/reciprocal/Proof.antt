@@ -5,23 +5,8 @@ use Rattle.momentum.proofs.Reciprocals.{rest-small, high-most, low-most
 use Rattle.momentum.proofs.reciprocal.Statement.{statement}
 use Rattle.momentum.proofs.reciprocal.Tie as tie
 
-mul-high : tie.Need-mul-high
-mul-high c = search needs
-
-div-high : tie.Need-div-high
-div-high c = search needs
-
-mul-rest : tie.Need-mul-rest
-mul-rest c = search needs
-
-rem-rest : tie.Need-rem-rest
-rem-rest c = search needs
-
 mul-low : tie.Need-mul-low
 mul-low c = omega (arith, rest-small (c .args .a) (c .args .b) (c .pre .0) (c .pre .1))
-
-div-low : tie.Need-div-low
-div-low c = search needs
 
 mul-result : tie.Need-mul-result
 mul-result c = omega (arith, high-most (c .args .a) (c .args .b) (c .pre .0) (c .pre .1))
@@ -41,12 +26,12 @@ pub reciprocal-spec : {M : Type 1} → statement M
 reciprocal-spec =
     tie.close
     (tie.spec
-    mul-high
-    div-high
-    mul-rest
-    rem-rest
+    (λ c. search needs)
+    (λ c. search needs)
+    (λ c. search needs)
+    (λ c. search needs)
     mul-low
-    div-low
+    (λ c. search needs)
     mul-result
     add-result
     add-result-2

@@ -19,12 +19,6 @@ abbrev μ-loop : tie.MeasureT-loop
 loop-holds : tie.Need-loop-holds Inv-loop μ-loop
 loop-holds c = omega arith
 
-add-half : tie.Need-add-half Inv-loop μ-loop
-add-half c = omega arith
-
-add-middle : tie.Need-add-middle Inv-loop μ-loop
-add-middle c = omega arith
-
 mul-if1 : tie.Need-mul-if1 Inv-loop μ-loop
 mul-if1 c =
     let m : c .before .loop .low + (c .before .loop .reach + 1) / 2 ≤ 3221225472 = omega arith in
@@ -68,8 +62,8 @@ root-spec =
     Inv-loop
     μ-loop
     loop-holds
-    add-half
-    add-middle
+    (λ c. omega arith)
+    (λ c. omega arith)
     mul-if1
     loop-less
     loop-again

@@ -28,14 +28,8 @@ laid c =
     let n : length (take (c .loop .i) (a .bytes .now)) ≡ c .loop .i = length-take-le (c .loop .i) (a .bytes .now) (c .loop .inv .0) in
     (omega (arith, c .loop .inv .1 .behind), put-length (c .loop .inv .1) (omega (arith, c .loop .inv .0, c .before .before .before .pre)))
 
-shared-slice-read-put-byte : tie.Need-shared-slice-read-put-byte Inv-loop μ-loop
-shared-slice-read-put-byte c = omega arith
-
 put-byte-requires : tie.Need-put-byte-requires Inv-loop μ-loop
 put-byte-requires c κs = omega (arith, laid (c .before .before .before), c .before .before .before .before .before .before .pre, c .before .before .loop-test .taken)
-
-add-i : tie.Need-add-i Inv-loop μ-loop
-add-i c = omega arith
 
 loop-less : tie.Need-loop-less Inv-loop μ-loop
 loop-less c = omega arith
@@ -72,9 +66,9 @@ put-bytes-spec =
     Inv-loop
     μ-loop
     loop-holds
-    shared-slice-read-put-byte
+    (λ c. omega arith)
     put-byte-requires
-    add-i
+    (λ c. omega arith)
     loop-less
     loop-again
     same-length

@@ -29,9 +29,6 @@ fill-row-requires c κs =
     let l = c .before .before .loop in
     record { raster = same-raster (s .pre) (l .inv .1 .long); row-most = omega arith }
 
-add-r : tie.Need-add-r Inv-loop μ-loop
-add-r c = search needs
-
 loop-less : tie.Need-loop-less Inv-loop μ-loop
 loop-less c = search needs
 
@@ -65,7 +62,7 @@ fill-image-spec =
     μ-loop
     loop-holds
     fill-row-requires
-    add-r
+    (λ c. search needs)
     loop-less
     loop-again
     same-length

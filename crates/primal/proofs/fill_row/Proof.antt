@@ -8,26 +8,11 @@ use Rattle.primal.proofs.RowParts.{row-ends, row-limits, row-table, row
 use Rattle.primal.proofs.fill_row.Statement.{statement}
 use Rattle.primal.proofs.fill_row.Tie as tie
 
-sub-vertical : tie.Need-sub-vertical
-sub-vertical c = search needs
-
-mul-vertical : tie.Need-mul-vertical
-mul-vertical c = search needs
-
 mul-start : tie.Need-mul-start
 mul-start c = record { fits = omega (arith, row-ends (c .before .pre)) }
 
 add-end : tie.Need-add-end
 add-end c = record { fits = omega (arith, row-ends (c .before .pre)) }
-
-least-requires : tie.Need-least-requires
-least-requires c κs = search needs
-
-before-requires : tie.Need-before-requires
-before-requires c κs = search needs
-
-sub-across-start : tie.Need-sub-across-start
-sub-across-start c = search needs
 
 mul-across-start : tie.Need-mul-across-start
 mul-across-start c = record { fits = omega (arith, row-ends (c .before .before .before .pre)) }
@@ -35,29 +20,14 @@ mul-across-start c = record { fits = omega (arith, row-ends (c .before .before .
 add-across-start : tie.Need-add-across-start
 add-across-start c = record { fits = omega (arith, row-ends (c .before .before .before .pre)) }
 
-sub-across-end : tie.Need-sub-across-end
-sub-across-end c = search needs
-
 add-across-end : tie.Need-add-across-end
 add-across-end c = record { fits = omega (arith, row-ends (c .before .before .before .pre)) }
 
 mul-image-row : tie.Need-mul-image-row
 mul-image-row c = record { fits = omega (arith, row-ends (c .before .before .before .pre)) }
 
-sub-image-row : tie.Need-sub-image-row
-sub-image-row c = search needs
-
-part-image-row-start : tie.Need-part-image-row-start
-part-image-row-start c = search needs
-
 part-image-row-end : tie.Need-part-image-row-end
 part-image-row-end c = omega (arith, row-ends (c .before .before .before .pre))
-
-sub-image-row-2 : tie.Need-sub-image-row-2
-sub-image-row-2 c = search needs
-
-part-image-row-start-2 : tie.Need-part-image-row-start-2
-part-image-row-start-2 c = search needs
 
 part-image-row-end-2 : tie.Need-part-image-row-end-2
 part-image-row-end-2 c = omega (arith, row-ends (c .before .before .before .before .pre))
@@ -77,32 +47,17 @@ part-image-row-end-3 c = omega (arith, row-ends (c .before .before .before .befo
 mul-image-row-3 : tie.Need-mul-image-row-3
 mul-image-row-3 c = record { fits = omega (arith, row-ends (c .before .before .before .before .before .before .pre)) }
 
-sub-image-row-4 : tie.Need-sub-image-row-4
-sub-image-row-4 c = search needs
-
-part-image-row-start-4 : tie.Need-part-image-row-start-4
-part-image-row-start-4 c = search needs
-
 part-image-row-end-4 : tie.Need-part-image-row-end-4
 part-image-row-end-4 c = omega (arith, row-ends (c .before .before .before .before .before .before .pre))
 
 mul-image-row-4 : tie.Need-mul-image-row-4
 mul-image-row-4 c = record { fits = omega (arith, row-ends (c .before .before .before .before .before .before .before .pre)) }
 
-sub-image-row-5 : tie.Need-sub-image-row-5
-sub-image-row-5 c = search needs
-
-part-image-row-start-5 : tie.Need-part-image-row-start-5
-part-image-row-start-5 c = search needs
-
 part-image-row-end-5 : tie.Need-part-image-row-end-5
 part-image-row-end-5 c = omega (arith, row-ends (c .before .before .before .before .before .before .before .pre))
 
 image-row-requires : tie.Need-image-row-requires
 image-row-requires c κs = rw (c .before .before .before .before .before .before .least .ensures, c .before .before .before .before .before .before2 .ensures) (row-limits (c .before .before .before .before .before .before .before .before .pre))
-
-same-length : tie.Need-same-length
-same-length c = search needs
 
 returns : tie.Need-returns
 returns c =
@@ -114,36 +69,36 @@ pub fill-row-spec : {M : Type 1} → statement M
 fill-row-spec =
     tie.close
     (tie.spec
-    sub-vertical
-    mul-vertical
+    (λ c. search needs)
+    (λ c. search needs)
     mul-start
     add-end
-    least-requires
-    before-requires
-    sub-across-start
+    (λ c κs. search needs)
+    (λ c κs. search needs)
+    (λ c. search needs)
     mul-across-start
     add-across-start
-    sub-across-end
+    (λ c. search needs)
     add-across-end
     mul-image-row
-    sub-image-row
-    part-image-row-start
+    (λ c. search needs)
+    (λ c. search needs)
     part-image-row-end
-    sub-image-row-2
-    part-image-row-start-2
+    (λ c. search needs)
+    (λ c. search needs)
     part-image-row-end-2
     mul-image-row-2
     sub-image-row-3
     part-image-row-start-3
     part-image-row-end-3
     mul-image-row-3
-    sub-image-row-4
-    part-image-row-start-4
+    (λ c. search needs)
+    (λ c. search needs)
     part-image-row-end-4
     mul-image-row-4
-    sub-image-row-5
-    part-image-row-start-5
+    (λ c. search needs)
+    (λ c. search needs)
     part-image-row-end-5
     image-row-requires
-    same-length
+    (λ c. search needs)
     returns)

@@ -16,12 +16,6 @@ use Rattle.rounds.proofs.Passes.{fill-limits, grid-limits}
 use Rattle.quick.proofs.advance_round.Statement.{statement}
 use Rattle.quick.proofs.advance_round.Tie as tie
 
-cast-w : tie.Need-cast-w
-cast-w c = search needs
-
-cast-h : tie.Need-cast-h
-cast-h c = search needs
-
 -- a number ahead for each pair
 ahead-length : (s : tie.Start) → length (s .args .ahead .now) ≡ length (gridPairs (s .args .t .width) (s .args .t .height))
 ahead-length s = sym (s .pre .1 .same-length) ∙ s .pre .1 .lengths .flow-length
@@ -39,19 +33,10 @@ image-filled c =
     rw (toZ-ofZ w32 _ (s .fits .lower), toZ-ofZ w32 _ (s .fits .upper)) at (c .fill-image .ensures)
     ∙ image-is (s .args .t) (s .args .samples .now) (s .args .ahead .now) (s .pre .0)
 
-next-momentum-requires : tie.Need-next-momentum-requires
-next-momentum-requires c κs = search needs
-
-sub-reciprocal : tie.Need-sub-reciprocal
-sub-reciprocal c = search needs
-
 reciprocal-requires : tie.Need-reciprocal-requires
 reciprocal-requires c κs =
     let p = c .before .before .before .before .before .before .before .before .pre .1 in
     rw (c .next-momentum .ensures) (next-range _ (p .momentum-least) (p .momentum-most))
-
-natural-requires : tie.Need-natural-requires
-natural-requires c κs = search needs
 
 -- the factor, by the model's next T
 by-next : (c : tie.After-natural) →
@@ -84,12 +69,6 @@ advance-grid-requires c κs =
 same-length : tie.Need-same-length
 same-length c = search needs
 
-same-length-2 : tie.Need-same-length-2
-same-length-2 c = search needs
-
-same-length-3 : tie.Need-same-length-3
-same-length-3 c = search needs
-
 returns : tie.Need-returns
 returns c =
     let g = c .before .before in
@@ -113,15 +92,15 @@ pub advance-round-spec : {M : Type 1} → statement M
 advance-round-spec =
     tie.close
     (tie.spec
-    cast-w
-    cast-h
+    (λ c. search needs)
+    (λ c. search needs)
     fill-image-requires
-    next-momentum-requires
-    sub-reciprocal
+    (λ c κs. search needs)
+    (λ c. search needs)
     reciprocal-requires
-    natural-requires
+    (λ c κs. search needs)
     advance-grid-requires
     same-length
-    same-length-2
-    same-length-3
+    (λ c. search needs)
+    (λ c. search needs)
     returns)

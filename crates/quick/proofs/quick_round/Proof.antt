@@ -18,26 +18,11 @@ use Rattle.quick.proofs.quick_round.Tie as tie
 shorter : (c : tie.Start) → length (c .args .flow .now) ≤ length (c .args .work .now)
 shorter c = omega (arith, c .pre .1)
 
-slice-relend-prefix-copy : tie.Need-slice-relend-prefix-copy
-slice-relend-prefix-copy c = search needs
-
 slice-aggregate-copy : tie.Need-slice-aggregate-copy
 slice-aggregate-copy c = sym (length-take-le _ _ (shorter (c .before .before)))
 
 copy-requires : tie.Need-copy-requires
 copy-requires c κs = length-take-le _ _ (shorter (c .before .before .before))
-
-mul-advance-round : tie.Need-mul-advance-round
-mul-advance-round c = search needs
-
-sub-advance-round : tie.Need-sub-advance-round
-sub-advance-round c = search needs
-
-part-advance-round-start : tie.Need-part-advance-round-start
-part-advance-round-start c = search needs
-
-part-advance-round-end : tie.Need-part-advance-round-end
-part-advance-round-end c = search needs
 
 advance-round-requires : tie.Need-advance-round-requires
 advance-round-requires c κs =
@@ -49,15 +34,6 @@ advance-round-requires c κs =
           (sym (second-half (k .copy .last .0) (s .args .work .now) (ap length (k .copy .ensures))))
           (s .pre .2),
     )
-
-same-length : tie.Need-same-length
-same-length c = search needs
-
-same-length-2 : tie.Need-same-length-2
-same-length-2 c = search needs
-
-same-length-3 : tie.Need-same-length-3
-same-length-3 c = search needs
 
 returns : tie.Need-returns
 returns c =
@@ -78,15 +54,15 @@ pub quick-round-spec : {M : Type 1} → statement M
 quick-round-spec =
     tie.close
     (tie.spec
-    slice-relend-prefix-copy
+    (λ c. search needs)
     slice-aggregate-copy
     copy-requires
-    mul-advance-round
-    sub-advance-round
-    part-advance-round-start
-    part-advance-round-end
+    (λ c. search needs)
+    (λ c. search needs)
+    (λ c. search needs)
+    (λ c. search needs)
     advance-round-requires
-    same-length
-    same-length-2
-    same-length-3
+    (λ c. search needs)
+    (λ c. search needs)
+    (λ c. search needs)
     returns)

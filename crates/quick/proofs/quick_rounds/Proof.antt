@@ -15,12 +15,6 @@ Inv-loop t lower upper quick samples weights flow₀ image₀ work₀ momentum�
 abbrev μ-loop : tie.MeasureT-loop
 μ-loop t lower upper quick samples weights flow₀ image₀ work₀ momentum₀ k₀ flow image work momentum k = quick - k
 
-clear-requires : tie.Need-clear-requires Inv-loop μ-loop
-clear-requires c κs = search needs
-
-clear-requires-2 : tie.Need-clear-requires-2 Inv-loop μ-loop
-clear-requires-2 c κs = search needs
-
 loop-holds : tie.Need-loop-holds Inv-loop μ-loop
 loop-holds c =
     let s = c .before .before .before .before .before .before .before in
@@ -31,9 +25,6 @@ quick-round-requires c κs =
     let i = c .before .before .before .before in
     let s = i .before .before .before .before .before .before .before .before in
     (rw (toZ-ofZ w32 _ (s .fits .lower), toZ-ofZ w32 _ (s .fits .upper)) (s .pre .0), turned-work (i .loop .inv), turned-ready (i .loop .inv) (s .pre .1) (omega arith))
-
-add-k : tie.Need-add-k Inv-loop μ-loop
-add-k c = search needs
 
 loop-less : tie.Need-loop-less Inv-loop μ-loop
 loop-less c = search needs
@@ -76,11 +67,11 @@ quick-rounds-spec =
     (tie.spec
     Inv-loop
     μ-loop
-    clear-requires
-    clear-requires-2
+    (λ c κs. search needs)
+    (λ c κs. search needs)
     loop-holds
     quick-round-requires
-    add-k
+    (λ c. search needs)
     loop-less
     loop-again
     same-length

@@ -27,17 +27,11 @@ across s = s .args .height * (s .args .width - 1)
 abbrev term : tie.Start → ℕ → ℤ
 term s = gridVariation (s .args .width) (s .args .height) (weightAt (pos 1) (s .args .weights .now)) (s .args .image .now)
 
-sub-vertical : tie.Need-sub-vertical
-sub-vertical c = search needs
-
 mul-vertical : tie.Need-mul-vertical
 mul-vertical c = omega (arith, pairs-few (c .pre .raster))
 
 part-of-requires : tie.Need-part-of-requires
 part-of-requires c κs = part-there (c .pre .weights-limits) _ _ (omega (arith, grid-count (c .args .width) (c .args .height)))
-
-sub-part-of : tie.Need-sub-part-of
-sub-part-of c = search needs
 
 mul-part-of : tie.Need-mul-part-of
 mul-part-of c = omega (arith, pairs-few (c .before .pre .raster))
@@ -84,10 +78,10 @@ pub total-variation-grid-spec : {M : Type 1} → statement M
 total-variation-grid-spec =
     tie.close
     (tie.spec
-    sub-vertical
+    (λ c. search needs)
     mul-vertical
     part-of-requires
-    sub-part-of
+    (λ c. search needs)
     mul-part-of
     part-of-requires-2
     total-variation-requires

@@ -27,9 +27,6 @@ abbrev μ-loop : tie.MeasureT-loop
 abbrev term : tie.Start Inv-loop μ-loop → ℕ → ℤ
 term s = rowVariation (s .args .width) (weightAt (pos 1) (s .args .weights .now)) (s .args .image .now)
 
-sub-across : tie.Need-sub-across Inv-loop μ-loop
-sub-across c = search needs
-
 loop-holds : tie.Need-loop-holds Inv-loop μ-loop
 loop-holds c = (omega arith, omega arith, omega arith, sym (total-zero _))
 
@@ -49,12 +46,6 @@ add-total-variation c = omega (arith, image-part (c .before) .inside)
 
 mul-total-variation : tie.Need-mul-total-variation Inv-loop μ-loop
 mul-total-variation c = omega (arith, image-part (c .before) .inside, c .before .before .before .good .0 .1)
-
-sub-total-variation : tie.Need-sub-total-variation Inv-loop μ-loop
-sub-total-variation c = search needs
-
-part-total-variation-start : tie.Need-part-total-variation-start Inv-loop μ-loop
-part-total-variation-start c = search needs
 
 part-total-variation-end : tie.Need-part-total-variation-end Inv-loop μ-loop
 part-total-variation-end c = image-part (c .before) .inside
@@ -88,9 +79,6 @@ add-at c = let i = c .before .before .before in omega (arith, pairs-part i, pair
 add-start : tie.Need-add-start Inv-loop μ-loop
 add-start c = omega (arith, image-part (c .before .before .before) .inside)
 
-add-row : tie.Need-add-row Inv-loop μ-loop
-add-row c = search needs
-
 loop-less : tie.Need-loop-less Inv-loop μ-loop
 loop-less c = search needs
 
@@ -117,19 +105,19 @@ total-variation-rows-spec =
     (tie.spec
     Inv-loop
     μ-loop
-    sub-across
+    (λ c. search needs)
     loop-holds
     part-of-requires
     add-total-variation
     mul-total-variation
-    sub-total-variation
-    part-total-variation-start
+    (λ c. search needs)
+    (λ c. search needs)
     part-total-variation-end
     total-variation-requires
     add-sum
     add-at
     add-start
-    add-row
+    (λ c. search needs)
     loop-less
     loop-again
     returns)

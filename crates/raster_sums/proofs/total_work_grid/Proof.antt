@@ -42,9 +42,6 @@ module _ (s : tie.Start) where
   lower-part : Stretch (s .args .flow .now) (above s) (across s) (take (length (s .args .flow .now) - above s) (drop (above s) (s .args .flow .now)))
   lower-part = lent-rest _ _ _ pairs
 
-sub-vertical : tie.Need-sub-vertical
-sub-vertical c = search needs
-
 mul-vertical : tie.Need-mul-vertical
 mul-vertical c = omega (arith, above-most c)
 
@@ -64,9 +61,6 @@ sub-total-work-rows c = above-most (c .before .before)
 
 part-total-work-rows-start : tie.Need-part-total-work-rows-start
 part-total-work-rows-start c = above-most (c .before .before)
-
-part-total-work-rows-end : tie.Need-part-total-work-rows-end
-part-total-work-rows-end c = search needs
 
 total-work-rows-requires : tie.Need-total-work-rows-requires
 total-work-rows-requires c κs = let s = c .before .before .before in horizontal-work (s .pre) (lower-part s)
@@ -104,14 +98,14 @@ pub total-work-grid-spec : {M : Type 1} → statement M
 total-work-grid-spec =
     tie.close
     (tie.spec
-    sub-vertical
+    (λ c. search needs)
     mul-vertical
     slice-aggregate-total-work
     total-work-requires
     mul-total-work-rows
     sub-total-work-rows
     part-total-work-rows-start
-    part-total-work-rows-end
+    (λ c. search needs)
     total-work-rows-requires
     add-wide-requires
     returns)

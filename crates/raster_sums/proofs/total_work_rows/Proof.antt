@@ -29,9 +29,6 @@ abbrev μ-loop : tie.MeasureT-loop
 abbrev term : tie.Start Inv-loop μ-loop → ℕ → ℤ
 term s k = at (s .args .flow .now) k *ℤ rowFall (s .args .width) (s .args .image .now) k
 
-sub-across : tie.Need-sub-across Inv-loop μ-loop
-sub-across c = search needs
-
 loop-holds : tie.Need-loop-holds Inv-loop μ-loop
 loop-holds c = (omega arith, omega arith, omega arith, sym (total-zero _))
 
@@ -49,12 +46,6 @@ add-total-work c = omega (arith, flow-part c .inside)
 mul-total-work : tie.Need-mul-total-work Inv-loop μ-loop
 mul-total-work c = omega (arith, flow-part c .inside, c .before .before .good .0 .1)
 
-sub-total-work : tie.Need-sub-total-work Inv-loop μ-loop
-sub-total-work c = search needs
-
-part-total-work-start : tie.Need-part-total-work-start Inv-loop μ-loop
-part-total-work-start c = search needs
-
 part-total-work-end : tie.Need-part-total-work-end Inv-loop μ-loop
 part-total-work-end c = flow-part c .inside
 
@@ -63,12 +54,6 @@ add-total-work-2 c = omega (arith, image-part (c .before) .inside)
 
 mul-total-work-2 : tie.Need-mul-total-work-2 Inv-loop μ-loop
 mul-total-work-2 c = omega (arith, image-part (c .before) .inside, c .before .before .before .good .1 .0 .1)
-
-sub-total-work-2 : tie.Need-sub-total-work-2 Inv-loop μ-loop
-sub-total-work-2 c = search needs
-
-part-total-work-start-2 : tie.Need-part-total-work-start-2 Inv-loop μ-loop
-part-total-work-start-2 c = search needs
 
 part-total-work-end-2 : tie.Need-part-total-work-end-2 Inv-loop μ-loop
 part-total-work-end-2 c = image-part (c .before) .inside
@@ -102,9 +87,6 @@ add-at c = omega (arith, flow-part (c .before .before .before .before) .inside)
 add-start : tie.Need-add-start Inv-loop μ-loop
 add-start c = omega (arith, image-part (c .before .before .before .before) .inside)
 
-add-row : tie.Need-add-row Inv-loop μ-loop
-add-row c = search needs
-
 loop-less : tie.Need-loop-less Inv-loop μ-loop
 loop-less c = search needs
 
@@ -131,23 +113,23 @@ total-work-rows-spec =
     (tie.spec
     Inv-loop
     μ-loop
-    sub-across
+    (λ c. search needs)
     loop-holds
     add-total-work
     mul-total-work
-    sub-total-work
-    part-total-work-start
+    (λ c. search needs)
+    (λ c. search needs)
     part-total-work-end
     add-total-work-2
     mul-total-work-2
-    sub-total-work-2
-    part-total-work-start-2
+    (λ c. search needs)
+    (λ c. search needs)
     part-total-work-end-2
     total-work-requires
     add-wide-requires
     add-at
     add-start
-    add-row
+    (λ c. search needs)
     loop-less
     loop-again
     returns)

@@ -5,21 +5,6 @@ use borrow.Author.Needs.{needs}
 use Rattle.record_write.proofs.put_box.Statement.{statement}
 use Rattle.record_write.proofs.put_box.Tie as tie
 
-put-byte-requires : tie.Need-put-byte-requires
-put-byte-requires c κs = search needs
-
-put-two-requires : tie.Need-put-two-requires
-put-two-requires c κs = search needs
-
-put-byte-requires-2 : tie.Need-put-byte-requires-2
-put-byte-requires-2 c κs = search needs
-
-put-byte-requires-3 : tie.Need-put-byte-requires-3
-put-byte-requires-3 c κs = search needs
-
-same-length : tie.Need-same-length
-same-length c = search needs
-
 returns : tie.Need-returns
 returns c =
     put-then
@@ -30,9 +15,9 @@ pub put-box-spec : {M : Type 1} → statement M
 put-box-spec =
     tie.close
     (tie.spec
-    put-byte-requires
-    put-two-requires
-    put-byte-requires-2
-    put-byte-requires-3
-    same-length
+    (λ c κs. search needs)
+    (λ c κs. search needs)
+    (λ c κs. search needs)
+    (λ c κs. search needs)
+    (λ c. search needs)
     returns)

@@ -12,18 +12,6 @@ use borrow.Author.Needs.{needs}
 use Rattle.record_write.proofs.put_four.Statement.{statement}
 use Rattle.record_write.proofs.put_four.Tie as tie
 
-complement-of-requires : tie.Need-complement-of-requires
-complement-of-requires c κs = search needs
-
-put-two-requires : tie.Need-put-two-requires
-put-two-requires c κs = search needs
-
-put-two-requires-2 : tie.Need-put-two-requires-2
-put-two-requires-2 c κs = search needs
-
-same-length : tie.Need-same-length
-same-length c = search needs
-
 returns : tie.Need-returns
 returns c =
     let a = c .before .before .before .before .before .before .before .before .before .before .args in
@@ -36,4 +24,9 @@ returns c =
 pub put-four-spec : {M : Type 1} → statement M
 put-four-spec =
     tie.close
-    (tie.spec complement-of-requires put-two-requires put-two-requires-2 same-length returns)
+    (tie.spec
+    (λ c κs. search needs)
+    (λ c κs. search needs)
+    (λ c κs. search needs)
+    (λ c. search needs)
+    returns)

@@ -6,30 +6,6 @@ use borrow.Author.Needs.{needs}
 use Rattle.row_judges.proofs.judge_lengths.Statement.{statement}
 use Rattle.row_judges.proofs.judge_lengths.Tie as tie
 
-lengths-due-requires : tie.Need-lengths-due-requires
-lengths-due-requires c κs = search needs
-
-exact-requires : tie.Need-exact-requires
-exact-requires c κs = search needs
-
-exact-or-none-requires : tie.Need-exact-or-none-requires
-exact-or-none-requires c κs = search needs
-
-exact-requires-2 : tie.Need-exact-requires-2
-exact-requires-2 c κs = search needs
-
-exact-requires-3 : tie.Need-exact-requires-3
-exact-requires-3 c κs = search needs
-
-first-requires : tie.Need-first-requires
-first-requires c κs = search needs
-
-first-requires-2 : tie.Need-first-requires-2
-first-requires-2 c κs = search needs
-
-first-requires-3 : tie.Need-first-requires-3
-first-requires-3 c κs = search needs
-
 returns : tie.Need-returns
 returns c =
     let middle = c .before in
@@ -51,12 +27,12 @@ pub judge-lengths-spec : {M : Type 1} → statement M
 judge-lengths-spec =
     tie.close
     (tie.spec
-    lengths-due-requires
-    exact-requires
-    exact-or-none-requires
-    exact-requires-2
-    exact-requires-3
-    first-requires
-    first-requires-2
-    first-requires-3
+    (λ c κs. search needs)
+    (λ c κs. search needs)
+    (λ c κs. search needs)
+    (λ c κs. search needs)
+    (λ c κs. search needs)
+    (λ c κs. search needs)
+    (λ c κs. search needs)
+    (λ c κs. search needs)
     returns)

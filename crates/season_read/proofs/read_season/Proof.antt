@@ -23,12 +23,6 @@ Inv-loop buffer₀ samples₀ weights₀ flow₀ image₀ work₀ s₀ buffer sa
 abbrev μ-loop : tie.MeasureT-loop
 μ-loop buffer₀ samples₀ weights₀ flow₀ image₀ work₀ s₀ buffer samples weights flow image work s = left s
 
-fresh-requires : tie.Need-fresh-requires Inv-loop μ-loop
-fresh-requires c κs = search needs
-
-none-requires : tie.Need-none-requires Inv-loop μ-loop
-none-requires c κs = search needs
-
 loop-holds : tie.Need-loop-holds Inv-loop μ-loop
 loop-holds c =
     let a = c .before .before .before .before .args in
@@ -63,9 +57,6 @@ advance-requires c κs =
             };
       },
     )
-
-enum-known-n : tie.Need-enum-known-n Inv-loop μ-loop
-enum-known-n c = search needs
 
 -- what a step gives, by its case
 stepped : (c : tie.After-advance Inv-loop μ-loop) {x : Step} → c .advance .result ≡ x →
@@ -111,12 +102,6 @@ loop-again c =
     let l = v .before .before .before .before .before .before .before .before .before in
     (goes _ (l .loop .inv .0) (stepped v (g .n .given .1)), lengths v)
 
-enum-known-n-2 : tie.Need-enum-known-n-2 Inv-loop μ-loop
-enum-known-n-2 c = search needs
-
-end-of-requires : tie.Need-end-of-requires Inv-loop μ-loop
-end-of-requires c κs = search needs
-
 same-length : tie.Need-same-length Inv-loop μ-loop
 same-length c =
     lengths (c .before .before .before .before .before .before .before .before .before .before .before .before) .bufferLength
@@ -148,12 +133,6 @@ returns c =
     let l = v .before .before .before .before .before .before .before .before .before in
     stops _ (l .loop .inv .0) (c .end-of .ensures) (stepped v (g .n2 .given .1))
 
-enum-told : tie.Need-enum-told Inv-loop μ-loop
-enum-told c = search needs
-
-end-of-requires-2 : tie.Need-end-of-requires-2 Inv-loop μ-loop
-end-of-requires-2 c κs = search needs
-
 same-length-7 : tie.Need-same-length-7 Inv-loop μ-loop
 same-length-7 c = lengths (c .before .before .before .before .before .before .before .before .before .before .before) .bufferLength
 
@@ -174,9 +153,6 @@ same-length-12 c = lengths (c .before .before .before .before .before .before .b
 
 returns-2 : tie.Need-returns-2 Inv-loop μ-loop
 returns-2 c = fails _ (ap (λ (e : Ended). e .failed) (c .end-of2 .ensures))
-
-end-of-requires-3 : tie.Need-end-of-requires-3 Inv-loop μ-loop
-end-of-requires-3 c κs = search needs
 
 same-length-13 : tie.Need-same-length-13 Inv-loop μ-loop
 same-length-13 c = c .before .before .before .loop .inv .1 .bufferLength
@@ -205,15 +181,15 @@ read-season-spec =
     (tie.spec
     Inv-loop
     μ-loop
-    fresh-requires
-    none-requires
+    (λ c κs. search needs)
+    (λ c κs. search needs)
     loop-holds
     advance-requires
-    enum-known-n
+    (λ c. search needs)
     loop-less
     loop-again
-    enum-known-n-2
-    end-of-requires
+    (λ c. search needs)
+    (λ c κs. search needs)
     same-length
     same-length-2
     same-length-3
@@ -221,8 +197,8 @@ read-season-spec =
     same-length-5
     same-length-6
     returns
-    enum-told
-    end-of-requires-2
+    (λ c. search needs)
+    (λ c κs. search needs)
     same-length-7
     same-length-8
     same-length-9
@@ -230,7 +206,7 @@ read-season-spec =
     same-length-11
     same-length-12
     returns-2
-    end-of-requires-3
+    (λ c κs. search needs)
     same-length-13
     same-length-14
     same-length-15

@@ -23,12 +23,6 @@ use Rattle.steady.proofs.some_moves.Tie as tie
 flow-most : (c : tie.Start) → Within (2 ^ 20) (c .args .flow .now)
 flow-most c i = omega (arith, c .pre .1 .flow-most i)
 
-cast-w : tie.Need-cast-w
-cast-w c = search needs
-
-cast-h : tie.Need-cast-h
-cast-h c = search needs
-
 fill-image-requires : tie.Need-fill-image-requires
 fill-image-requires c κs =
     let s = c .before .before .before .before in
@@ -41,9 +35,6 @@ image-filled c =
     let s = c .before .before .before .before .before in
     rw (toZ-ofZ w32 _ (s .fits .lower), toZ-ofZ w32 _ (s .fits .upper)) at (c .fill-image .ensures)
     ∙ image-is (s .args .t) (s .args .samples .now) (s .args .flow .now) (s .pre .0)
-
-natural-requires : tie.Need-natural-requires
-natural-requires c κs = search needs
 
 first-moving-grid-requires : tie.Need-first-moving-grid-requires
 first-moving-grid-requires c κs =
@@ -71,15 +62,6 @@ answer-is c =
     rw (read w32 (n .ok), n .ensures, s .pre .1 .lengths .flow-length) at (c .first-moving-grid .ensures)
     ∙ ap (movingOf (count s)) (moving-is (s .args .t) (s .args .samples .now) (s .args .weights .now) (s .args .flow .now) (image-filled f) nearestEighth (s .pre .1 .pair-weights))
 
-enum-told : tie.Need-enum-told
-enum-told c = search needs
-
-enum-told-2 : tie.Need-enum-told-2
-enum-told-2 c = search needs
-
-same-length : tie.Need-same-length
-same-length c = search needs
-
 returns : tie.Need-returns
 returns c =
     let m = c .before .before in
@@ -88,9 +70,6 @@ returns c =
       image-filled f,
       sym (lt-ltb (first s) (count s) (one-moves (count s) (first s) (answer-is m) (c .enum-told .given .1))),
     )
-
-same-length-2 : tie.Need-same-length-2
-same-length-2 c = search needs
 
 returns-2 : tie.Need-returns-2
 returns-2 c =
@@ -105,14 +84,14 @@ pub some-moves-spec : {M : Type 1} → statement M
 some-moves-spec =
     tie.close
     (tie.spec
-    cast-w
-    cast-h
+    (λ c. search needs)
+    (λ c. search needs)
     fill-image-requires
-    natural-requires
+    (λ c κs. search needs)
     first-moving-grid-requires
-    enum-told
-    enum-told-2
-    same-length
+    (λ c. search needs)
+    (λ c. search needs)
+    (λ c. search needs)
     returns
-    same-length-2
+    (λ c. search needs)
     returns-2)

@@ -28,15 +28,6 @@ Inv-loop t lower upper allowance samples weights flow₀ image₀ w h weight mos
 abbrev μ-loop : tie.MeasureT-loop
 μ-loop t lower upper allowance samples weights flow₀ image₀ w h weight most moved₀ flow image moved = allowance - moved
 
-cast-w : tie.Need-cast-w Inv-loop μ-loop
-cast-w c = search needs
-
-cast-h : tie.Need-cast-h Inv-loop μ-loop
-cast-h c = search needs
-
-natural-requires : tie.Need-natural-requires Inv-loop μ-loop
-natural-requires c κs = search needs
-
 flow-most : (flow : List ℤ) → Within 65280 flow → Within (2 ^ 20) flow
 flow-most flow h i = omega (arith, h i)
 
@@ -138,9 +129,9 @@ steady-rounds-spec =
     (tie.spec
     Inv-loop
     μ-loop
-    cast-w
-    cast-h
-    natural-requires
+    (λ c. search needs)
+    (λ c. search needs)
+    (λ c κs. search needs)
     loop-holds
     some-moves-requires
     same-length

@@ -8,45 +8,6 @@ use Rattle.steps.proofs.Rows.{judged-entry}
 use Rattle.steps.proofs.take_entry.Statement.{statement}
 use Rattle.steps.proofs.take_entry.Tie as tie
 
-enum-told : tie.Need-enum-told
-enum-told c = search needs
-
-enum-known-entry : tie.Need-enum-known-entry
-enum-known-entry c = search needs
-
-take-size-requires : tie.Need-take-size-requires
-take-size-requires c κs = search needs
-
-enum-known-entry-2 : tie.Need-enum-known-entry-2
-enum-known-entry-2 c = search needs
-
-take-weight-requires : tie.Need-take-weight-requires
-take-weight-requires c κs = search needs
-
-enum-known-entry-3 : tie.Need-enum-known-entry-3
-enum-known-entry-3 c = search needs
-
-take-rounds-requires : tie.Need-take-rounds-requires
-take-rounds-requires c κs = search needs
-
-enum-told-2 : tie.Need-enum-told-2
-enum-told-2 c = search needs
-
-add-now : tie.Need-add-now
-add-now c = search needs
-
-enum-told-3 : tie.Need-enum-told-3
-enum-told-3 c = search needs
-
-add-now-2 : tie.Need-add-now-2
-add-now-2 c = search needs
-
-enum-known-entry-4 : tie.Need-enum-known-entry-4
-enum-known-entry-4 c = search needs
-
-take-pair-weight-requires : tie.Need-take-pair-weight-requires
-take-pair-weight-requires c κs = search needs
-
 -- the step of the record that the arm knows
 known : (c : tie.Start) {e : Entry} → c .args .entry ≡ e → judgedEntry (c .args .t) e (c .args .next) (c .args .at) (c .args .lent) ≡ judgedEntry (c .args .t) (c .args .entry) (c .args .next) (c .args .at) (c .args .lent)
 known c h = ap (λ (e : Entry). judgedEntry (c .args .t) e (c .args .next) (c .args .at) (c .args .lent)) (sym h)
@@ -84,19 +45,19 @@ pub take-entry-spec : {M : Type 1} → statement M
 take-entry-spec =
     tie.close
     (tie.spec
-    enum-told
-    enum-known-entry
-    take-size-requires
-    enum-known-entry-2
-    take-weight-requires
-    enum-known-entry-3
-    take-rounds-requires
-    enum-told-2
-    add-now
-    enum-told-3
-    add-now-2
-    enum-known-entry-4
-    take-pair-weight-requires
+    (λ c. search needs)
+    (λ c. search needs)
+    (λ c κs. search needs)
+    (λ c. search needs)
+    (λ c κs. search needs)
+    (λ c. search needs)
+    (λ c κs. search needs)
+    (λ c. search needs)
+    (λ c. search needs)
+    (λ c. search needs)
+    (λ c. search needs)
+    (λ c. search needs)
+    (λ c κs. search needs)
     returns
     returns-2
     returns-3

@@ -16,9 +16,6 @@ use Rattle.steps.proofs.Rows.{judged-entry}
 use Rattle.steps.proofs.take_size.Statement.{statement}
 use Rattle.steps.proofs.take_size.Tie as tie
 
-size-allowed-requires : tie.Need-size-allowed-requires
-size-allowed-requires c κs = search needs
-
 returns : tie.Need-returns
 returns c =
     let a = c .before .before .args in
@@ -72,4 +69,10 @@ returns-3 c =
 pub take-size-spec : {M : Type 1} → statement M
 take-size-spec =
     tie.close
-    (tie.spec size-allowed-requires returns pixels-requires pairs-requires returns-2 returns-3)
+    (tie.spec
+    (λ c κs. search needs)
+    returns
+    pixels-requires
+    pairs-requires
+    returns-2
+    returns-3)

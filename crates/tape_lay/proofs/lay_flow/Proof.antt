@@ -28,19 +28,10 @@ abbrev μ-loop : tie.MeasureT-loop
 loop-holds : tie.Need-loop-holds Inv-loop μ-loop
 loop-holds c = laid-none _ _ _ _ _ _
 
-mul-t6 : tie.Need-mul-t6 Inv-loop μ-loop
-mul-t6 c = search needs
-
-shared-slice-copy-out-t11 : tie.Need-shared-slice-copy-out-t11 Inv-loop μ-loop
-shared-slice-copy-out-t11 c = omega arith
-
 put-record-requires : tie.Need-put-record-requires Inv-loop μ-loop
 put-record-requires c κs =
     let s = c .before .before .before in
     laid-room _ _ _ _ _ _ (s .before .before .pre) (s .loop .inv) (c .before .before .loop-test .taken)
-
-add-j : tie.Need-add-j Inv-loop μ-loop
-add-j c = omega arith
 
 loop-less : tie.Need-loop-less Inv-loop μ-loop
 loop-less c = omega arith
@@ -67,10 +58,10 @@ lay-flow-spec =
     Inv-loop
     μ-loop
     loop-holds
-    mul-t6
-    shared-slice-copy-out-t11
+    (λ c. search needs)
+    (λ c. omega arith)
     put-record-requires
-    add-j
+    (λ c. omega arith)
     loop-less
     loop-again
     same-length

@@ -5,18 +5,6 @@ use borrow.Author.Needs.{needs}
 use Rattle.tape_lay.proofs.lay_header.Statement.{statement}
 use Rattle.tape_lay.proofs.lay_header.Tie as tie
 
-put-record-requires : tie.Need-put-record-requires
-put-record-requires c κs = search needs
-
-put-record-requires-2 : tie.Need-put-record-requires-2
-put-record-requires-2 c κs = search needs
-
-put-record-requires-3 : tie.Need-put-record-requires-3
-put-record-requires-3 c κs = search needs
-
-same-length : tie.Need-same-length
-same-length c = search needs
-
 returns : tie.Need-returns
 returns c =
     put-then (put-then (c .before .before .before .before .before .before .before .before .before .before .put-record .ensures) (c .before .before .before .before .before .before .put-record2 .ensures) (omega arith)) (c .before .before .put-record3 .ensures) (omega arith)
@@ -24,4 +12,9 @@ returns c =
 pub lay-header-spec : {M : Type 1} → statement M
 lay-header-spec =
     tie.close
-    (tie.spec put-record-requires put-record-requires-2 put-record-requires-3 same-length returns)
+    (tie.spec
+    (λ c κs. search needs)
+    (λ c κs. search needs)
+    (λ c κs. search needs)
+    (λ c. search needs)
+    returns)

@@ -22,16 +22,10 @@ abbrev μ-loop : tie.MeasureT-loop
 loop-holds : tie.Need-loop-holds Inv-loop μ-loop
 loop-holds c = laid-none _ _ _ _ _ _
 
-shared-slice-read-t11 : tie.Need-shared-slice-read-t11 Inv-loop μ-loop
-shared-slice-read-t11 c = omega arith
-
 put-record-requires : tie.Need-put-record-requires Inv-loop μ-loop
 put-record-requires c κs =
     let s = c .before .before .before in
     laid-room _ _ _ _ _ _ (s .before .before .before .pre) (s .loop .inv) (c .before .before .loop-test .taken)
-
-add-i : tie.Need-add-i Inv-loop μ-loop
-add-i c = omega arith
 
 loop-less : tie.Need-loop-less Inv-loop μ-loop
 loop-less c = omega arith
@@ -55,9 +49,9 @@ lay-samples-spec =
     Inv-loop
     μ-loop
     loop-holds
-    shared-slice-read-t11
+    (λ c. omega arith)
     put-record-requires
-    add-i
+    (λ c. omega arith)
     loop-less
     loop-again
     same-length

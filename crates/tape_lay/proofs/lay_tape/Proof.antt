@@ -45,9 +45,6 @@ put-record-requires c κs =
     let headed = sampled .before .before .before .before in
     omega (arith, sizes (headed .before .before .before))
 
-same-length : tie.Need-same-length
-same-length c = search needs
-
 returns : tie.Need-returns
 returns c =
     let flowed = c .before .before .before .before .before .before in
@@ -69,5 +66,5 @@ lay-tape-spec =
     lay-weights-requires
     lay-flow-requires
     put-record-requires
-    same-length
+    (λ c. search needs)
     returns)

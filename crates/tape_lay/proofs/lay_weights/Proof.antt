@@ -28,22 +28,10 @@ abbrev μ-loop : tie.MeasureT-loop
 loop-holds : tie.Need-loop-holds Inv-loop μ-loop
 loop-holds c = laid-none _ _ _ _ _ _
 
-mul-magnitude : tie.Need-mul-magnitude Inv-loop μ-loop
-mul-magnitude c = search needs
-
-shared-slice-copy-out-magnitude : tie.Need-shared-slice-copy-out-magnitude Inv-loop μ-loop
-shared-slice-copy-out-magnitude c = omega arith
-
-magnitude-requires : tie.Need-magnitude-requires Inv-loop μ-loop
-magnitude-requires c κs = search needs
-
 put-record-requires : tie.Need-put-record-requires Inv-loop μ-loop
 put-record-requires c κs =
     let s = c .before .before .before .before in
     laid-room _ _ _ _ _ _ (s .before .before .pre) (s .loop .inv) (c .before .before .before .loop-test .taken)
-
-add-j : tie.Need-add-j Inv-loop μ-loop
-add-j c = omega arith
 
 loop-less : tie.Need-loop-less Inv-loop μ-loop
 loop-less c = omega arith
@@ -71,11 +59,11 @@ lay-weights-spec =
     Inv-loop
     μ-loop
     loop-holds
-    mul-magnitude
-    shared-slice-copy-out-magnitude
-    magnitude-requires
+    (λ c. search needs)
+    (λ c. omega arith)
+    (λ c κs. search needs)
     put-record-requires
-    add-j
+    (λ c. omega arith)
     loop-less
     loop-again
     same-length

@@ -33,18 +33,6 @@ by-share : (t : Totals) (pixels : ℕ) {s other : Share} {p : Peak} → s ≡ ot
 by-share t pixels {s} {other} e g =
     ap₂ (summed t pixels) e (g ∙ ap (λ (x : Share). peakOf (t .jobs) (t .largest) (t .first) (x .slack)) e)
 
-share-of-requires : tie.Need-share-of-requires
-share-of-requires c κs = search needs
-
-peak-with-requires : tie.Need-peak-with-requires
-peak-with-requires c κs = search needs
-
-add-t6 : tie.Need-add-t6
-add-t6 c = search needs
-
-add-t8 : tie.Need-add-t8
-add-t8 c = search needs
-
 -- each way of ending adds at most 1, and the slack leaves the total below 2 ^ 64
 fit : (c : tie.After-share-of) → let t = c .before .args .t in let s = c .share-of .result in
     (t .settled + s .settled < 65536)
@@ -87,10 +75,10 @@ pub counted-spec : {M : Type 1} → statement M
 counted-spec =
     tie.close
     (tie.spec
-    share-of-requires
-    peak-with-requires
-    add-t6
-    add-t8
+    (λ c κs. search needs)
+    (λ c κs. search needs)
+    (λ c. search needs)
+    (λ c. search needs)
     add-t9
     add-t10
     add-t11

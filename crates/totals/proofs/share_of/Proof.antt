@@ -11,18 +11,6 @@ use Rattle.totals.proofs.share_of.Tie as tie
 abbrev added : Answer → Share
 added a = shareOf (answerOf a)
 
-enum-told : tie.Need-enum-told
-enum-told c = search needs
-
-enum-known-answer : tie.Need-enum-known-answer
-enum-known-answer c = search needs
-
-enum-known-answer-2 : tie.Need-enum-known-answer-2
-enum-known-answer-2 c = search needs
-
-enum-known-answer-3 : tie.Need-enum-known-answer-3
-enum-known-answer-3 c = search needs
-
 returns : tie.Need-returns
 returns c = ap added (sym (c .enum-told .given .1))
 
@@ -39,10 +27,10 @@ pub share-of-spec : {M : Type 1} → statement M
 share-of-spec =
     tie.close
     (tie.spec
-    enum-told
-    enum-known-answer
-    enum-known-answer-2
-    enum-known-answer-3
+    (λ c. search needs)
+    (λ c. search needs)
+    (λ c. search needs)
+    (λ c. search needs)
     returns
     returns-2
     returns-3

@@ -37,9 +37,6 @@ slice-read-buffer c = omega (arith, long (c .before .before), c .before .before 
 slice-write-buffer : tie.Need-slice-write-buffer Inv-loop μ-loop
 slice-write-buffer c = omega (arith, long (c .before .before), c .before .before .before .pre)
 
-add-i : tie.Need-add-i Inv-loop μ-loop
-add-i c = omega arith
-
 loop-less : tie.Need-loop-less Inv-loop μ-loop
 loop-less c = omega arith
 
@@ -72,7 +69,7 @@ move-to-front-spec =
     add-buffer
     slice-read-buffer
     slice-write-buffer
-    add-i
+    (λ c. omega arith)
     loop-less
     loop-again
     same-length

@@ -13,27 +13,6 @@ use Rattle.window.proofs.Buffers.{grown}
 use Rattle.window.proofs.read_more.Statement.{statement}
 use Rattle.window.proofs.read_more.Tie as tie
 
-sub-part : tie.Need-sub-part
-sub-part c = search needs
-
-part-part-start : tie.Need-part-part-start
-part-part-start c = search needs
-
-part-part-end : tie.Need-part-part-end
-part-part-end c = search needs
-
-read-requires : tie.Need-read-requires
-read-requires c κs = search needs
-
-count-requires : tie.Need-count-requires
-count-requires c κs = search needs
-
-add-t9 : tie.Need-add-t9
-add-t9 c = search needs
-
-same-length : tie.Need-same-length
-same-length c = search needs
-
 returns : tie.Need-returns
 returns c =
     let s = c .before .before .before .before .before .before .before .before .before .before in
@@ -54,11 +33,11 @@ pub read-more-spec : {M : Type 1} → statement M
 read-more-spec =
     tie.close
     (tie.spec
-    sub-part
-    part-part-start
-    part-part-end
-    read-requires
-    count-requires
-    add-t9
-    same-length
+    (λ c. search needs)
+    (λ c. search needs)
+    (λ c. search needs)
+    (λ c κs. search needs)
+    (λ c κs. search needs)
+    (λ c. search needs)
+    (λ c. search needs)
     returns)

@@ -13,21 +13,6 @@ use borrow.Author.Needs.{needs}
 use Rattle.answer_text.proofs.answer.put_accepted.Statement.{statement}
 use Rattle.answer_text.proofs.answer.put_accepted.Tie as tie
 
-put-figures-requires : tie.Need-put-figures-requires
-put-figures-requires c κs = search needs
-
-cast-put-image : tie.Need-cast-put-image
-cast-put-image c = search needs
-
-cast-put-image-2 : tie.Need-cast-put-image-2
-cast-put-image-2 c = search needs
-
-put-image-requires : tie.Need-put-image-requires
-put-image-requires c κs = search needs
-
-same-length : tie.Need-same-length
-same-length c = search needs
-
 returns : tie.Need-returns
 unfolding imageText
 returns c =
@@ -42,9 +27,9 @@ pub put-accepted-spec : {M : Type 1} → statement M
 put-accepted-spec =
     tie.close
     (tie.spec
-    put-figures-requires
-    cast-put-image
-    cast-put-image-2
-    put-image-requires
-    same-length
+    (λ c κs. search needs)
+    (λ c. search needs)
+    (λ c. search needs)
+    (λ c κs. search needs)
+    (λ c. search needs)
     returns)

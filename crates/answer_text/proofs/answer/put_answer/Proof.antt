@@ -13,51 +13,12 @@ use borrow.Author.Needs.{needs}
 use Rattle.answer_text.proofs.answer.put_answer.Statement.{statement}
 use Rattle.answer_text.proofs.answer.put_answer.Tie as tie
 
-enum-known-a : tie.Need-enum-known-a
-enum-known-a c = search needs
-
-put-refusal-requires : tie.Need-put-refusal-requires
-put-refusal-requires c κs = search needs
-
-enum-known-a-2 : tie.Need-enum-known-a-2
-enum-known-a-2 c = search needs
-
-slice-aggregate-put-accepted : tie.Need-slice-aggregate-put-accepted
-slice-aggregate-put-accepted c = search needs
-
-put-accepted-requires : tie.Need-put-accepted-requires
-put-accepted-requires c κs = search needs
-
-enum-known-a-3 : tie.Need-enum-known-a-3
-enum-known-a-3 c = search needs
-
-slice-aggregate-put-accepted-2 : tie.Need-slice-aggregate-put-accepted-2
-slice-aggregate-put-accepted-2 c = search needs
-
-put-accepted-requires-2 : tie.Need-put-accepted-requires-2
-put-accepted-requires-2 c κs = search needs
-
-enum-known-a-4 : tie.Need-enum-known-a-4
-enum-known-a-4 c = search needs
-
-slice-aggregate-put-accepted-3 : tie.Need-slice-aggregate-put-accepted-3
-slice-aggregate-put-accepted-3 c = search needs
-
-put-accepted-requires-3 : tie.Need-put-accepted-requires-3
-put-accepted-requires-3 c κs = search needs
-
-same-length : tie.Need-same-length
-same-length c = search needs
-
 returns : tie.Need-returns
 unfolding answerText
 returns c =
     let start = c .before .before .before .before .before .before .before .before in
     put-as (ap (λ (a : Answer). answerText (answerOf a) (start .args .t) (start .args .image .now)) (sym (c .before .before .before .before .before .a .given .1)))
     (c .before .before .put-refusal .ensures)
-
-same-length-2 : tie.Need-same-length-2
-same-length-2 c = search needs
 
 returns-2 : tie.Need-returns-2
 unfolding ascii
@@ -70,9 +31,6 @@ returns-2 c =
     ∙ ap (λ (x : Answer). answerText (answerOf x) (a .t) (a .image .now)) (sym (told .before .a2 .given .1)))
     (c .before .before .put-accepted .ensures)
 
-same-length-3 : tie.Need-same-length-3
-same-length-3 c = search needs
-
 returns-3 : tie.Need-returns-3
 unfolding ascii
 returns-3 c =
@@ -83,9 +41,6 @@ returns-3 c =
     (accepted-text (a .t) (a .image .now) (v .0) (pos (v .1 .0)) (v .1 .1 .0) (pos (v .1 .1 .1 .0)) (read w64 (told .known-told3 .given .1 .1 .0 .1)) has-settled
     ∙ ap (λ (x : Answer). answerText (answerOf x) (a .t) (a .image .now)) (sym (told .before .a3 .given .1)))
     (c .before .before .put-accepted2 .ensures)
-
-same-length-4 : tie.Need-same-length-4
-same-length-4 c = search needs
 
 returns-4 : tie.Need-returns-4
 unfolding ascii
@@ -102,22 +57,22 @@ pub put-answer-spec : {M : Type 1} → statement M
 put-answer-spec =
     tie.close
     (tie.spec
-    enum-known-a
-    put-refusal-requires
-    enum-known-a-2
-    slice-aggregate-put-accepted
-    put-accepted-requires
-    enum-known-a-3
-    slice-aggregate-put-accepted-2
-    put-accepted-requires-2
-    enum-known-a-4
-    slice-aggregate-put-accepted-3
-    put-accepted-requires-3
-    same-length
+    (λ c. search needs)
+    (λ c κs. search needs)
+    (λ c. search needs)
+    (λ c. search needs)
+    (λ c κs. search needs)
+    (λ c. search needs)
+    (λ c. search needs)
+    (λ c κs. search needs)
+    (λ c. search needs)
+    (λ c. search needs)
+    (λ c κs. search needs)
+    (λ c. search needs)
     returns
-    same-length-2
+    (λ c. search needs)
     returns-2
-    same-length-3
+    (λ c. search needs)
     returns-3
-    same-length-4
+    (λ c. search needs)
     returns-4)

@@ -54,9 +54,6 @@ put-row-requires c κs =
       omega (arith, below (suc (s .loop .row)) (a .height) (22 * a .width + 1) n, s .loop .inv .2, s .before .before .pre .1, kept s),
     )
 
-add-row : tie.Need-add-row Inv-loop μ-loop
-add-row c = omega arith
-
 loop-less : tie.Need-loop-less Inv-loop μ-loop
 loop-less c = omega arith
 
@@ -93,7 +90,7 @@ put-image-spec =
     loop-holds
     mul-put-row
     put-row-requires
-    add-row
+    (λ c. omega arith)
     loop-less
     loop-again
     same-length

@@ -38,20 +38,11 @@ kept c = put-length (c .loop .inv .1) (omega (arith, c .loop .inv, c .before .be
 loop-holds : tie.Need-loop-holds Inv-loop μ-loop
 loop-holds c = (zero-le, chain-start _, omega arith)
 
-add-put-value : tie.Need-add-put-value Inv-loop μ-loop
-add-put-value c = search needs
-
-mul-put-value : tie.Need-mul-put-value Inv-loop μ-loop
-mul-put-value c = search needs
-
 shared-slice-copy-out-put-value : tie.Need-shared-slice-copy-out-put-value Inv-loop μ-loop
 shared-slice-copy-out-put-value c = omega (arith, c .before .before .before .before .pre)
 
 put-value-requires : tie.Need-put-value-requires Inv-loop μ-loop
 put-value-requires c κs = omega (arith, kept (c .before .before .before), c .before .before .before .loop .inv, c .before .before .before .before .before .pre)
-
-add-column : tie.Need-add-column Inv-loop μ-loop
-add-column c = omega arith
 
 loop-less : tie.Need-loop-less Inv-loop μ-loop
 loop-less c = omega arith
@@ -94,11 +85,11 @@ put-row-spec =
     Inv-loop
     μ-loop
     loop-holds
-    add-put-value
-    mul-put-value
+    (λ c. search needs)
+    (λ c. search needs)
     shared-slice-copy-out-put-value
     put-value-requires
-    add-column
+    (λ c. omega arith)
     loop-less
     loop-again
     put-byte-requires

@@ -18,21 +18,6 @@ use borrow.Author.Needs.{needs}
 use Rattle.answer_text.proofs.image.put_value.Statement.{statement}
 use Rattle.answer_text.proofs.image.put_value.Tie as tie
 
-wide-requires : tie.Need-wide-requires
-wide-requires c κs = search needs
-
-put-signed-requires : tie.Need-put-signed-requires
-put-signed-requires c κs = search needs
-
-wide-requires-2 : tie.Need-wide-requires-2
-wide-requires-2 c κs = search needs
-
-put-signed-field-requires : tie.Need-put-signed-field-requires
-put-signed-field-requires c κs = search needs
-
-same-length : tie.Need-same-length
-same-length c = search needs
-
 -- the value, as the callee reads it
 module _ {r z : ℤ} (ok : mag r < 2 ^ hbits w64) (is : r ≡ toZ w32 (ofZ w32 z)) (fits : SFits w32 z) where
   widened : toZ w64 (ofZ w64 r) ≡ z
@@ -48,9 +33,6 @@ returns c =
       omega arith,
     )
 
-same-length-2 : tie.Need-same-length-2
-same-length-2 c = search needs
-
 returns-2 : tie.Need-returns-2
 returns-2 c =
     let s = c .before .before .before in
@@ -65,11 +47,11 @@ pub put-value-spec : {M : Type 1} → statement M
 put-value-spec =
     tie.close
     (tie.spec
-    wide-requires
-    put-signed-requires
-    wide-requires-2
-    put-signed-field-requires
-    same-length
+    (λ c κs. search needs)
+    (λ c κs. search needs)
+    (λ c κs. search needs)
+    (λ c κs. search needs)
+    (λ c. search needs)
     returns
-    same-length-2
+    (λ c. search needs)
     returns-2)

@@ -19,12 +19,6 @@ use Rattle.figures.proofs.Objectives.{figured}
 use Rattle.calls.proofs.check.check.Statement.{statement}
 use Rattle.calls.proofs.check.check.Tie as tie
 
-judge-check-requires : tie.Need-judge-check-requires
-judge-check-requires c κs = search needs
-
-enum-known-verdict : tie.Need-enum-known-verdict
-enum-known-verdict c = search needs
-
 returns : tie.Need-returns
 unfolding checkVerdict
 returns c =
@@ -38,9 +32,6 @@ returns c =
     let e = sym (check-answer t b o f x h) in
     let g = sym (check-image t b o f x h) in
     (e, (g, (told e (check-number t b o f x), check-demand t b o f x e g)))
-
-enum-told : tie.Need-enum-told
-enum-told c = search needs
 
 -- past the verdict
 accepted : (c : tie.After-enum-told) → let s = c .before .before .before .before in
@@ -57,18 +48,6 @@ feasible : (c : tie.After-enum-told) → let s = c .before .before .before .befo
 feasible c =
     let s = c .before .before .before .before in
     check-feasible (s .args .t) (s .args .samples .now) (s .args .weights .now) (s .args .flow .now) (s .args .image .now) (facts c)
-
-cast-w : tie.Need-cast-w
-cast-w c = search needs
-
-cast-h : tie.Need-cast-h
-cast-h c = search needs
-
-low-end-requires : tie.Need-low-end-requires
-low-end-requires c κs = search needs
-
-high-end-requires : tie.Need-high-end-requires
-high-end-requires c κs = search needs
 
 fill-image-requires : tie.Need-fill-image-requires
 fill-image-requires c κs =
@@ -110,9 +89,6 @@ of-flow-requires c κs =
       image = filled i;
     }
 
-same-length : tie.Need-same-length
-same-length c = search needs
-
 returns-2 : tie.Need-returns-2
 returns-2 c =
     let r = c .before in
@@ -135,15 +111,15 @@ pub check-spec : {M : Type 1} → statement M
 check-spec =
     tie.close
     (tie.spec
-    judge-check-requires
-    enum-known-verdict
+    (λ c κs. search needs)
+    (λ c. search needs)
     returns
-    enum-told
-    cast-w
-    cast-h
-    low-end-requires
-    high-end-requires
+    (λ c. search needs)
+    (λ c. search needs)
+    (λ c. search needs)
+    (λ c κs. search needs)
+    (λ c κs. search needs)
     fill-image-requires
     of-flow-requires
-    same-length
+    (λ c. search needs)
     returns-2)

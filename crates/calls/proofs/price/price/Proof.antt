@@ -12,15 +12,6 @@ use Rattle.judges.proofs.Rows.{price-verdict}
 use Rattle.calls.proofs.price.price.Statement.{statement}
 use Rattle.calls.proofs.price.price.Tie as tie
 
-low-end-requires : tie.Need-low-end-requires
-low-end-requires c κs = search needs
-
-high-end-requires : tie.Need-high-end-requires
-high-end-requires c κs = search needs
-
-judge-price-requires : tie.Need-judge-price-requires
-judge-price-requires c κs = search needs
-
 -- the verdict, by the ends of the box
 judged : (c : tie.After-judge-price) → let s = c .before .before .before .before in
     c .judge-price .result ≡ priceVerdict (s .args .t) (s .args .samples .now) (s .args .weights .now) (s .args .image .now)
@@ -32,17 +23,11 @@ judged c =
     ∙ price-verdict (s .args .t) (s .args .samples .now) (s .args .weights .now) (s .args .image .now)
     (record { low-is = read w32 (low .low-end .ok) ∙ low .low-end .ensures; high-is = read w32 (high .high-end .ok) ∙ high .high-end .ensures })
 
-enum-known-verdict : tie.Need-enum-known-verdict
-enum-known-verdict c = search needs
-
 returns : tie.Need-returns
 returns c =
     let s = c .before .before .before .before .before .before .before in
     let e = sym (price-answer (s .args .t) (s .args .samples .now) (s .args .weights .now) (s .args .image .now) (sym (judged (c .before .before .before)) ∙ c .before .verdict .given .1)) in
     (e, told e (price-number (s .args .t) (s .args .samples .now) (s .args .weights .now) (s .args .image .now)))
-
-enum-told : tie.Need-enum-told
-enum-told c = search needs
 
 -- past the verdict
 accepted : (c : tie.After-enum-told) → let s = c .before .before .before .before .before .before in
@@ -74,11 +59,11 @@ pub price-spec : {M : Type 1} → statement M
 price-spec =
     tie.close
     (tie.spec
-    low-end-requires
-    high-end-requires
-    judge-price-requires
-    enum-known-verdict
+    (λ c κs. search needs)
+    (λ c κs. search needs)
+    (λ c κs. search needs)
+    (λ c. search needs)
     returns
-    enum-told
+    (λ c. search needs)
     image-price-requires
     returns-2)

@@ -30,12 +30,6 @@ use Rattle.figures.proofs.Objectives.{figured}
 use Rattle.calls.proofs.run.run.Statement.{statement}
 use Rattle.calls.proofs.run.run.Tie as tie
 
-judge-run-requires : tie.Need-judge-run-requires
-judge-run-requires c κs = search needs
-
-enum-known-verdict : tie.Need-enum-known-verdict
-enum-known-verdict c = search needs
-
 returns : tie.Need-returns
 unfolding runVerdict
 returns c =
@@ -53,9 +47,6 @@ returns c =
     let k = sym (run-image t r b o′ f x w h) in
     (e, (g, (k, (sym (run-work t r b o′ f x w h), (told e (run-number t r b o′ f x w), run-demand t r b o′ f x w e g k)))))
 
-enum-told : tie.Need-enum-told
-enum-told c = search needs
-
 -- past the verdict
 accepted : (c : tie.After-enum-told) → let s = c .before .before .before .before in
     runVerdict (s .args .t) (s .args .r) (s .args .samples .now) (s .args .weights .now) (s .args .flow .now) (s .args .image .now) (s .args .work .now) ≡ Verdict.Accept
@@ -67,12 +58,6 @@ facts : (c : tie.After-enum-told) → let s = c .before .before .before .before 
 facts c =
     let s = c .before .before .before .before in
     run-accepted (s .args .t) (s .args .r) (s .args .samples .now) (s .args .weights .now) (s .args .flow .now) (s .args .image .now) (s .args .work .now) .0 (accepted c)
-
-low-end-requires : tie.Need-low-end-requires
-low-end-requires c κs = search needs
-
-high-end-requires : tie.Need-high-end-requires
-high-end-requires c κs = search needs
 
 -- the ends of the box
 ends : (c : tie.After-high-end) → let s = c .before .before .before .before .before .before in
@@ -94,9 +79,6 @@ quick-rounds-requires c κs =
         work-length = a .work-length ∙ ap (λ (n : ℕ). 2 * n) (sym (a .flow-length));
       },
     )
-
-clear-requires : tie.Need-clear-requires
-clear-requires c κs = search needs
 
 -- the flow that the quick rounds leave
 iterate : (c : tie.After-quick-rounds) → let s = c .before .before .before .before .before .before .before .before .before .before in
@@ -214,26 +196,8 @@ ran c o h =
     in
     (answer, (flow, (image, (work, (told answer (run-number t r b o′ f x w), run-demand t r b o′ f x w answer flow image)))))
 
-same-length : tie.Need-same-length
-same-length c = search needs
-
-same-length-2 : tie.Need-same-length-2
-same-length-2 c = search needs
-
-same-length-3 : tie.Need-same-length-3
-same-length-3 c = search needs
-
 returns-2 : tie.Need-returns-2
 returns-2 c = ran (c .before .before) settled (ap (λ (z : Bool). cond z settled spent) (c .before .if1 .taken))
-
-same-length-4 : tie.Need-same-length-4
-same-length-4 c = search needs
-
-same-length-5 : tie.Need-same-length-5
-same-length-5 c = search needs
-
-same-length-6 : tie.Need-same-length-6
-same-length-6 c = search needs
 
 returns-3 : tie.Need-returns-3
 returns-3 c = ran (c .before .before) spent (ap (λ (z : Bool). cond z settled spent) (c .before .if1 .left))
@@ -242,21 +206,21 @@ pub run-spec : {M : Type 1} → statement M
 run-spec =
     tie.close
     (tie.spec
-    judge-run-requires
-    enum-known-verdict
+    (λ c κs. search needs)
+    (λ c. search needs)
     returns
-    enum-told
-    low-end-requires
-    high-end-requires
+    (λ c. search needs)
+    (λ c κs. search needs)
+    (λ c κs. search needs)
     quick-rounds-requires
-    clear-requires
+    (λ c κs. search needs)
     steady-rounds-requires
     of-flow-requires
-    same-length
-    same-length-2
-    same-length-3
+    (λ c. search needs)
+    (λ c. search needs)
+    (λ c. search needs)
     returns-2
-    same-length-4
-    same-length-5
-    same-length-6
+    (λ c. search needs)
+    (λ c. search needs)
+    (λ c. search needs)
     returns-3)

@@ -31,9 +31,6 @@ negated c =
     let a : ℤ = c .before .before .before .args .a in
     read w64 (c .sub-wide .ok) ∙ c .sub-wide .ensures ∙ ap (λ z. pos 0 -ℤ z) (widened (c .before)) ∙ zero--ℤ a
 
-wide-requires : tie.Need-wide-requires
-wide-requires c κs = search needs
-
 sub-wide-requires : tie.Need-sub-wide-requires
 sub-wide-requires c κs = rw (widened c) (omega (arith, natAbs-le (c .before .before .args .a) (c .before .before .fits .a .sfits)))
 
@@ -60,4 +57,10 @@ returns-2 c = search needs
 pub magnitude-spec : {M : Type 1} → statement M
 magnitude-spec =
     tie.close
-    (tie.spec wide-requires sub-wide-requires cast-result cast-result-2 returns returns-2)
+    (tie.spec
+    (λ c κs. search needs)
+    sub-wide-requires
+    cast-result
+    cast-result-2
+    returns
+    returns-2)

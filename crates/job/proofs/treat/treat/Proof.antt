@@ -47,17 +47,8 @@ weights-most : (weighted : Bool) (pairs : ℕ) → allOf weighted pairs ≤ pair
 weights-most true pairs = omega arith
 weights-most false pairs = omega arith
 
-pixels-requires : tie.Need-pixels-requires
-pixels-requires c κs = search needs
-
-pairs-requires : tie.Need-pairs-requires
-pairs-requires c κs = search needs
-
 slice-aggregate-codes : tie.Need-slice-aggregate-codes
 slice-aggregate-codes c = lent _ (c .before .before .pixels .ensures) (c .before .before .before .before .pre .samplesHold)
-
-weights-of-requires : tie.Need-weights-of-requires
-weights-of-requires c κs = search needs
 
 slice-aggregate-own : tie.Need-slice-aggregate-own
 slice-aggregate-own c =
@@ -66,60 +57,30 @@ slice-aggregate-own c =
     let s = c .before .before .before .before .before .before in
     lent _ (k .ensures) (omega (arith, weights-most (s .args .weighted) (m .result), m .ensures, s .pre .weightsHold))
 
-slice-reshare-prefix-check : tie.Need-slice-reshare-prefix-check
-slice-reshare-prefix-check c = search needs
-
 slice-aggregate-check : tie.Need-slice-aggregate-check
 slice-aggregate-check c =
     let p = c .before .before .before .before .before in
     lent _ (p .pairs .ensures) (p .before .before .before .pre .flowHolds)
-
-slice-relend-prefix-check : tie.Need-slice-relend-prefix-check
-slice-relend-prefix-check c = search needs
 
 slice-aggregate-check-2 : tie.Need-slice-aggregate-check-2
 slice-aggregate-check-2 c =
     let p = c .before .before .before .before .before .before .before in
     lent _ (p .pixels .ensures) (p .before .before .pre .imageHolds)
 
-check-requires : tie.Need-check-requires
-check-requires c κs = search needs
-
-slice-relend-prefix-run : tie.Need-slice-relend-prefix-run
-slice-relend-prefix-run c = search needs
-
 slice-aggregate-run : tie.Need-slice-aggregate-run
 slice-aggregate-run c =
     let p = c .before .before .before .before .before in
     lent _ (p .pairs .ensures) (p .before .before .before .pre .flowHolds)
-
-slice-relend-prefix-run-2 : tie.Need-slice-relend-prefix-run-2
-slice-relend-prefix-run-2 c = search needs
 
 slice-aggregate-run-2 : tie.Need-slice-aggregate-run-2
 slice-aggregate-run-2 c =
     let p = c .before .before .before .before .before .before .before in
     lent _ (p .pixels .ensures) (p .before .before .pre .imageHolds)
 
-mul-run : tie.Need-mul-run
-mul-run c = search needs
-
-slice-relend-prefix-run-3 : tie.Need-slice-relend-prefix-run-3
-slice-relend-prefix-run-3 c = search needs
-
 slice-aggregate-run-3 : tie.Need-slice-aggregate-run-3
 slice-aggregate-run-3 c =
     let p = c .before .before .before .before .before .before .before in
     lent _ (ap (λ (n : ℕ). 2 * n) (p .pairs .ensures)) (p .before .before .before .pre .workHolds)
-
-run-requires : tie.Need-run-requires
-run-requires c κs = search needs
-
-same-length : tie.Need-same-length
-same-length c = search needs
-
-same-length-2 : tie.Need-same-length-2
-same-length-2 c = search needs
 
 returns : tie.Need-returns
 returns c =
@@ -130,15 +91,6 @@ returns c =
     (start .args .flow .now) (start .args .image .now) (start .args .work .now) (p .before .pixels .ensures) (p .pairs .ensures)
     (c .before .before .before .before .before .before .weights-of .ensures) (c .before .before .before .before .if1 .taken)
     (q .0) (q .1 .0)
-
-same-length-3 : tie.Need-same-length-3
-same-length-3 c = search needs
-
-same-length-4 : tie.Need-same-length-4
-same-length-4 c = search needs
-
-same-length-5 : tie.Need-same-length-5
-same-length-5 c = search needs
 
 returns-2 : tie.Need-returns-2
 returns-2 c =
@@ -154,28 +106,28 @@ pub treat-spec : {M : Type 1} → statement M
 treat-spec =
     tie.close
     (tie.spec
-    pixels-requires
-    pairs-requires
+    (λ c κs. search needs)
+    (λ c κs. search needs)
     slice-aggregate-codes
-    weights-of-requires
+    (λ c κs. search needs)
     slice-aggregate-own
-    slice-reshare-prefix-check
+    (λ c. search needs)
     slice-aggregate-check
-    slice-relend-prefix-check
+    (λ c. search needs)
     slice-aggregate-check-2
-    check-requires
-    slice-relend-prefix-run
+    (λ c κs. search needs)
+    (λ c. search needs)
     slice-aggregate-run
-    slice-relend-prefix-run-2
+    (λ c. search needs)
     slice-aggregate-run-2
-    mul-run
-    slice-relend-prefix-run-3
+    (λ c. search needs)
+    (λ c. search needs)
     slice-aggregate-run-3
-    run-requires
-    same-length
-    same-length-2
+    (λ c κs. search needs)
+    (λ c. search needs)
+    (λ c. search needs)
     returns
-    same-length-3
-    same-length-4
-    same-length-5
+    (λ c. search needs)
+    (λ c. search needs)
+    (λ c. search needs)
     returns-2)

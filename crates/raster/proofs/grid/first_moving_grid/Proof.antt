@@ -35,9 +35,6 @@ across s = s .args .height * (s .args .width - 1)
 abbrev test : tie.Start → ℕ → Bool
 test s = gridMoves nearestEighth (s .args .width) (s .args .height) (weightAt (toZ w32 (ofZ w32 (s .args .weight))) (s .args .weights .now)) (s .args .flow .now) (s .args .image .now)
 
-sub-vertical : tie.Need-sub-vertical
-sub-vertical c = search needs
-
 mul-vertical : tie.Need-mul-vertical
 mul-vertical c = omega (arith, vertical-most (c .pre .size))
 
@@ -61,24 +58,15 @@ upper c =
     ∙ vertical-run answer answer-cong (byBoth (moves nearestEighth)) _ (both (weightAt (toZ w32 (ofZ w32 (s .args .weight))) (s .args .weights .now)) (s .args .flow .now)) (s .args .width) (s .args .height) (s .args .image .now)
     (length-take-le (above s) (s .args .flow .now) (vertical-most (s .pre .size))) (λ j b. both-are (own j b) (getD-take (above s) (s .args .flow .now) j (pos 0) b))
 
-enum-known-upper : tie.Need-enum-known-upper
-enum-known-upper c = search needs
-
 returns : tie.Need-returns
 returns c =
     let s = c .before .before .before .before .before .before in
     rw (toZ-ofZ w32 _ (s .fits .weight)) at
     (front-first (test s) (above s) (sym (upper (c .before .before .before)) ∙ c .before .upper .given .1) (vertical-most (s .pre .size)))
 
-enum-told : tie.Need-enum-told
-enum-told c = search needs
-
 -- none of them moves
 still : (c : tie.After-enum-told) → let s = c .before .before .before .before .before in Passed (test s) (above s)
 still c = none-moves _ _ (sym (upper (c .before .before)) ∙ c .enum-told .given .1)
-
-sub-part-of : tie.Need-sub-part-of
-sub-part-of c = search needs
 
 mul-part-of : tie.Need-mul-part-of
 mul-part-of c = let s = c .before .before .before .before .before in omega (arith, all-pairs (s .pre .size), s .good .0 .0)
@@ -96,9 +84,6 @@ sub-first-moving-rows c = vertical-most (c .before .before .before .before .befo
 
 part-first-moving-rows-start : tie.Need-part-first-moving-rows-start
 part-first-moving-rows-start c = vertical-most (c .before .before .before .before .before .before .pre .size)
-
-part-first-moving-rows-end : tie.Need-part-first-moving-rows-end
-part-first-moving-rows-end c = search needs
 
 -- what the rows are lent
 lower-part : (s : tie.Start) → Stretch (s .args .flow .now) (above s) (across s) (take (length (s .args .flow .now) - above s) (drop (above s) (s .args .flow .now)))
@@ -119,9 +104,6 @@ lower c =
     ∙ horizontal-run answer answer-cong (byBoth (moves nearestEighth)) _ (both (weightAt (toZ w32 (ofZ w32 (s .args .weight))) (s .args .weights .now)) (s .args .flow .now)) (s .args .width) (s .args .height) (s .args .image .now)
     (lower-part s .size) (λ k b. both-are (own k b) (lower-part s .number k b))
 
-enum-known-lower : tie.Need-enum-known-lower
-enum-known-lower c = search needs
-
 -- one of the horizontal pairs moves
 moved : (c : tie.After-known-told2) → let s = c .before .before .before .before .before .before .before .before .before .before .before in
     answer (across s) (λ k. test s (above s + k)) ≡ At (c .before .lower .given .0 .0)
@@ -138,9 +120,6 @@ returns-2 c =
     let s = u .before .before .before .before .before in
     rw (toZ-ofZ w32 _ (s .fits .weight)) at (part-first (test s) (above s) (across s) (still u) (moved c) (le-of-eq (sym (all-pairs (s .pre .size)))))
 
-enum-told-2 : tie.Need-enum-told-2
-enum-told-2 c = search needs
-
 returns-3 : tie.Need-returns-3
 returns-3 c =
     let u = c .before .before .before .before .before in
@@ -152,24 +131,24 @@ pub first-moving-grid-spec : {M : Type 1} → statement M
 first-moving-grid-spec =
     tie.close
     (tie.spec
-    sub-vertical
+    (λ c. search needs)
     mul-vertical
     part-of-requires
     slice-aggregate-first-moving
     first-moving-requires
-    enum-known-upper
+    (λ c. search needs)
     returns
-    enum-told
-    sub-part-of
+    (λ c. search needs)
+    (λ c. search needs)
     mul-part-of
     part-of-requires-2
     mul-first-moving-rows
     sub-first-moving-rows
     part-first-moving-rows-start
-    part-first-moving-rows-end
+    (λ c. search needs)
     first-moving-rows-requires
-    enum-known-lower
+    (λ c. search needs)
     add-t21
     returns-2
-    enum-told-2
+    (λ c. search needs)
     returns-3)

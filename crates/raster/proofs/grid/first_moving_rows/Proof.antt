@@ -30,9 +30,6 @@ abbrev μ-loop : tie.MeasureT-loop
 abbrev test : tie.Start Inv-loop μ-loop → ℕ → Bool
 test s = rowMoves nearestEighth (s .args .width) (weightAt (toZ w32 (ofZ w32 (s .args .weight))) (s .args .weights .now)) (s .args .flow .now) (s .args .image .now)
 
-sub-across : tie.Need-sub-across Inv-loop μ-loop
-sub-across c = search needs
-
 module _ (c : tie.Else1 Inv-loop μ-loop) where
   -- this row's parts of the flow and of the image
   flow-part : Lent (c .before .before .args .flow .now) (c .before .loop .at) (c .before .before .args .width - 1)
@@ -55,12 +52,6 @@ add-first-moving c = omega (arith, flow-part (c .before) .inside)
 mul-first-moving : tie.Need-mul-first-moving Inv-loop μ-loop
 mul-first-moving c = omega (arith, flow-part (c .before) .inside, c .before .before .before .good .0 .1)
 
-sub-first-moving : tie.Need-sub-first-moving Inv-loop μ-loop
-sub-first-moving c = search needs
-
-part-first-moving-start : tie.Need-part-first-moving-start Inv-loop μ-loop
-part-first-moving-start c = search needs
-
 part-first-moving-end : tie.Need-part-first-moving-end Inv-loop μ-loop
 part-first-moving-end c = flow-part (c .before) .inside
 
@@ -69,12 +60,6 @@ add-first-moving-2 c = omega (arith, image-part (c .before .before) .inside)
 
 mul-first-moving-2 : tie.Need-mul-first-moving-2 Inv-loop μ-loop
 mul-first-moving-2 c = omega (arith, image-part (c .before .before) .inside, c .before .before .before .before .good .1 .0 .1)
-
-sub-first-moving-2 : tie.Need-sub-first-moving-2 Inv-loop μ-loop
-sub-first-moving-2 c = search needs
-
-part-first-moving-start-2 : tie.Need-part-first-moving-start-2 Inv-loop μ-loop
-part-first-moving-start-2 c = search needs
 
 part-first-moving-end-2 : tie.Need-part-first-moving-end-2 Inv-loop μ-loop
 part-first-moving-end-2 c = image-part (c .before .before) .inside
@@ -97,9 +82,6 @@ row-answer c =
     ∙ row-run answer answer-cong (byBoth (moves nearestEighth)) _ (both (weightAt (toZ w32 (ofZ w32 (s .args .weight))) (s .args .weights .now)) (s .args .flow .now)) (l .row) (l .inv .1) (l .inv .2)
     (flow-part i .size) (λ k b. both-are (own k b) (flow-part i .number k b)) (image-part i)
 
-enum-known-found : tie.Need-enum-known-found Inv-loop μ-loop
-enum-known-found c = search needs
-
 -- one of this row's pairs moves
 moved : (c : tie.After-known-told Inv-loop μ-loop) → let i = c .before .before .before .before .before .before .before in let s = i .before .before in
     answer (s .args .width - 1) (λ k. test s (i .before .loop .at + k)) ≡ At (c .before .found .given .0 .0)
@@ -108,17 +90,11 @@ moved c = sym (row-answer (c .before .before .before)) ∙ c .before .found .giv
 add-t28 : tie.Need-add-t28 Inv-loop μ-loop
 add-t28 c = omega (arith, first-moves _ _ (moved c) .0, flow-part (c .before .before .before .before .before .before .before) .inside)
 
-enum-told : tie.Need-enum-told Inv-loop μ-loop
-enum-told c = search needs
-
 add-at : tie.Need-add-at Inv-loop μ-loop
 add-at c = omega (arith, flow-part (c .before .before .before .before .before .before) .inside)
 
 add-start : tie.Need-add-start Inv-loop μ-loop
 add-start c = omega (arith, image-part (c .before .before .before .before .before .before) .inside)
-
-add-row : tie.Need-add-row Inv-loop μ-loop
-add-row c = search needs
 
 loop-less : tie.Need-loop-less Inv-loop μ-loop
 loop-less c = search needs
@@ -152,26 +128,26 @@ first-moving-rows-spec =
     (tie.spec
     Inv-loop
     μ-loop
-    sub-across
+    (λ c. search needs)
     loop-holds
     part-of-requires
     add-first-moving
     mul-first-moving
-    sub-first-moving
-    part-first-moving-start
+    (λ c. search needs)
+    (λ c. search needs)
     part-first-moving-end
     add-first-moving-2
     mul-first-moving-2
-    sub-first-moving-2
-    part-first-moving-start-2
+    (λ c. search needs)
+    (λ c. search needs)
     part-first-moving-end-2
     first-moving-requires
-    enum-known-found
+    (λ c. search needs)
     add-t28
-    enum-told
+    (λ c. search needs)
     add-at
     add-start
-    add-row
+    (λ c. search needs)
     loop-less
     loop-again
     returns

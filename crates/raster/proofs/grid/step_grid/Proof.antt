@@ -22,9 +22,6 @@ use Rattle.raster.proofs.Whole.{vertical, vertical-most, all-pairs, upp
 use Rattle.raster.proofs.grid.step_grid.Statement.{statement}
 use Rattle.raster.proofs.grid.step_grid.Tie as tie
 
-sub-vertical : tie.Need-sub-vertical
-sub-vertical c = search needs
-
 -- after the vertical pairs: they are stepped, the others as they were
 upper : (c : tie.After-flow) → let s = c .before .before .before .before .before in
     c .before .step-pairs .last .0 ++ drop (vertical (s .args .width) (s .args .height)) (s .args .flow .now)
@@ -54,9 +51,6 @@ mul-vertical c = omega (arith, vertical-most (c .pre .size))
 part-of-requires : tie.Need-part-of-requires
 part-of-requires c κs = part-there (c .pre .weights-limits) _ _ (omega (arith, grid-count (c .args .width) (c .args .height)))
 
-sub-part-of : tie.Need-sub-part-of
-sub-part-of c = search needs
-
 mul-part-of : tie.Need-mul-part-of
 mul-part-of c = omega (arith, all-pairs (c .before .pre .size), c .before .good .0 .0)
 
@@ -85,16 +79,10 @@ sub-step-rows c = omega (arith, upper-most c)
 part-step-rows-start : tie.Need-part-step-rows-start
 part-step-rows-start c = upper-most c
 
-part-step-rows-end : tie.Need-part-step-rows-end
-part-step-rows-end c = search needs
-
 step-rows-requires : tie.Need-step-rows-requires
 step-rows-requires c κs =
     let s = c .before .before .before .before .before .before in
     rw (toZ-ofZ w32 _ (s .fits .weight)) (horizontal-limits (s .pre) (c .before .before .before .before .part-of2 .ensures) (lower (c .before)))
-
-same-length : tie.Need-same-length
-same-length c = search needs
 
 returns : tie.Need-returns
 returns c =
@@ -111,10 +99,10 @@ pub step-grid-spec : {M : Type 1} → statement M
 step-grid-spec =
     tie.close
     (tie.spec
-    sub-vertical
+    (λ c. search needs)
     mul-vertical
     part-of-requires
-    sub-part-of
+    (λ c. search needs)
     mul-part-of
     part-of-requires-2
     slice-relend-prefix-step-pairs
@@ -123,7 +111,7 @@ step-grid-spec =
     mul-step-rows
     sub-step-rows
     part-step-rows-start
-    part-step-rows-end
+    (λ c. search needs)
     step-rows-requires
-    same-length
+    (λ c. search needs)
     returns)

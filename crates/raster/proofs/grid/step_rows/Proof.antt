@@ -27,9 +27,6 @@ Inv-loop flow₀ image width height weight weights across at₀ start₀ row₀ 
 abbrev μ-loop : tie.MeasureT-loop
 μ-loop flow₀ image width height weight weights across at₀ start₀ row₀ flow at start row = height - row
 
-sub-across : tie.Need-sub-across Inv-loop μ-loop
-sub-across c = search needs
-
 module _ (c : tie.In-loop Inv-loop μ-loop) where
   -- this row's parts of the flow as it was and of the image
   flow-part : Lent (c .before .before .args .flow .now) (c .before .loop .at) (c .before .before .args .width - 1)
@@ -55,12 +52,6 @@ add-step-pairs c = omega (arith, flow-part (c .before) .inside)
 mul-step-pairs : tie.Need-mul-step-pairs Inv-loop μ-loop
 mul-step-pairs c = omega (arith, flow-part (c .before) .inside, c .before .before .before .good .0 .1)
 
-sub-step-pairs : tie.Need-sub-step-pairs Inv-loop μ-loop
-sub-step-pairs c = search needs
-
-part-step-pairs-start : tie.Need-part-step-pairs-start Inv-loop μ-loop
-part-step-pairs-start c = search needs
-
 part-step-pairs-end : tie.Need-part-step-pairs-end Inv-loop μ-loop
 part-step-pairs-end c = omega (arith, flow-part (c .before) .inside, same-size (c .before))
 
@@ -69,12 +60,6 @@ add-step-pairs-2 c = omega (arith, image-part (c .before .before) .inside)
 
 mul-step-pairs-2 : tie.Need-mul-step-pairs-2 Inv-loop μ-loop
 mul-step-pairs-2 c = omega (arith, image-part (c .before .before) .inside, c .before .before .before .before .good .1 .0 .1)
-
-sub-step-pairs-2 : tie.Need-sub-step-pairs-2 Inv-loop μ-loop
-sub-step-pairs-2 c = search needs
-
-part-step-pairs-start-2 : tie.Need-part-step-pairs-start-2 Inv-loop μ-loop
-part-step-pairs-start-2 c = search needs
 
 part-step-pairs-end-2 : tie.Need-part-step-pairs-end-2 Inv-loop μ-loop
 part-step-pairs-end-2 c = image-part (c .before .before) .inside
@@ -91,9 +76,6 @@ add-at c = omega (arith, flow-part (c .before .before .before .before .before) .
 
 add-start : tie.Need-add-start Inv-loop μ-loop
 add-start c = omega (arith, image-part (c .before .before .before .before .before) .inside)
-
-add-row : tie.Need-add-row Inv-loop μ-loop
-add-row c = search needs
 
 loop-less : tie.Need-loop-less Inv-loop μ-loop
 loop-less c = search needs
@@ -135,23 +117,23 @@ step-rows-spec =
     (tie.spec
     Inv-loop
     μ-loop
-    sub-across
+    (λ c. search needs)
     loop-holds
     part-of-requires
     add-step-pairs
     mul-step-pairs
-    sub-step-pairs
-    part-step-pairs-start
+    (λ c. search needs)
+    (λ c. search needs)
     part-step-pairs-end
     add-step-pairs-2
     mul-step-pairs-2
-    sub-step-pairs-2
-    part-step-pairs-start-2
+    (λ c. search needs)
+    (λ c. search needs)
     part-step-pairs-end-2
     step-pairs-requires
     add-at
     add-start
-    add-row
+    (λ c. search needs)
     loop-less
     loop-again
     same-length

@@ -10,24 +10,6 @@ use borrow.Author.Needs.{needs}
 use Rattle.records.proofs.bytes.four_at.Statement.{statement}
 use Rattle.records.proofs.bytes.four_at.Tie as tie
 
-two-at-requires : tie.Need-two-at-requires
-two-at-requires c κs = search needs
-
-add-two-at : tie.Need-add-two-at
-add-two-at c = search needs
-
-two-at-requires-2 : tie.Need-two-at-requires-2
-two-at-requires-2 c κs = search needs
-
-mul-signed-of : tie.Need-mul-signed-of
-mul-signed-of c = search needs
-
-add-signed-of : tie.Need-add-signed-of
-add-signed-of c = search needs
-
-signed-of-requires : tie.Need-signed-of-requires
-signed-of-requires c κs = search needs
-
 returns : tie.Need-returns
 returns c =
     let bytes : List ℕ = c .before .before .before .before .args .tape .now in
@@ -44,10 +26,10 @@ pub four-at-spec : {M : Type 1} → statement M
 four-at-spec =
     tie.close
     (tie.spec
-    two-at-requires
-    add-two-at
-    two-at-requires-2
-    mul-signed-of
-    add-signed-of
-    signed-of-requires
+    (λ c κs. search needs)
+    (λ c. search needs)
+    (λ c κs. search needs)
+    (λ c. search needs)
+    (λ c. search needs)
+    (λ c κs. search needs)
     returns)

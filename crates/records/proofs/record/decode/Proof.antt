@@ -11,9 +11,6 @@ use Rattle.model.specs.Tape.{bodyLength, decoded, fromTwo, fromFour}
 use Rattle.records.proofs.record.decode.Statement.{statement}
 use Rattle.records.proofs.record.decode.Tie as tie
 
-add-body : tie.Need-add-body
-add-body c = search needs
-
 -- what is known where the kind is k
 room : (c : tie.After-shared-slice-known) (k : ℕ) → c .before .args .kind ≡ k → c .before .args .at + 1 + bodyLength k ≤ length (c .before .args .tape .now)
 room c k e = subst (λ (n : ℕ). c .before .args .at + 1 + bodyLength n ≤ length (c .before .args .tape .now)) e (c .before .pre)
@@ -142,7 +139,7 @@ pub decode-spec : {M : Type 1} → statement M
 decode-spec =
     tie.close
     (tie.spec
-    add-body
+    (λ c. search needs)
     two-at-requires
     add-two-at
     two-at-requires-2

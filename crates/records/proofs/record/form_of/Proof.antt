@@ -25,24 +25,6 @@ at-kind t e = ap (λ (n : ℕ). formOf n (may t n)) (sym e)
 by-tests : {body : ℕ} {a a' b b' c c' : Bool} → a ≡ a' → b ≡ b' → c ≡ c' → Form.Body body (a && b && c) ≡ Form.Body body (a' && b' && c')
 by-tests {body} e f g = ap₂ (λ (x y : Bool). Form.Body body (x && y)) (ap₂ _&&_ e f) g
 
-sampled-requires : tie.Need-sampled-requires
-sampled-requires c κs = search needs
-
-all-or-none-requires : tie.Need-all-or-none-requires
-all-or-none-requires c κs = search needs
-
-all-or-none-requires-2 : tie.Need-all-or-none-requires-2
-all-or-none-requires-2 c κs = search needs
-
-sampled-requires-2 : tie.Need-sampled-requires-2
-sampled-requires-2 c κs = search needs
-
-all-or-none-requires-3 : tie.Need-all-or-none-requires-3
-all-or-none-requires-3 c κs = search needs
-
-sampled-requires-3 : tie.Need-sampled-requires-3
-sampled-requires-3 c κs = search needs
-
 returns : tie.Need-returns
 unfolding allowedAfter
 returns c =
@@ -98,12 +80,12 @@ pub form-of-spec : {M : Type 1} → statement M
 form-of-spec =
     tie.close
     (tie.spec
-    sampled-requires
-    all-or-none-requires
-    all-or-none-requires-2
-    sampled-requires-2
-    all-or-none-requires-3
-    sampled-requires-3
+    (λ c κs. search needs)
+    (λ c κs. search needs)
+    (λ c κs. search needs)
+    (λ c κs. search needs)
+    (λ c κs. search needs)
+    (λ c κs. search needs)
     returns
     returns-2
     returns-3

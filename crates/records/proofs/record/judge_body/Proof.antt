@@ -11,14 +11,8 @@ use Rattle.model.proofs.Refusals.{accepted, refused, passed}
 use Rattle.records.proofs.record.judge_body.Statement.{statement}
 use Rattle.records.proofs.record.judge_body.Tie as tie
 
-add-next : tie.Need-add-next
-add-next c = search needs
-
 returns : tie.Need-returns
 returns c = sym (refused _ _ (c .if1 .taken))
-
-sub-if2 : tie.Need-sub-if2
-sub-if2 c = search needs
 
 short : (c : tie.Then2) → let a = c .before .before .args in ltb (a .len) (a .at + 1 + bodyLength (a .kind)) ≡ true
 short c = let a = c .before .before .args in lt-ltb (a .len) (a .at + 1 + bodyLength (a .kind)) (omega (arith, c .before .before .pre .1))
@@ -48,9 +42,9 @@ pub judge-body-spec : {M : Type 1} → statement M
 judge-body-spec =
     tie.close
     (tie.spec
-    add-next
+    (λ c. search needs)
     returns
-    sub-if2
+    (λ c. search needs)
     returns-2
     returns-3
     returns-4)

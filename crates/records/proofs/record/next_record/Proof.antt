@@ -13,9 +13,6 @@ returns : tie.Need-returns
 unfolding recordRows
 returns c = got-by _ _ _ _ (refused _ _ (le-leb _ _ (c .if1 .taken)))
 
-shared-slice-read-kind : tie.Need-shared-slice-read-kind
-shared-slice-read-kind c = search needs
-
 record-of-requires : tie.Need-record-of-requires
 record-of-requires c κs = (c .before .before .if1 .left, sym (c .match .keys1))
 
@@ -45,7 +42,7 @@ next-record-spec =
     tie.close
     (tie.spec
     returns
-    shared-slice-read-kind
+    (λ c. search needs)
     record-of-requires
     record-of-requires-2
     record-of-requires-3

@@ -12,15 +12,6 @@ use Rattle.records.proofs.Rows.{form-unknown, form-known, known-kind, g
 use Rattle.records.proofs.record.record_of.Statement.{statement}
 use Rattle.records.proofs.record.record_of.Tie as tie
 
-form-of-requires : tie.Need-form-of-requires
-form-of-requires c κs = search needs
-
-enum-told : tie.Need-enum-told
-enum-told c = search needs
-
-enum-known-f : tie.Need-enum-known-f
-enum-known-f c = search needs
-
 -- the form of a known kind
 form-is : (c : tie.After-known-told) → let a = c .before .before .before .before .before .args in
     (known (a .kind) ≡ true) × (c .before .f .given .0 .0 ≡ bodyLength (a .kind)) × (c .before .f .given .0 .1 .0 ≡ may (a .t) (a .kind))
@@ -57,4 +48,10 @@ returns-2 c =
 pub record-of-spec : {M : Type 1} → statement M
 record-of-spec =
     tie.close
-    (tie.spec form-of-requires enum-told enum-known-f whole-record-requires returns returns-2)
+    (tie.spec
+    (λ c κs. search needs)
+    (λ c. search needs)
+    (λ c. search needs)
+    whole-record-requires
+    returns
+    returns-2)

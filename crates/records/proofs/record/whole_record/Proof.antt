@@ -15,15 +15,6 @@ use Rattle.records.specs.Record.{recordAt}
 use Rattle.records.proofs.record.whole_record.Statement.{statement}
 use Rattle.records.proofs.record.whole_record.Tie as tie
 
-judge-body-requires : tie.Need-judge-body-requires
-judge-body-requires c κs = search needs
-
-enum-known-v : tie.Need-enum-known-v
-enum-known-v c = search needs
-
-enum-told : tie.Need-enum-told
-enum-told c = search needs
-
 -- what a verdict gives, which is that of the rows by the kind passed
 given : (s : tie.Start) {v : Verdict} → let a = s .args in
     v ≡ firstRefusal (bodyRows (a .followed) (length (a .tape .now)) (a .at) (a .kind) (a .allowed)) →
@@ -44,9 +35,6 @@ room c =
 
 decode-requires : tie.Need-decode-requires
 decode-requires c κs = room c
-
-add-t13 : tie.Need-add-t13
-add-t13 c = search needs
 
 add-t14 : tie.Need-add-t14
 add-t14 c = omega (arith, room (c .before), c .before .before .before .before .before .pre .2)
@@ -75,11 +63,11 @@ pub whole-record-spec : {M : Type 1} → statement M
 whole-record-spec =
     tie.close
     (tie.spec
-    judge-body-requires
-    enum-known-v
-    enum-told
+    (λ c κs. search needs)
+    (λ c. search needs)
+    (λ c. search needs)
     decode-requires
-    add-t13
+    (λ c. search needs)
     add-t14
     returns
     returns-2)

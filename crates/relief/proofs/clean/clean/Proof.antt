@@ -6,31 +6,10 @@ use borrow.Author.Needs.{needs}
 use Rattle.relief.proofs.clean.clean.Statement.{statement}
 use Rattle.relief.proofs.clean.clean.Tie as tie
 
-put-refusal-requires : tie.Need-put-refusal-requires
-put-refusal-requires c κs = search needs
-
 returns : tie.Need-returns
 returns c =
     let f = put-front (put-as (too-long (c .before .before .before .before .args .input .now) (c .before .before .if1 .taken)) (c .put-refusal .ensures)) in
     (f .counted, (f .filled, (f .within, f .first)))
-
-slice-aggregate-clean : tie.Need-slice-aggregate-clean
-slice-aggregate-clean c = search needs
-
-slice-aggregate-clean-2 : tie.Need-slice-aggregate-clean-2
-slice-aggregate-clean-2 c = search needs
-
-slice-aggregate-clean-3 : tie.Need-slice-aggregate-clean-3
-slice-aggregate-clean-3 c = search needs
-
-slice-aggregate-clean-4 : tie.Need-slice-aggregate-clean-4
-slice-aggregate-clean-4 c = search needs
-
-slice-aggregate-clean-5 : tie.Need-slice-aggregate-clean-5
-slice-aggregate-clean-5 c = search needs
-
-clean-requires : tie.Need-clean-requires
-clean-requires c κs = search needs
 
 returns-2 : tie.Need-returns-2
 returns-2 c =
@@ -44,12 +23,12 @@ pub clean-spec : {M : Type 1} → statement M
 clean-spec =
     tie.close
     (tie.spec
-    put-refusal-requires
+    (λ c κs. search needs)
     returns
-    slice-aggregate-clean
-    slice-aggregate-clean-2
-    slice-aggregate-clean-3
-    slice-aggregate-clean-4
-    slice-aggregate-clean-5
-    clean-requires
+    (λ c. search needs)
+    (λ c. search needs)
+    (λ c. search needs)
+    (λ c. search needs)
+    (λ c. search needs)
+    (λ c κs. search needs)
     returns-2)

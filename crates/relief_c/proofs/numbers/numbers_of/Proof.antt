@@ -8,18 +8,6 @@ use Rattle.relief_c.proofs.Says.{same}
 use Rattle.relief_c.proofs.numbers.numbers_of.Statement.{statement}
 use Rattle.relief_c.proofs.numbers.numbers_of.Tie as tie
 
-enum-known-a : tie.Need-enum-known-a
-enum-known-a c = search needs
-
-enum-known-a-2 : tie.Need-enum-known-a-2
-enum-known-a-2 c = search needs
-
-enum-known-a-3 : tie.Need-enum-known-a-3
-enum-known-a-3 c = search needs
-
-enum-known-a-4 : tie.Need-enum-known-a-4
-enum-known-a-4 c = search needs
-
 returns : tie.Need-returns
 returns c = same (ap answerOf (sym (c .before .a .given .1))) refl (record { number = refl; place = refl; outcome = refl; moved = refl; price = refl; floor = refl; slack = refl })
 
@@ -36,10 +24,10 @@ pub numbers-of-spec : {M : Type 1} → statement M
 numbers-of-spec =
     tie.close
     (tie.spec
-    enum-known-a
-    enum-known-a-2
-    enum-known-a-3
-    enum-known-a-4
+    (λ c. search needs)
+    (λ c. search needs)
+    (λ c. search needs)
+    (λ c. search needs)
     returns
     returns-2
     returns-3

@@ -5,21 +5,6 @@ use Rattle.relief_c.proofs.Says.{same-job, back-by}
 use Rattle.relief_c.proofs.read.relief_call_read.Statement.{statement}
 use Rattle.relief_c.proofs.read.relief_call_read.Tie as tie
 
-read-requires : tie.Need-read-requires
-read-requires c κs = search needs
-
-job-of-requires : tie.Need-job-of-requires
-job-of-requires c κs = search needs
-
-same-length : tie.Need-same-length
-same-length c = search needs
-
-same-length-2 : tie.Need-same-length-2
-same-length-2 c = search needs
-
-same-length-3 : tie.Need-same-length-3
-same-length-3 c = search needs
-
 returns : tie.Need-returns
 returns c =
     let called = c .before .before .before .before .before .before .before .read in
@@ -31,4 +16,10 @@ returns c =
 pub relief-call-read-spec : {M : Type 1} → statement M
 relief-call-read-spec =
     tie.close
-    (tie.spec read-requires job-of-requires same-length same-length-2 same-length-3 returns)
+    (tie.spec
+    (λ c κs. search needs)
+    (λ c κs. search needs)
+    (λ c. search needs)
+    (λ c. search needs)
+    (λ c. search needs)
+    returns)

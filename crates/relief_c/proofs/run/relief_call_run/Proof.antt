@@ -8,21 +8,6 @@ use Rattle.relief_c.proofs.Says.{same, run-by}
 use Rattle.relief_c.proofs.run.relief_call_run.Statement.{statement}
 use Rattle.relief_c.proofs.run.relief_call_run.Tie as tie
 
-run-requires : tie.Need-run-requires
-run-requires c κs = search needs
-
-numbers-of-requires : tie.Need-numbers-of-requires
-numbers-of-requires c κs = search needs
-
-same-length : tie.Need-same-length
-same-length c = search needs
-
-same-length-2 : tie.Need-same-length-2
-same-length-2 c = search needs
-
-same-length-3 : tie.Need-same-length-3
-same-length-3 c = search needs
-
 returns : tie.Need-returns
 returns c =
     let k = c .before .before .before .before .before .run .ensures in
@@ -35,4 +20,10 @@ returns c =
 pub relief-call-run-spec : {M : Type 1} → statement M
 relief-call-run-spec =
     tie.close
-    (tie.spec run-requires numbers-of-requires same-length same-length-2 same-length-3 returns)
+    (tie.spec
+    (λ c κs. search needs)
+    (λ c κs. search needs)
+    (λ c. search needs)
+    (λ c. search needs)
+    (λ c. search needs)
+    returns)

@@ -16,35 +16,11 @@ some-pixels : (total pixels : ℕ) → (pixels ≡ 0 → ⊥) → lineOfTwo "mea
 some-pixels total zero n = absurd (n refl)
 some-pixels total (suc pixels) n = refl
 
-slice-aggregate-put-two : tie.Need-slice-aggregate-put-two
-slice-aggregate-put-two c = search needs
-
-put-two-requires : tie.Need-put-two-requires
-put-two-requires c κs = search needs
-
-div-quotient : tie.Need-div-quotient
-div-quotient c = search needs
-
-rem-remainder : tie.Need-rem-remainder
-rem-remainder c = search needs
-
-slice-aggregate-put-two-2 : tie.Need-slice-aggregate-put-two-2
-slice-aggregate-put-two-2 c = search needs
-
-put-two-requires-2 : tie.Need-put-two-requires-2
-put-two-requires-2 c κs = search needs
-
-same-length : tie.Need-same-length
-same-length c = search needs
-
 returns : tie.Need-returns
 unfolding ascii
 returns c =
     let a = c .before .before .before .before .before .before .before .args in
     (put-as (no-pixels (a .total) (a .pixels) (c .before .before .before .before .before .if1 .taken)) (c .before .before .put-two .ensures .0), c .before .before .put-two .ensures .1)
-
-same-length-2 : tie.Need-same-length-2
-same-length-2 c = search needs
 
 returns-2 : tie.Need-returns-2
 unfolding ascii
@@ -56,13 +32,13 @@ pub put-mean-spec : {M : Type 1} → statement M
 put-mean-spec =
     tie.close
     (tie.spec
-    slice-aggregate-put-two
-    put-two-requires
-    div-quotient
-    rem-remainder
-    slice-aggregate-put-two-2
-    put-two-requires-2
-    same-length
+    (λ c. search needs)
+    (λ c κs. search needs)
+    (λ c. search needs)
+    (λ c. search needs)
+    (λ c. search needs)
+    (λ c κs. search needs)
+    (λ c. search needs)
     returns
-    same-length-2
+    (λ c. search needs)
     returns-2)

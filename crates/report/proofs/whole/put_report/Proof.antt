@@ -8,21 +8,6 @@ use borrow.Author.Needs.{needs}
 use Rattle.report.proofs.whole.put_report.Statement.{statement}
 use Rattle.report.proofs.whole.put_report.Tie as tie
 
-put-totals-requires : tie.Need-put-totals-requires
-put-totals-requires c κs = search needs
-
-enum-told : tie.Need-enum-told
-enum-told c = search needs
-
-enum-known-ending : tie.Need-enum-known-ending
-enum-known-ending c = search needs
-
-put-refused-requires : tie.Need-put-refused-requires
-put-refused-requires c κs = search needs
-
-same-length : tie.Need-same-length
-same-length c = search needs
-
 returns : tie.Need-returns
 unfolding endingText
 returns c =
@@ -31,9 +16,6 @@ returns c =
       put-as (sym (append-nil (totalsText (a .t))) ∙ ap (reportText (a .t)) (sym (c .enum-told .given .1))) (s0 .put-totals .ensures .0),
       omega arith,
     )
-
-same-length-2 : tie.Need-same-length-2
-same-length-2 c = search needs
 
 returns-2 : tie.Need-returns-2
 returns-2 c =
@@ -48,11 +30,11 @@ pub put-report-spec : {M : Type 1} → statement M
 put-report-spec =
     tie.close
     (tie.spec
-    put-totals-requires
-    enum-told
-    enum-known-ending
-    put-refused-requires
-    same-length
+    (λ c κs. search needs)
+    (λ c. search needs)
+    (λ c. search needs)
+    (λ c κs. search needs)
+    (λ c. search needs)
     returns
-    same-length-2
+    (λ c. search needs)
     returns-2)

@@ -22,29 +22,11 @@ abbrev μ-loop : tie.MeasureT-loop
 loop-holds : tie.Need-loop-holds Inv-loop μ-loop
 loop-holds c = filling-none _ _
 
-mul-target : tie.Need-mul-target Inv-loop μ-loop
-mul-target c = search needs
-
-shared-slice-copy-out-target : tie.Need-shared-slice-copy-out-target Inv-loop μ-loop
-shared-slice-copy-out-target c = search needs
-
-mul-t8 : tie.Need-mul-t8 Inv-loop μ-loop
-mul-t8 c = search needs
-
-slice-set-from-target : tie.Need-slice-set-from-target Inv-loop μ-loop
-slice-set-from-target c = search needs
-
-add-i : tie.Need-add-i Inv-loop μ-loop
-add-i c = search needs
-
 loop-less : tie.Need-loop-less Inv-loop μ-loop
 loop-less c = search needs
 
 loop-again : tie.Need-loop-again Inv-loop μ-loop
 loop-again c = filling-more (c .before .before .loop .inv) (omega arith) (toZ-ofZ w32 _ (record { sfits = c .target .given }))
-
-same-length : tie.Need-same-length Inv-loop μ-loop
-same-length c = search needs
 
 returns : tie.Need-returns Inv-loop μ-loop
 returns c =
@@ -58,12 +40,12 @@ copy-spec =
     Inv-loop
     μ-loop
     loop-holds
-    mul-target
-    shared-slice-copy-out-target
-    mul-t8
-    slice-set-from-target
-    add-i
+    (λ c. search needs)
+    (λ c. search needs)
+    (λ c. search needs)
+    (λ c. search needs)
+    (λ c. search needs)
     loop-less
     loop-again
-    same-length
+    (λ c. search needs)
     returns)

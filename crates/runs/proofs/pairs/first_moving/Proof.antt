@@ -33,27 +33,6 @@ own : (c : tie.After-number-or Inv-loop μ-loop) → let s = c .before .before .
     toZ w32 (ofZ w32 (c .number-or .result)) ≡ weightAt (toZ w32 (ofZ w32 (s .args .weight))) (s .args .weights .now) (c .before .before .loop .j)
 own c = read w32 (c .number-or .ok) ∙ c .number-or .ensures
 
-mul-would-move : tie.Need-mul-would-move Inv-loop μ-loop
-mul-would-move c = search needs
-
-shared-slice-copy-out-would-move : tie.Need-shared-slice-copy-out-would-move Inv-loop μ-loop
-shared-slice-copy-out-would-move c = search needs
-
-mul-would-move-2 : tie.Need-mul-would-move-2 Inv-loop μ-loop
-mul-would-move-2 c = search needs
-
-shared-slice-copy-out-would-move-2 : tie.Need-shared-slice-copy-out-would-move-2 Inv-loop μ-loop
-shared-slice-copy-out-would-move-2 c = search needs
-
-add-would-move : tie.Need-add-would-move Inv-loop μ-loop
-add-would-move c = search needs
-
-mul-would-move-3 : tie.Need-mul-would-move-3 Inv-loop μ-loop
-mul-would-move-3 c = search needs
-
-shared-slice-copy-out-would-move-3 : tie.Need-shared-slice-copy-out-would-move-3 Inv-loop μ-loop
-shared-slice-copy-out-would-move-3 c = search needs
-
 would-move-requires : tie.Need-would-move-requires Inv-loop μ-loop
 would-move-requires c κs =
     let s = c .before .before .before .before .before .before in
@@ -69,9 +48,6 @@ tested c =
     let j = c .before .before .before .before .before .before .loop .j in
     c .would-move .ensures
     ∙ rw (own (c .before .before .before .before), element (s .args .flow .now) (s .pre .flow-most) j, element (s .args .image .now) (s .pre .image-most) j, element (s .args .image .now) (s .pre .image-most) (j + s .args .stride))
-
-add-j : tie.Need-add-j Inv-loop μ-loop
-add-j c = search needs
 
 loop-less : tie.Need-loop-less Inv-loop μ-loop
 loop-less c = search needs
@@ -102,15 +78,15 @@ first-moving-spec =
     μ-loop
     loop-holds
     number-or-requires
-    mul-would-move
-    shared-slice-copy-out-would-move
-    mul-would-move-2
-    shared-slice-copy-out-would-move-2
-    add-would-move
-    mul-would-move-3
-    shared-slice-copy-out-would-move-3
+    (λ c. search needs)
+    (λ c. search needs)
+    (λ c. search needs)
+    (λ c. search needs)
+    (λ c. search needs)
+    (λ c. search needs)
+    (λ c. search needs)
     would-move-requires
-    add-j
+    (λ c. search needs)
     loop-less
     loop-again
     returns

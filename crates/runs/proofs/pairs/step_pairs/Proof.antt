@@ -34,42 +34,12 @@ own : (c : tie.After-number-or Inv-loop μ-loop) → let s = c .before .before .
     toZ w32 (ofZ w32 (c .number-or .result)) ≡ weightAt (toZ w32 (ofZ w32 (s .args .weight))) (s .args .weights .now) (c .before .before .loop .j)
 own c = read w32 (c .number-or .ok) ∙ c .number-or .ensures
 
-mul-step-value : tie.Need-mul-step-value Inv-loop μ-loop
-mul-step-value c = search needs
-
-slice-copy-out-step-value : tie.Need-slice-copy-out-step-value Inv-loop μ-loop
-slice-copy-out-step-value c = search needs
-
-mul-step-value-2 : tie.Need-mul-step-value-2 Inv-loop μ-loop
-mul-step-value-2 c = search needs
-
-shared-slice-copy-out-step-value : tie.Need-shared-slice-copy-out-step-value Inv-loop μ-loop
-shared-slice-copy-out-step-value c = search needs
-
-add-step-value : tie.Need-add-step-value Inv-loop μ-loop
-add-step-value c = search needs
-
-mul-step-value-3 : tie.Need-mul-step-value-3 Inv-loop μ-loop
-mul-step-value-3 c = search needs
-
-shared-slice-copy-out-step-value-2 : tie.Need-shared-slice-copy-out-step-value-2 Inv-loop μ-loop
-shared-slice-copy-out-step-value-2 c = search needs
-
 step-value-requires : tie.Need-step-value-requires Inv-loop μ-loop
 step-value-requires c κs =
     let s = c .before .before .before .before .before .before in
     let l = c .before .before .before .before .before .loop in
     rw (own (c .before .before .before), toZ-ofZ w32 (s .args .weight) (s .fits .weight), filling-rest (l .inv) (l .j) (pos 0) (le-refl (l .j)), element (s .args .flow .now) (s .pre .flow-most) (l .j), element (s .args .image .now) (s .pre .image-most) (l .j), element (s .args .image .now) (s .pre .image-most) (l .j + s .args .stride))
     (pair-limits (s .pre) (l .j))
-
-mul-t21 : tie.Need-mul-t21 Inv-loop μ-loop
-mul-t21 c = search needs
-
-slice-set-from-flow : tie.Need-slice-set-from-flow Inv-loop μ-loop
-slice-set-from-flow c = search needs
-
-add-j : tie.Need-add-j Inv-loop μ-loop
-add-j c = search needs
 
 loop-less : tie.Need-loop-less Inv-loop μ-loop
 loop-less c = search needs
@@ -82,9 +52,6 @@ loop-again c =
     (called w32 (c .step-value .ok) (λ z. z) (c .step-value .ensures)
     (rw (own (c .before .before .before .before), filling-rest (l .inv) (l .j) (pos 0) (le-refl (l .j)), element (s .args .flow .now) (s .pre .flow-most) (l .j), element (s .args .image .now) (s .pre .image-most) (l .j), element (s .args .image .now) (s .pre .image-most) (l .j + s .args .stride))))
 
-same-length : tie.Need-same-length Inv-loop μ-loop
-same-length c = search needs
-
 returns : tie.Need-returns Inv-loop μ-loop
 returns c = rw (toZ-ofZ w32 _ (c .before .before .fits .weight)) at (filling-all (c .before .loop .inv) (omega arith))
 
@@ -96,18 +63,18 @@ step-pairs-spec =
     μ-loop
     loop-holds
     number-or-requires
-    mul-step-value
-    slice-copy-out-step-value
-    mul-step-value-2
-    shared-slice-copy-out-step-value
-    add-step-value
-    mul-step-value-3
-    shared-slice-copy-out-step-value-2
+    (λ c. search needs)
+    (λ c. search needs)
+    (λ c. search needs)
+    (λ c. search needs)
+    (λ c. search needs)
+    (λ c. search needs)
+    (λ c. search needs)
     step-value-requires
-    mul-t21
-    slice-set-from-flow
-    add-j
+    (λ c. search needs)
+    (λ c. search needs)
+    (λ c. search needs)
     loop-less
     loop-again
-    same-length
+    (λ c. search needs)
     returns)

@@ -33,21 +33,6 @@ own : (c : tie.After-number-or Inv-loop μ-loop) → let s = c .before .before .
     toZ w32 (ofZ w32 (c .number-or .result)) ≡ weightAt (pos 1) (s .args .weights .now) (c .before .before .loop .j)
 own c = read w32 (c .number-or .ok) ∙ c .number-or .ensures
 
-mul-variation : tie.Need-mul-variation Inv-loop μ-loop
-mul-variation c = search needs
-
-shared-slice-copy-out-variation : tie.Need-shared-slice-copy-out-variation Inv-loop μ-loop
-shared-slice-copy-out-variation c = search needs
-
-add-variation : tie.Need-add-variation Inv-loop μ-loop
-add-variation c = search needs
-
-mul-variation-2 : tie.Need-mul-variation-2 Inv-loop μ-loop
-mul-variation-2 c = search needs
-
-shared-slice-copy-out-variation-2 : tie.Need-shared-slice-copy-out-variation-2 Inv-loop μ-loop
-shared-slice-copy-out-variation-2 c = search needs
-
 variation-requires : tie.Need-variation-requires Inv-loop μ-loop
 variation-requires c κs =
     let s = c .before .before .before .before .before in
@@ -74,9 +59,6 @@ add-sum c =
     let most = variation-most (s .args .image .now) (s .pre .0 .image-most) (λ j. j) (λ j. j + s .args .stride) weight (own-most (s .pre .1) (pos 1) (omega arith)) in
     record { fits = omega (arith, s .pre .0 .count-most, l .inv .0, ap natAbs (l .inv .1), natAbs-total (l .j) (variationAt weight (s .args .image .now) (s .args .stride)) (λ j _. most j), ap natAbs (term c), most (l .j)) }
 
-add-j : tie.Need-add-j Inv-loop μ-loop
-add-j c = search needs
-
 loop-less : tie.Need-loop-less Inv-loop μ-loop
 loop-less c = search needs
 
@@ -98,14 +80,14 @@ total-variation-spec =
     μ-loop
     loop-holds
     number-or-requires
-    mul-variation
-    shared-slice-copy-out-variation
-    add-variation
-    mul-variation-2
-    shared-slice-copy-out-variation-2
+    (λ c. search needs)
+    (λ c. search needs)
+    (λ c. search needs)
+    (λ c. search needs)
+    (λ c. search needs)
     variation-requires
     add-sum
-    add-j
+    (λ c. search needs)
     loop-less
     loop-again
     returns)

@@ -26,27 +26,6 @@ abbrev μ-loop : tie.MeasureT-loop
 loop-holds : tie.Need-loop-holds Inv-loop μ-loop
 loop-holds c = (omega arith, sym (total-zero _))
 
-mul-product : tie.Need-mul-product Inv-loop μ-loop
-mul-product c = search needs
-
-shared-slice-copy-out-product : tie.Need-shared-slice-copy-out-product Inv-loop μ-loop
-shared-slice-copy-out-product c = search needs
-
-mul-product-2 : tie.Need-mul-product-2 Inv-loop μ-loop
-mul-product-2 c = search needs
-
-shared-slice-copy-out-product-2 : tie.Need-shared-slice-copy-out-product-2 Inv-loop μ-loop
-shared-slice-copy-out-product-2 c = search needs
-
-add-product : tie.Need-add-product Inv-loop μ-loop
-add-product c = search needs
-
-mul-product-3 : tie.Need-mul-product-3 Inv-loop μ-loop
-mul-product-3 c = search needs
-
-shared-slice-copy-out-product-3 : tie.Need-shared-slice-copy-out-product-3 Inv-loop μ-loop
-shared-slice-copy-out-product-3 c = search needs
-
 product-requires : tie.Need-product-requires Inv-loop μ-loop
 product-requires c κs =
     let s = c .before .before .before .before .before in
@@ -72,9 +51,6 @@ add-wide-requires c κs =
     rw (l .inv .1, term c)
     (omega (arith, s .pre, l .inv .0, work-most a (s .pre .image-most) (λ j. j) second (s .args .flow .now) (s .pre .flow-most) (l .j), product-most a (s .pre .image-most) (λ j. j) second (s .args .flow .now) (s .pre .flow-most) (l .j)))
 
-add-j : tie.Need-add-j Inv-loop μ-loop
-add-j c = search needs
-
 loop-less : tie.Need-loop-less Inv-loop μ-loop
 loop-less c = search needs
 
@@ -95,16 +71,16 @@ total-work-spec =
     Inv-loop
     μ-loop
     loop-holds
-    mul-product
-    shared-slice-copy-out-product
-    mul-product-2
-    shared-slice-copy-out-product-2
-    add-product
-    mul-product-3
-    shared-slice-copy-out-product-3
+    (λ c. search needs)
+    (λ c. search needs)
+    (λ c. search needs)
+    (λ c. search needs)
+    (λ c. search needs)
+    (λ c. search needs)
+    (λ c. search needs)
     product-requires
     add-wide-requires
-    add-j
+    (λ c. search needs)
     loop-less
     loop-again
     returns)

@@ -25,12 +25,6 @@ add-result c = omega (arith, inside c, c .before .good .0 .1)
 mul-result : tie.Need-mul-result
 mul-result c = omega (arith, inside c, c .before .good .0 .1)
 
-sub-result : tie.Need-sub-result
-sub-result c = search needs
-
-part-result-start : tie.Need-part-result-start
-part-result-start c = search needs
-
 part-result-end : tie.Need-part-result-end
 part-result-end c = inside c
 
@@ -46,4 +40,11 @@ returns-2 c =
 pub part-of-spec : {M : Type 1} → statement M
 part-of-spec =
     tie.close
-    (tie.spec add-result mul-result sub-result part-result-start part-result-end returns returns-2)
+    (tie.spec
+    add-result
+    mul-result
+    (λ c. search needs)
+    (λ c. search needs)
+    part-result-end
+    returns
+    returns-2)

@@ -29,15 +29,6 @@ abbrev μ-loop : tie.MeasureT-loop
 loop-holds : tie.Need-loop-holds Inv-loop μ-loop
 loop-holds c = (omega arith, passed-none _)
 
-mul-outside : tie.Need-mul-outside Inv-loop μ-loop
-mul-outside c = search needs
-
-shared-slice-copy-out-outside : tie.Need-shared-slice-copy-out-outside Inv-loop μ-loop
-shared-slice-copy-out-outside c = search needs
-
-outside-requires : tie.Need-outside-requires Inv-loop μ-loop
-outside-requires c κs = search needs
-
 -- the test at i
 tested : (c : tie.After-outside Inv-loop μ-loop) → let s = c .before .before .before .before in c .outside .result ≡ outsideAt (s .args .values .now) (toZ w32 (ofZ w32 (s .args .low))) (toZ w32 (ofZ w32 (s .args .high))) (c .before .before .before .loop .i)
 tested c =
@@ -50,9 +41,6 @@ returns c =
     let l = c .before .before .before .before .loop in
     let inside : l .i < length (s .args .values .now) = omega arith in
     rw (toZ-ofZ w32 _ (s .fits .low), toZ-ofZ w32 _ (s .fits .high)) at (sym (search-found _ (l .inv .1) inside (sym (tested (c .before)) ∙ c .if1 .taken)))
-
-add-i : tie.Need-add-i Inv-loop μ-loop
-add-i c = search needs
 
 loop-less : tie.Need-loop-less Inv-loop μ-loop
 loop-less c = search needs
@@ -76,11 +64,11 @@ first-outside-spec =
     Inv-loop
     μ-loop
     loop-holds
-    mul-outside
-    shared-slice-copy-out-outside
-    outside-requires
+    (λ c. search needs)
+    (λ c. search needs)
+    (λ c κs. search needs)
     returns
-    add-i
+    (λ c. search needs)
     loop-less
     loop-again
     returns-2)

@@ -21,15 +21,6 @@ abbrev μ-loop : tie.MeasureT-loop
 loop-holds : tie.Need-loop-holds Inv-loop μ-loop
 loop-holds c = (omega arith, sym (total-zero _))
 
-mul-squared-misfit : tie.Need-mul-squared-misfit Inv-loop μ-loop
-mul-squared-misfit c = search needs
-
-shared-slice-copy-out-squared-misfit : tie.Need-shared-slice-copy-out-squared-misfit Inv-loop μ-loop
-shared-slice-copy-out-squared-misfit c = search needs
-
-shared-slice-read-squared-misfit : tie.Need-shared-slice-read-squared-misfit Inv-loop μ-loop
-shared-slice-read-squared-misfit c = search needs
-
 squared-misfit-requires : tie.Need-squared-misfit-requires Inv-loop μ-loop
 squared-misfit-requires c κs =
     let s = c .before .before .before .before .before in
@@ -50,9 +41,6 @@ add-sum c =
     let bytes : (i : ℕ) → getD (s .args .samples .now) i 0 < 256 = λ i. omega (arith, c .before .before .before .before .before .shared-slice-known .given i) in
     record { fits = omega (arith, s .pre, l .inv .0, ap natAbs (l .inv .1), misfits-most (s .args .image .now) (s .pre .image-most) (s .args .samples .now) bytes (l .i), ap natAbs (term c), misfit-most (s .args .image .now) (s .pre .image-most) (s .args .samples .now) bytes (l .i)) }
 
-add-i : tie.Need-add-i Inv-loop μ-loop
-add-i c = search needs
-
 loop-less : tie.Need-loop-less Inv-loop μ-loop
 loop-less c = search needs
 
@@ -71,12 +59,12 @@ misfit-spec =
     Inv-loop
     μ-loop
     loop-holds
-    mul-squared-misfit
-    shared-slice-copy-out-squared-misfit
-    shared-slice-read-squared-misfit
+    (λ c. search needs)
+    (λ c. search needs)
+    (λ c. search needs)
     squared-misfit-requires
     add-sum
-    add-i
+    (λ c. search needs)
     loop-less
     loop-again
     returns)

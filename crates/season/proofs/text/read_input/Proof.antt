@@ -8,24 +8,6 @@ use borrow.Author.Needs.{needs}
 use Rattle.season.proofs.text.read_input.Statement.{statement}
 use Rattle.season.proofs.text.read_input.Tie as tie
 
-slice-aggregate-read-season : tie.Need-slice-aggregate-read-season
-slice-aggregate-read-season c = search needs
-
-slice-aggregate-read-season-2 : tie.Need-slice-aggregate-read-season-2
-slice-aggregate-read-season-2 c = search needs
-
-slice-aggregate-read-season-3 : tie.Need-slice-aggregate-read-season-3
-slice-aggregate-read-season-3 c = search needs
-
-slice-aggregate-read-season-4 : tie.Need-slice-aggregate-read-season-4
-slice-aggregate-read-season-4 c = search needs
-
-slice-aggregate-read-season-5 : tie.Need-slice-aggregate-read-season-5
-slice-aggregate-read-season-5 c = search needs
-
-slice-aggregate-read-season-6 : tie.Need-slice-aggregate-read-season-6
-slice-aggregate-read-season-6 c = search needs
-
 read-season-requires : tie.Need-read-season-requires
 read-season-requires c κs =
     record {
@@ -41,11 +23,11 @@ pub read-input-spec : {M : Type 1} → statement M
 read-input-spec =
     tie.close
     (tie.spec
-    slice-aggregate-read-season
-    slice-aggregate-read-season-2
-    slice-aggregate-read-season-3
-    slice-aggregate-read-season-4
-    slice-aggregate-read-season-5
-    slice-aggregate-read-season-6
+    (λ c. search needs)
+    (λ c. search needs)
+    (λ c. search needs)
+    (λ c. search needs)
+    (λ c. search needs)
+    (λ c. search needs)
     read-season-requires
     returns)

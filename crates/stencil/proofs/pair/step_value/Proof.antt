@@ -39,9 +39,6 @@ add-requires c κs =
 neg-requires : tie.Need-neg-requires
 neg-requires c κs = rw (toZ-ofZ w32 _ (c .before .before .before .fits .weight)) (omega arith)
 
-clamped-requires : tie.Need-clamped-requires
-clamped-requires c κs = search needs
-
 returns : tie.Need-returns
 unfolding stepValue
 returns c =
@@ -54,4 +51,10 @@ returns c =
 pub step-value-spec : {M : Type 1} → statement M
 step-value-spec =
     tie.close
-    (tie.spec sub-requires share-requires add-requires neg-requires clamped-requires returns)
+    (tie.spec
+    sub-requires
+    share-requires
+    add-requires
+    neg-requires
+    (λ c κs. search needs)
+    returns)

@@ -20,21 +20,6 @@ small {m} {n} h k =
     let b : n ≤ 2 ^ 32 - 1 = omega arith in
     omega (arith, mul-le-mul a b)
 
-magnitude-requires : tie.Need-magnitude-requires
-magnitude-requires c κs = search needs
-
-cast-result : tie.Need-cast-result
-cast-result c = search needs
-
-sub-requires : tie.Need-sub-requires
-sub-requires c κs = search needs
-
-magnitude-requires-2 : tie.Need-magnitude-requires-2
-magnitude-requires-2 c κs = search needs
-
-cast-result-2 : tie.Need-cast-result-2
-cast-result-2 c = search needs
-
 mul-result : tie.Need-mul-result
 mul-result c = record { fits = small (c .before .before .magnitude .ok) (c .magnitude2 .ok) }
 
@@ -51,10 +36,10 @@ pub variation-spec : {M : Type 1} → statement M
 variation-spec =
     tie.close
     (tie.spec
-    magnitude-requires
-    cast-result
-    sub-requires
-    magnitude-requires-2
-    cast-result-2
+    (λ c κs. search needs)
+    (λ c. search needs)
+    (λ c κs. search needs)
+    (λ c κs. search needs)
+    (λ c. search needs)
     mul-result
     returns)

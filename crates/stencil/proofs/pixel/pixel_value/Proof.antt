@@ -42,9 +42,6 @@ sub-requires-2 c κs =
     rw (toZ-ofZ w32 _ (c .before .before .before .fits .b), pull c)
     (omega (arith, natAbs-sum (a .below) (a .right), natAbs-sum (a .above) (a .left), natAbs-difference (a .below +ℤ a .right) (a .above +ℤ a .left)))
 
-clamped-requires : tie.Need-clamped-requires
-clamped-requires c κs = search needs
-
 returns : tie.Need-returns
 returns c =
     let s = c .before .before .before .before .before in
@@ -54,4 +51,10 @@ returns c =
 pub pixel-value-spec : {M : Type 1} → statement M
 pixel-value-spec =
     tie.close
-    (tie.spec add-requires add-requires-2 sub-requires sub-requires-2 clamped-requires returns)
+    (tie.spec
+    add-requires
+    add-requires-2
+    sub-requires
+    sub-requires-2
+    (λ c κs. search needs)
+    returns)

@@ -61,30 +61,6 @@ got c {x} e =
     let lent = lentIn (length (s .args .samples .now)) (length (s .args .weights .now)) (length (s .args .flow .now)) in
     subst (λ (l : List ℕ). TakenFrom l lent (s .args .totals) x) (front j) (subst (TakenFrom (take (j .if1 .count) (s .args .bytes .now)) lent (s .args .totals)) e (c .take-job .ensures))
 
-enum-known-s : tie.Need-enum-known-s
-enum-known-s c = search needs
-
-enum-known-s-2 : tie.Need-enum-known-s-2
-enum-known-s-2 c = search needs
-
-enum-known-s-3 : tie.Need-enum-known-s-3
-enum-known-s-3 c = search needs
-
-same-length : tie.Need-same-length
-same-length c = search needs
-
-same-length-2 : tie.Need-same-length-2
-same-length-2 c = search needs
-
-same-length-3 : tie.Need-same-length-3
-same-length-3 c = search needs
-
-same-length-4 : tie.Need-same-length-4
-same-length-4 c = search needs
-
-same-length-5 : tie.Need-same-length-5
-same-length-5 c = search needs
-
 returns : tie.Need-returns
 returns c =
     let g = c .before .before in
@@ -92,21 +68,6 @@ returns c =
     let s = k .before .before .before .before .before .before .before .before .before .before in
     next-past (s .args .bytes .now) _ (s .args .totals) (s .pre .2 .notLast) (got k (g .s3 .given .1))
     (past (k .before .before .before .before .before .before .before) .0 (c .if2 .taken))
-
-same-length-6 : tie.Need-same-length-6
-same-length-6 c = search needs
-
-same-length-7 : tie.Need-same-length-7
-same-length-7 c = search needs
-
-same-length-8 : tie.Need-same-length-8
-same-length-8 c = search needs
-
-same-length-9 : tie.Need-same-length-9
-same-length-9 c = search needs
-
-same-length-10 : tie.Need-same-length-10
-same-length-10 c = search needs
 
 returns-2 : tie.Need-returns-2
 returns-2 c =
@@ -116,42 +77,12 @@ returns-2 c =
     next-more (s .args .bytes .now) _ (s .args .totals) (s .pre .2 .notLast) (got k (g .s3 .given .1))
     (past (k .before .before .before .before .before .before .before) .1 (c .before .if2 .left)) (not-true _ (c .if3 .taken))
 
-same-length-11 : tie.Need-same-length-11
-same-length-11 c = search needs
-
-same-length-12 : tie.Need-same-length-12
-same-length-12 c = search needs
-
-same-length-13 : tie.Need-same-length-13
-same-length-13 c = search needs
-
-same-length-14 : tie.Need-same-length-14
-same-length-14 c = search needs
-
-same-length-15 : tie.Need-same-length-15
-same-length-15 c = search needs
-
 returns-3 : tie.Need-returns-3
 returns-3 c =
     let g = c .before in
     let k = g .before .before .before .before .before .before .before .before in
     let s = k .before .before .before .before .before .before .before .before .before .before in
     next-counted (s .args .bytes .now) _ (s .args .totals) (s .pre .2 .notLast) (got k (g .s .given .1))
-
-same-length-16 : tie.Need-same-length-16
-same-length-16 c = search needs
-
-same-length-17 : tie.Need-same-length-17
-same-length-17 c = search needs
-
-same-length-18 : tie.Need-same-length-18
-same-length-18 c = search needs
-
-same-length-19 : tie.Need-same-length-19
-same-length-19 c = search needs
-
-same-length-20 : tie.Need-same-length-20
-same-length-20 c = search needs
 
 returns-4 : tie.Need-returns-4
 returns-4 c =
@@ -160,42 +91,12 @@ returns-4 c =
     let s = k .before .before .before .before .before .before .before .before .before .before in
     next-refused (s .args .bytes .now) _ (s .args .totals) (s .pre .2 .notLast) (got k (g .s2 .given .1))
 
-same-length-21 : tie.Need-same-length-21
-same-length-21 c = search needs
-
-same-length-22 : tie.Need-same-length-22
-same-length-22 c = search needs
-
-same-length-23 : tie.Need-same-length-23
-same-length-23 c = search needs
-
-same-length-24 : tie.Need-same-length-24
-same-length-24 c = search needs
-
-same-length-25 : tie.Need-same-length-25
-same-length-25 c = search needs
-
 returns-5 : tie.Need-returns-5
 returns-5 c =
     let g = c .before .before .before .before in
     let k = g .before .before .before .before .before .before .before .before in
     let s = k .before .before .before .before .before .before .before .before .before .before in
     next-over (s .args .bytes .now) _ (s .args .totals) (s .pre .2 .notLast) (not-false _ (c .before .if3 .left)) (c .if4 .taken)
-
-same-length-26 : tie.Need-same-length-26
-same-length-26 c = search needs
-
-same-length-27 : tie.Need-same-length-27
-same-length-27 c = search needs
-
-same-length-28 : tie.Need-same-length-28
-same-length-28 c = search needs
-
-same-length-29 : tie.Need-same-length-29
-same-length-29 c = search needs
-
-same-length-30 : tie.Need-same-length-30
-same-length-30 c = search needs
 
 returns-6 : tie.Need-returns-6
 returns-6 c =
@@ -212,42 +113,42 @@ next-of-spec =
     (tie.spec
     slice-aggregate-take-job
     take-job-requires
-    enum-known-s
-    enum-known-s-2
-    enum-known-s-3
-    same-length
-    same-length-2
-    same-length-3
-    same-length-4
-    same-length-5
+    (λ c. search needs)
+    (λ c. search needs)
+    (λ c. search needs)
+    (λ c. search needs)
+    (λ c. search needs)
+    (λ c. search needs)
+    (λ c. search needs)
+    (λ c. search needs)
     returns
-    same-length-6
-    same-length-7
-    same-length-8
-    same-length-9
-    same-length-10
+    (λ c. search needs)
+    (λ c. search needs)
+    (λ c. search needs)
+    (λ c. search needs)
+    (λ c. search needs)
     returns-2
-    same-length-11
-    same-length-12
-    same-length-13
-    same-length-14
-    same-length-15
+    (λ c. search needs)
+    (λ c. search needs)
+    (λ c. search needs)
+    (λ c. search needs)
+    (λ c. search needs)
     returns-3
-    same-length-16
-    same-length-17
-    same-length-18
-    same-length-19
-    same-length-20
+    (λ c. search needs)
+    (λ c. search needs)
+    (λ c. search needs)
+    (λ c. search needs)
+    (λ c. search needs)
     returns-4
-    same-length-21
-    same-length-22
-    same-length-23
-    same-length-24
-    same-length-25
+    (λ c. search needs)
+    (λ c. search needs)
+    (λ c. search needs)
+    (λ c. search needs)
+    (λ c. search needs)
     returns-5
-    same-length-26
-    same-length-27
-    same-length-28
-    same-length-29
-    same-length-30
+    (λ c. search needs)
+    (λ c. search needs)
+    (λ c. search needs)
+    (λ c. search needs)
+    (λ c. search needs)
     returns-6)

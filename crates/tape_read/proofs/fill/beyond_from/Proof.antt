@@ -28,24 +28,6 @@ given s =
 loop-holds : tie.Need-loop-holds Inv-loop μ-loop
 loop-holds c = search-start _ _
 
-own-weight-requires : tie.Need-own-weight-requires Inv-loop μ-loop
-own-weight-requires c κs = omega arith
-
-mul-four-at : tie.Need-mul-four-at Inv-loop μ-loop
-mul-four-at c = omega arith
-
-add-four-at : tie.Need-add-four-at Inv-loop μ-loop
-add-four-at c = omega arith
-
-add-four-at-2 : tie.Need-add-four-at-2 Inv-loop μ-loop
-add-four-at-2 c = omega arith
-
-four-at-requires : tie.Need-four-at-requires Inv-loop μ-loop
-four-at-requires c κs = omega arith
-
-is-beyond-requires : tie.Need-is-beyond-requires Inv-loop μ-loop
-is-beyond-requires c κs = search needs
-
 -- what `is_beyond` answers at `j`
 answer : (c : tie.After-is-beyond Inv-loop μ-loop) → let s = c .before .before .before .before in
     c .is-beyond .result ≡ given s (s .loop .j)
@@ -58,9 +40,6 @@ returns : tie.Need-returns Inv-loop μ-loop
 returns c =
     let s = c .before .before .before .before .before in
     search-found _ (given s) _ (s .loop .inv) (sym (answer (c .before)) ∙ c .if1 .taken)
-
-add-j : tie.Need-add-j Inv-loop μ-loop
-add-j c = omega arith
 
 loop-less : tie.Need-loop-less Inv-loop μ-loop
 loop-less c = omega arith
@@ -81,14 +60,14 @@ beyond-from-spec =
     Inv-loop
     μ-loop
     loop-holds
-    own-weight-requires
-    mul-four-at
-    add-four-at
-    add-four-at-2
-    four-at-requires
-    is-beyond-requires
+    (λ c κs. omega arith)
+    (λ c. omega arith)
+    (λ c. omega arith)
+    (λ c. omega arith)
+    (λ c κs. omega arith)
+    (λ c κs. search needs)
     returns
-    add-j
+    (λ c. omega arith)
     loop-less
     loop-again
     returns-2)

@@ -24,30 +24,12 @@ abbrev μ-loop : tie.MeasureT-loop
 loop-holds : tie.Need-loop-holds Inv-loop μ-loop
 loop-holds c = fill-start _ _ _
 
-mul-four-at : tie.Need-mul-four-at Inv-loop μ-loop
-mul-four-at c = omega arith
-
-add-four-at : tie.Need-add-four-at Inv-loop μ-loop
-add-four-at c = omega arith
-
-add-four-at-2 : tie.Need-add-four-at-2 Inv-loop μ-loop
-add-four-at-2 c = omega arith
-
-four-at-requires : tie.Need-four-at-requires Inv-loop μ-loop
-four-at-requires c κs = omega arith
-
 -- the buffer keeps its length
 long : (c : tie.At-loop Inv-loop μ-loop) → length (c .loop .flow) ≡ length (c .before .before .args .flow .now)
 long c = fill-length _ _ _ (c .before .before .pre .1) (c .loop .inv)
 
-mul-t11 : tie.Need-mul-t11 Inv-loop μ-loop
-mul-t11 c = omega arith
-
 slice-set-from-flow : tie.Need-slice-set-from-flow Inv-loop μ-loop
 slice-set-from-flow c = omega (arith, long (c .before .before))
-
-add-j : tie.Need-add-j Inv-loop μ-loop
-add-j c = omega arith
 
 loop-less : tie.Need-loop-less Inv-loop μ-loop
 loop-less c = omega arith
@@ -72,13 +54,13 @@ fill-flow-spec =
     Inv-loop
     μ-loop
     loop-holds
-    mul-four-at
-    add-four-at
-    add-four-at-2
-    four-at-requires
-    mul-t11
+    (λ c. omega arith)
+    (λ c. omega arith)
+    (λ c. omega arith)
+    (λ c κs. omega arith)
+    (λ c. omega arith)
     slice-set-from-flow
-    add-j
+    (λ c. omega arith)
     loop-less
     loop-again
     same-length

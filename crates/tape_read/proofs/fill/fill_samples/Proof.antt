@@ -21,27 +21,12 @@ abbrev μ-loop : tie.MeasureT-loop
 loop-holds : tie.Need-loop-holds Inv-loop μ-loop
 loop-holds c = fill-start _ _ _
 
-mul-samples : tie.Need-mul-samples Inv-loop μ-loop
-mul-samples c = omega arith
-
-add-samples : tie.Need-add-samples Inv-loop μ-loop
-add-samples c = omega arith
-
-add-samples-2 : tie.Need-add-samples-2 Inv-loop μ-loop
-add-samples-2 c = omega arith
-
-shared-slice-read-samples : tie.Need-shared-slice-read-samples Inv-loop μ-loop
-shared-slice-read-samples c = omega arith
-
 -- the buffer keeps its length
 long : (c : tie.At-loop Inv-loop μ-loop) → length (c .loop .samples) ≡ length (c .before .args .samples .now)
 long c = fill-length _ _ _ (c .before .pre .1) (c .loop .inv)
 
 slice-write-samples : tie.Need-slice-write-samples Inv-loop μ-loop
 slice-write-samples c = omega (arith, long (c .before .before))
-
-add-i : tie.Need-add-i Inv-loop μ-loop
-add-i c = omega arith
 
 loop-less : tie.Need-loop-less Inv-loop μ-loop
 loop-less c = omega arith
@@ -65,12 +50,12 @@ fill-samples-spec =
     Inv-loop
     μ-loop
     loop-holds
-    mul-samples
-    add-samples
-    add-samples-2
-    shared-slice-read-samples
+    (λ c. omega arith)
+    (λ c. omega arith)
+    (λ c. omega arith)
+    (λ c. omega arith)
     slice-write-samples
-    add-i
+    (λ c. omega arith)
     loop-less
     loop-again
     same-length

@@ -25,18 +25,6 @@ abbrev μ-loop : tie.MeasureT-loop
 loop-holds : tie.Need-loop-holds Inv-loop μ-loop
 loop-holds c = fill-start _ _ _
 
-mul-two-at : tie.Need-mul-two-at Inv-loop μ-loop
-mul-two-at c = omega arith
-
-add-two-at : tie.Need-add-two-at Inv-loop μ-loop
-add-two-at c = omega arith
-
-add-two-at-2 : tie.Need-add-two-at-2 Inv-loop μ-loop
-add-two-at-2 c = omega arith
-
-two-at-requires : tie.Need-two-at-requires Inv-loop μ-loop
-two-at-requires c κs = omega arith
-
 cast-weights : tie.Need-cast-weights Inv-loop μ-loop
 cast-weights c = record { sfits = omega (arith, c .two-at .ensures .1) }
 
@@ -44,14 +32,8 @@ cast-weights c = record { sfits = omega (arith, c .two-at .ensures .1) }
 long : (c : tie.At-loop Inv-loop μ-loop) → length (c .loop .weights) ≡ length (c .before .before .args .weights .now)
 long c = fill-length _ _ _ (c .before .before .pre .1) (c .loop .inv)
 
-mul-t12 : tie.Need-mul-t12 Inv-loop μ-loop
-mul-t12 c = omega arith
-
 slice-set-from-weights : tie.Need-slice-set-from-weights Inv-loop μ-loop
 slice-set-from-weights c = omega (arith, long (c .before .before))
-
-add-j : tie.Need-add-j Inv-loop μ-loop
-add-j c = omega arith
 
 loop-less : tie.Need-loop-less Inv-loop μ-loop
 loop-less c = omega arith
@@ -76,14 +58,14 @@ fill-weights-spec =
     Inv-loop
     μ-loop
     loop-holds
-    mul-two-at
-    add-two-at
-    add-two-at-2
-    two-at-requires
+    (λ c. omega arith)
+    (λ c. omega arith)
+    (λ c. omega arith)
+    (λ c κs. omega arith)
     cast-weights
-    mul-t12
+    (λ c. omega arith)
     slice-set-from-weights
-    add-j
+    (λ c. omega arith)
     loop-less
     loop-again
     same-length

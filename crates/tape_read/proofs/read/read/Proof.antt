@@ -16,21 +16,12 @@ use borrow.Author.Needs.{needs}
 use Rattle.tape_read.proofs.read.read.Statement.{statement}
 use Rattle.tape_read.proofs.read.read.Tie as tie
 
-fresh-requires : tie.Need-fresh-requires
-fresh-requires c κs = search needs
-
 -- where nothing has been read, the first record is reached, whatever is lent
 begun : {tape : List ℕ} {lent : Lent} {t : Tally} → t ≡ tallyOf nothing → Reached tape lent t 0
 begun {tape} {lent} e = subst⁻¹ (λ (t : Tally). Reached tape lent t 0) e (start tape lent)
 
 scan-tape-requires : tie.Need-scan-tape-requires
 scan-tape-requires c κs = begun (c .fresh .ensures)
-
-enum-known-scanned : tie.Need-enum-known-scanned
-enum-known-scanned c = search needs
-
-enum-known-scanned-2 : tie.Need-enum-known-scanned-2
-enum-known-scanned-2 c = search needs
 
 -- where the scan stopped, by the case of its answer
 stopped : (c : tie.After-scan-tape) {s : Scanned} → c .scan-tape .result ≡ s → let a = c .before .before .before .before .args in
@@ -59,15 +50,6 @@ returns c =
     (sym (weights-by (a .tape .now) (a .samples .now) (a .weights .now) (a .flow .now) r))
     (sym (flow-by (a .tape .now) (a .samples .now) (a .weights .now) (a .flow .now) r))
 
-same-length : tie.Need-same-length
-same-length c = search needs
-
-same-length-2 : tie.Need-same-length-2
-same-length-2 c = search needs
-
-same-length-3 : tie.Need-same-length-3
-same-length-3 c = search needs
-
 returns-2 : tie.Need-returns-2
 returns-2 c =
     let n = c .before .before .before .before in
@@ -81,13 +63,13 @@ pub read-spec : {M : Type 1} → statement M
 read-spec =
     tie.close
     (tie.spec
-    fresh-requires
+    (λ c κs. search needs)
     scan-tape-requires
-    enum-known-scanned
-    enum-known-scanned-2
+    (λ c. search needs)
+    (λ c. search needs)
     take-numbers-requires
     returns
-    same-length
-    same-length-2
-    same-length-3
+    (λ c. search needs)
+    (λ c. search needs)
+    (λ c. search needs)
     returns-2)

@@ -74,15 +74,6 @@ fill-weights-requires c κs = omega (arith, fits (from-start (c .before .before 
 fill-flow-requires : tie.Need-fill-flow-requires
 fill-flow-requires c κs = omega (arith, fits (from-start (c .before .before .before .before .before .before .before)))
 
-same-length : tie.Need-same-length
-same-length c = search needs
-
-same-length-2 : tie.Need-same-length-2
-same-length-2 c = search needs
-
-same-length-3 : tie.Need-same-length-3
-same-length-3 c = search needs
-
 returns-2 : tie.Need-returns-2
 returns-2 c =
     let flow = c .before .before .before in
@@ -115,7 +106,7 @@ take-numbers-spec =
     fill-samples-requires
     fill-weights-requires
     fill-flow-requires
-    same-length
-    same-length-2
-    same-length-3
+    (λ c. search needs)
+    (λ c. search needs)
+    (λ c. search needs)
     returns-2)

@@ -10,15 +10,9 @@ use Rattle.tape_write.proofs.write.judge_last.Tie as tie
 returns : tie.Need-returns
 returns c = sym (refused _ _ (lt-ltb _ _ (c .if1 .taken)))
 
-first-over-requires : tie.Need-first-over-requires
-first-over-requires c κs = search needs
-
 returns-2 : tie.Need-returns-2
 returns-2 c =
     sym (passed _ _ (le-ltb _ _ (c .before .before .if1 .left)) ∙ found (c .before .first-over .ensures) _ _ _ (c .if2 .taken))
-
-first-beyond-requires : tie.Need-first-beyond-requires
-first-beyond-requires c κs = search needs
 
 returns-3 : tie.Need-returns-3
 returns-3 c =
@@ -40,4 +34,10 @@ returns-4 c =
 pub judge-last-spec : {M : Type 1} → statement M
 judge-last-spec =
     tie.close
-    (tie.spec returns first-over-requires returns-2 first-beyond-requires returns-3 returns-4)
+    (tie.spec
+    returns
+    (λ c κs. search needs)
+    returns-2
+    (λ c κs. search needs)
+    returns-3
+    returns-4)

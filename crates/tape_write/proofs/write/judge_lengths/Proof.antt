@@ -42,17 +42,8 @@ few c =
     let size = allowed-size (s .pre .0) in
     (omega (arith, s .pre .1), up-to (weights-due c) (size .pairs), up-to (flow-due (c .before .before)) (size .pairs))
 
-pairs-requires : tie.Need-pairs-requires
-pairs-requires c κs = search needs
-
-wrong-length-requires : tie.Need-wrong-length-requires
-wrong-length-requires c κs = search needs
-
 returns : tie.Need-returns
 returns c = sym (refused _ _ (flow-tested (c .before) ∙ c .if1 .taken))
-
-wrong-length-requires-2 : tie.Need-wrong-length-requires-2
-wrong-length-requires-2 c κs = search needs
 
 returns-2 : tie.Need-returns-2
 returns-2 c =
@@ -66,14 +57,8 @@ mul-size c = omega (arith, few c)
 add-size : tie.Need-add-size
 add-size c = omega (arith, few c)
 
-mul-size-2 : tie.Need-mul-size-2
-mul-size-2 c = search needs
-
 add-size-2 : tie.Need-add-size-2
 add-size-2 c = omega (arith, few c)
-
-mul-size-3 : tie.Need-mul-size-3
-mul-size-3 c = search needs
 
 add-size-3 : tie.Need-add-size-3
 add-size-3 c = omega (arith, few c)
@@ -92,16 +77,16 @@ pub judge-lengths-spec : {M : Type 1} → statement M
 judge-lengths-spec =
     tie.close
     (tie.spec
-    pairs-requires
-    wrong-length-requires
+    (λ c κs. search needs)
+    (λ c κs. search needs)
     returns
-    wrong-length-requires-2
+    (λ c κs. search needs)
     returns-2
     mul-size
     add-size
-    mul-size-2
+    (λ c. search needs)
     add-size-2
-    mul-size-3
+    (λ c. search needs)
     add-size-3
     judge-last-requires
     returns-3)

@@ -12,14 +12,8 @@ use Rattle.tape_write.proofs.write.judge_lower.Tie as tie
 quick : (c : tie.Else1) → lib.Dec.ltb 4096 (c .before .before .args .r .quick) ≡ false
 quick c = not-true _ (sym (c .before .quick-allowed .ensures) ∙ not-false _ (c .if1 .left))
 
-quick-allowed-requires : tie.Need-quick-allowed-requires
-quick-allowed-requires c κs = search needs
-
 returns : tie.Need-returns
 returns c = sym (refused _ _ (not-false _ (sym (c .before .quick-allowed .ensures) ∙ not-true _ (c .if1 .taken))))
-
-pixels-requires : tie.Need-pixels-requires
-pixels-requires c κs = search needs
 
 returns-2 : tie.Need-returns-2
 returns-2 c =
@@ -27,9 +21,6 @@ returns-2 c =
     sym
     (passed _ _ (quick (c .before .before))
     ∙ refused _ _ (ap not (ne-eqb (a .samples) (pixelsOf (a .t)) (λ e. c .if2 .taken (e ∙ sym (c .before .pixels .ensures))))))
-
-judge-lengths-requires : tie.Need-judge-lengths-requires
-judge-lengths-requires c κs = search needs
 
 returns-3 : tie.Need-returns-3
 returns-3 c =
@@ -43,9 +34,9 @@ pub judge-lower-spec : {M : Type 1} → statement M
 judge-lower-spec =
     tie.close
     (tie.spec
-    quick-allowed-requires
+    (λ c κs. search needs)
     returns
-    pixels-requires
+    (λ c κs. search needs)
     returns-2
-    judge-lengths-requires
+    (λ c κs. search needs)
     returns-3)

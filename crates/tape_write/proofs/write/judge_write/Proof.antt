@@ -28,15 +28,6 @@ rows c h =
     write-rows (a .t) (a .r) (a .samples .now) (a .weights .now) (a .flow .now) (a .room)
     ∙ ap (λ (x : Verdict). decided x (firstRefusal (lower c)) Verdict.Refuse) h
 
-judge-terms-requires : tie.Need-judge-terms-requires
-judge-terms-requires c κs = search needs
-
-enum-known-v : tie.Need-enum-known-v
-enum-known-v c = search needs
-
-enum-told : tie.Need-enum-told
-enum-told c = search needs
-
 judge-lower-requires : tie.Need-judge-lower-requires
 judge-lower-requires c κs =
     accepted-size (c .before .before .before .before .args .t) (sym (c .before .before .judge-terms .ensures) ∙ c .enum-told .given .1)
@@ -54,4 +45,10 @@ returns-2 c =
 pub judge-write-spec : {M : Type 1} → statement M
 judge-write-spec =
     tie.close
-    (tie.spec judge-terms-requires enum-known-v enum-told judge-lower-requires returns returns-2)
+    (tie.spec
+    (λ c κs. search needs)
+    (λ c. search needs)
+    (λ c. search needs)
+    judge-lower-requires
+    returns
+    returns-2)

@@ -12,15 +12,6 @@ use borrow.Author.Needs.{needs}
 use Rattle.tape_write.proofs.write.write.Statement.{statement}
 use Rattle.tape_write.proofs.write.write.Tie as tie
 
-judge-write-requires : tie.Need-judge-write-requires
-judge-write-requires c κs = search needs
-
-enum-known-v : tie.Need-enum-known-v
-enum-known-v c = search needs
-
-enum-told : tie.Need-enum-told
-enum-told c = search needs
-
 -- the verdict is that of write's rows
 judged : (c : tie.After-judge-write) → let a = c .before .before .before .args in
     c .judge-write .result
@@ -42,9 +33,6 @@ returns c =
     (sym (written-answer (a .t) (a .r) (a .samples .now) (a .weights .now) (a .flow .now) (a .output .now) v))
     (sym (written-output (a .t) (a .r) (a .samples .now) (a .weights .now) (a .flow .now) (a .output .now) v))
 
-same-length : tie.Need-same-length
-same-length c = search needs
-
 returns-2 : tie.Need-returns-2
 returns-2 c =
     let known = c .before .before .before .before in
@@ -62,10 +50,10 @@ pub write-spec : {M : Type 1} → statement M
 write-spec =
     tie.close
     (tie.spec
-    judge-write-requires
-    enum-known-v
-    enum-told
+    (λ c κs. search needs)
+    (λ c. search needs)
+    (λ c. search needs)
     lay-tape-requires
     returns
-    same-length
+    (λ c. search needs)
     returns-2)

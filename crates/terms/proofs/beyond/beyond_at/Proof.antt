@@ -10,18 +10,6 @@ use Rattle.model.specs.Lists.{at}
 use Rattle.terms.proofs.beyond.beyond_at.Statement.{statement}
 use Rattle.terms.proofs.beyond.beyond_at.Tie as tie
 
-pair-weight-requires : tie.Need-pair-weight-requires
-pair-weight-requires c κs = search needs
-
-mul-is-beyond : tie.Need-mul-is-beyond
-mul-is-beyond c = search needs
-
-shared-slice-copy-out-is-beyond : tie.Need-shared-slice-copy-out-is-beyond
-shared-slice-copy-out-is-beyond c = search needs
-
-is-beyond-requires : tie.Need-is-beyond-requires
-is-beyond-requires c κs = search needs
-
 returns : tie.Need-returns
 returns c =
     let a = c .before .before .before .args in
@@ -33,8 +21,8 @@ pub beyond-at-spec : {M : Type 1} → statement M
 beyond-at-spec =
     tie.close
     (tie.spec
-    pair-weight-requires
-    mul-is-beyond
-    shared-slice-copy-out-is-beyond
-    is-beyond-requires
+    (λ c κs. search needs)
+    (λ c. search needs)
+    (λ c. search needs)
+    (λ c κs. search needs)
     returns)

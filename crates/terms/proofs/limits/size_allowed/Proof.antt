@@ -20,14 +20,8 @@ size : (w h : ℕ) {a b : Bool} → side w ≡ a → side h ≡ b → sizeAllowe
 unfolding sizeAllowed
 size w h e f = ap₂ (λ (a b : Bool). a && b && leb (w * h) 1048576) e f
 
-side-allowed-requires : tie.Need-side-allowed-requires
-side-allowed-requires c κs = search needs
-
 returns : tie.Need-returns
 returns c = sym (size _ _ (sym (c .before .side-allowed .ensures) ∙ not-true _ (c .if1 .taken)) refl)
-
-side-allowed-requires-2 : tie.Need-side-allowed-requires-2
-side-allowed-requires-2 c κs = search needs
 
 wide : (c : tie.Else1) → side (c .before .before .args .width) ≡ true
 wide c = sym (c .before .side-allowed .ensures) ∙ not-false _ (c .if1 .left)
@@ -53,4 +47,10 @@ returns-3 c = sym (size _ _ (wide (c .before .before)) (tall c))
 pub size-allowed-spec : {M : Type 1} → statement M
 size-allowed-spec =
     tie.close
-    (tie.spec side-allowed-requires returns side-allowed-requires-2 returns-2 mul-result returns-3)
+    (tie.spec
+    (λ c κs. search needs)
+    returns
+    (λ c κs. search needs)
+    returns-2
+    mul-result
+    returns-3)

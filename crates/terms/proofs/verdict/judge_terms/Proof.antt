@@ -20,14 +20,8 @@ second t = weightRow (t .weight) 0 ∷ third t
 abbrev first : Terms → List Row
 first t = sizeRow t 0 ∷ second t
 
-size-allowed-requires : tie.Need-size-allowed-requires
-size-allowed-requires c κs = search needs
-
 returns : tie.Need-returns
 returns c = sym (refused _ _ (sym (ap not (c .before .size-allowed .ensures)) ∙ c .if1 .taken))
-
-weight-allowed-requires : tie.Need-weight-allowed-requires
-weight-allowed-requires c κs = search needs
 
 -- the row of the size does not apply
 past-size : (c : tie.Else1) →
@@ -37,9 +31,6 @@ past-size c = passed _ _ (sym (ap not (c .before .size-allowed .ensures)) ∙ c 
 returns-2 : tie.Need-returns-2
 returns-2 c =
     sym (past-size (c .before .before) ∙ refused _ _ (sym (ap not (c .before .weight-allowed .ensures)) ∙ c .if2 .taken))
-
-box-allowed-requires : tie.Need-box-allowed-requires
-box-allowed-requires c κs = search needs
 
 -- nor does the row of the weight
 past-weight : (c : tie.Else2) →
@@ -61,10 +52,10 @@ pub judge-terms-spec : {M : Type 1} → statement M
 judge-terms-spec =
     tie.close
     (tie.spec
-    size-allowed-requires
+    (λ c κs. search needs)
     returns
-    weight-allowed-requires
+    (λ c κs. search needs)
     returns-2
-    box-allowed-requires
+    (λ c κs. search needs)
     returns-3
     returns-4)

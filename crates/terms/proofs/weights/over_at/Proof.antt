@@ -10,15 +10,6 @@ use Rattle.model.specs.Grid.{pairWeightAllowed}
 use Rattle.terms.proofs.weights.over_at.Statement.{statement}
 use Rattle.terms.proofs.weights.over_at.Tie as tie
 
-mul-pair-weight-allowed : tie.Need-mul-pair-weight-allowed
-mul-pair-weight-allowed c = search needs
-
-shared-slice-copy-out-pair-weight-allowed : tie.Need-shared-slice-copy-out-pair-weight-allowed
-shared-slice-copy-out-pair-weight-allowed c = search needs
-
-pair-weight-allowed-requires : tie.Need-pair-weight-allowed-requires
-pair-weight-allowed-requires c κs = search needs
-
 returns : tie.Need-returns
 returns c =
     let a = c .before .before .args in
@@ -29,7 +20,7 @@ pub over-at-spec : {M : Type 1} → statement M
 over-at-spec =
     tie.close
     (tie.spec
-    mul-pair-weight-allowed
-    shared-slice-copy-out-pair-weight-allowed
-    pair-weight-allowed-requires
+    (λ c. search needs)
+    (λ c. search needs)
+    (λ c κs. search needs)
     returns)

@@ -22,9 +22,6 @@ mul-magnitude c = record { fits = omega (arith, inside c) }
 shared-slice-copy-out-magnitude : tie.Need-shared-slice-copy-out-magnitude
 shared-slice-copy-out-magnitude c = inside c
 
-magnitude-requires : tie.Need-magnitude-requires
-magnitude-requires c κs = search needs
-
 returns : tie.Need-returns
 unfolding weightOf
 returns c = sym (ap natAbs (List·getD-eq-default (c .before .args .weights .now) (pos (c .before .args .t .weight)) (omega arith)))
@@ -42,4 +39,9 @@ returns-2 c =
 pub pair-weight-spec : {M : Type 1} → statement M
 pair-weight-spec =
     tie.close
-    (tie.spec mul-magnitude shared-slice-copy-out-magnitude magnitude-requires returns returns-2)
+    (tie.spec
+    mul-magnitude
+    shared-slice-copy-out-magnitude
+    (λ c κs. search needs)
+    returns
+    returns-2)

@@ -16,21 +16,6 @@ use borrow.Author.Needs.{needs}
 use Rattle.text.proofs.number.put_signed.Statement.{statement}
 use Rattle.text.proofs.number.put_signed.Tie as tie
 
-magnitude-wide-requires : tie.Need-magnitude-wide-requires
-magnitude-wide-requires c κs = search needs
-
-put-byte-requires : tie.Need-put-byte-requires
-put-byte-requires c κs = search needs
-
-put-decimal-requires : tie.Need-put-decimal-requires
-put-decimal-requires c κs = search needs
-
-put-decimal-requires-2 : tie.Need-put-decimal-requires-2
-put-decimal-requires-2 c κs = search needs
-
-same-length : tie.Need-same-length
-same-length c = search needs
-
 zero-fits : SFits w64 (pos 0)
 zero-fits = fits w64 (lit< tt)
 
@@ -49,9 +34,6 @@ returns c =
       omega arith,
     )
 
-same-length-2 : tie.Need-same-length-2
-same-length-2 c = search needs
-
 returns-2 : tie.Need-returns-2
 returns-2 c =
     let s = c .before .before .before .before in
@@ -66,11 +48,11 @@ pub put-signed-spec : {M : Type 1} → statement M
 put-signed-spec =
     tie.close
     (tie.spec
-    magnitude-wide-requires
-    put-byte-requires
-    put-decimal-requires
-    put-decimal-requires-2
-    same-length
+    (λ c κs. search needs)
+    (λ c κs. search needs)
+    (λ c κs. search needs)
+    (λ c κs. search needs)
+    (λ c. search needs)
     returns
-    same-length-2
+    (λ c. search needs)
     returns-2)
