@@ -2,6 +2,7 @@
 
 use model::Terms;
 use model::Verdict;
+use row_judges::enough;
 use row_judges::exact;
 use row_judges::exact_or_none;
 use row_judges::first;
@@ -11,10 +12,11 @@ use row_judges::judge_lengths;
 use row_judges::judge_rounds;
 use row_judges::judge_weights;
 use row_judges::lengths_due;
-ghost use Prim.Native.Nat.{_*_};
+ghost use Prim.Native.Nat.{_+_, _*_};
 ghost use mathlib.Core.Path.{_≡_};
 ghost use mathlib.Core.List.{[], _∷_};
 ghost use lib.Dec.{ltb};
+ghost use lib.ListN.{length};
 ghost use Rattle.model.specs.Verdict.{row, firstRefusal};
 ghost use Rattle.model.specs.Grid.{weightOf};
 ghost use Rattle.model.specs.Calls.{exactRow, pixelsOf, pairsOf, sizeRow, weightRow, boxRow, lengthRow, optionalRow, pairWeightsRow, flowRow};
@@ -84,4 +86,35 @@ pub fn judge_run(
         return above;
     };
     judge_weights(weights)
+}
+
+// Write: 1, 2, 3; 10; 4, 5, 19, 16; 2, 8. Of the samples and the output only the lengths count. How
+// long the tape will be is counted where the lengths above 16 have passed, and weights and flow are
+// read where 16 has, too.
+pub fn judge_write(
+    t: Terms,
+    quick: u32,
+    samples: usize,
+    weights: &[i32],
+    flow: &[i32],
+    room: usize,
+) -> Verdict
+    ensures { λ r. ⌜ r ≡ firstRefusal (sizeRow t 0 ∷ weightRow (t .weight) 0 ∷ boxRow t 0 ∷ row (ltb 4096 quick) 10 0 ∷ exactRow 4 samples (pixelsOf t) ∷ optionalRow 5 (now (flow .entry)) (pairsOf t) ∷ optionalRow 19 (now (weights .entry)) (pairsOf t) ∷ row (ltb room (16 + 2 * samples + 3 * length (now (weights .entry)) + 5 * length (now (flow .entry)))) 16 0 ∷ pairWeightsRow (now (weights .entry)) ∷ flowRow (weightOf t (now (weights .entry))) (now (flow .entry)) ∷ []) ⌝ }
+{
+    let due = lengths_due(t);
+    let pairs = due.pairs;
+    let by_flow = exact_or_none(flow.len(), pairs, 5);
+    let by_weights = exact_or_none(weights.len(), pairs, 19);
+    let lengths = first(exact(samples, due.pixels, 4), first(by_flow, by_weights));
+    let above = first(terms::judge_terms(t), first(judge_rounds(quick), lengths));
+    let Verdict::Accept = above else {
+        return above;
+    };
+    let size = 16 + 2 * samples + 3 * weights.len() + 5 * flow.len();
+    let by_room = enough(room, size, 16);
+    let Verdict::Accept = by_room else {
+        return by_room;
+    };
+    let by_weight = judge_weights(weights);
+    first(by_weight, judge_flow(t, weights, flow))
 }

@@ -47,6 +47,17 @@ pub fn exact_or_none(lent: usize, due: usize, number: u32) -> Verdict
     }
 }
 
+// A lent length, which must be enough.
+pub fn enough(lent: usize, due: usize, number: u32) -> Verdict
+    ensures { λ r. ⌜ r ≡ firstRefusal (row (ltb lent due) number 0 ∷ []) ⌝ }
+{
+    if lent < due {
+        Verdict::Refuse { number, place: 0 }
+    } else {
+        Verdict::Accept
+    }
+}
+
 // What a search found: an index before the end is refused there.
 fn found(index: usize, end: usize, number: u32) -> Verdict
     ensures { λ r. ⌜ r ≡ firstRefusal (row (ltb index end) number index ∷ []) ⌝ }

@@ -6,17 +6,20 @@ use lib.ListN.{length}
 use Rattle.model.specs.Verdict.{firstRefusal}
 use Rattle.model.specs.Tape.{writeRows}
 use Rattle.model.proofs.Accepted.{write-accepted}
+use Rattle.roundtrip.proofs.Offsets.{tape-length}
 use Rattle.roundtrip.proofs.WriteRows.{written-answer, written-output}
 use Rattle.tape_write.proofs.Promised.{promised}
 use borrow.Author.Needs.{needs}
 use Rattle.tape_write.proofs.write.write.Statement.{statement}
 use Rattle.tape_write.proofs.write.write.Tie as tie
 
--- the verdict is that of write's rows
+-- the verdict is that of write's rows, for the tape's length as it is counted
 judged : (c : tie.After-judge-write) → let a = c .before .before .before .args in
     c .judge-write .result
     ≡ firstRefusal (writeRows (a .t) (a .r) (a .samples .now) (a .weights .now) (a .flow .now) (length (a .output .now)))
-judged c = c .judge-write .ensures
+judged c =
+    let a = c .before .before .before .args in
+    rw (tape-length (a .t) (a .r) (a .samples .now) (a .weights .now) (a .flow .now)) (c .judge-write .ensures)
 
 lay-tape-requires : tie.Need-lay-tape-requires
 lay-tape-requires c κs =
