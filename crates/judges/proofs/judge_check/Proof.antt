@@ -54,12 +54,16 @@ returns-2 c =
     went-on _ _ (judged (weights .before .before .before)) (weights .before .enum-told .given .1)
     (joined _ _ (c .first2 .ensures) (weights .judge-weights .ensures) (flow .judge-flow .ensures))
 
+-- by name, so that the log of an edit that moves the call says so
+judge-lengths-requires : tie.Need-judge-lengths-requires
+judge-lengths-requires c κs = search needs
+
 pub judge-check-spec : {M : Type 1} → statement M
 judge-check-spec =
     tie.close
     (tie.spec
     (λ c κs. search needs)
-    (λ c κs. search needs)
+    judge-lengths-requires
     (λ c κs. search needs)
     (λ c. search needs)
     (λ c. search needs)

@@ -117,6 +117,10 @@ returns-3 c =
     (went-on (roomRow (a .samples) (length (a .weights .now)) (length (a .flow .now)) (a .room) ∷ []) _ (search needs) (room .enum-told3 .given .1)
     (joined _ _ (c .first5 .ensures) (weights .judge-weights .ensures) (flow .judge-flow .ensures)))
 
+-- by name, so that the log of an edit that moves the call says so
+enough-requires : tie.Need-enough-requires
+enough-requires c κs = search needs
+
 pub judge-write-spec : {M : Type 1} → statement M
 judge-write-spec =
     tie.close
@@ -140,7 +144,7 @@ judge-write-spec =
     add-size-2
     (λ c. search needs)
     add-size-3
-    (λ c κs. search needs)
+    enough-requires
     (λ c. search needs)
     (λ c. search needs)
     returns-2
