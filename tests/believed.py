@@ -60,7 +60,7 @@ class Believed(unittest.TestCase):
         self.assertEqual(believed.file_of("Rattle.model.specs.declared.Terms"), "model/src/lib.rt")
         self.assertEqual(believed.file_of("Rattle.records.specs.declared.tally.Tally"), "records/src/tally.rt")
         self.assertIsNone(believed.file_of("Rattle.io.specs.Counts"))
-        for module in ["Rattle.model.specs.Nowhere", "Rattle.model.proofs.Lists"]:
+        for module in ["Rattle.model.specs.Nowhere", "Rattle.lists.proofs.Tables"]:
             with self.assertRaises(SystemExit):
                 believed.file_of(module)
 

@@ -6,11 +6,11 @@ use Prim.Native.Nat.{ℕ, _+_, _-_, _*_, _≤_, _<_}
 use lib.IntN.{ℤ, pos}
 use lib.ListN.{length, take, drop}
 use lib.Seq.{length-take-le, getD-take}
-use Rattle.model.specs.Lists.{table}
+use Rattle.lists.specs.Lists.{table}
 use Rattle.runs.specs.Run.{weightAt, stepAt}
 use Rattle.stencil.specs.Pair.{stepValue}
 use Rattle.raster.specs.Whole.{rowStep, gridStep}
-use Rattle.runs.proofs.Fill.{table-cong}
+use Rattle.lists.proofs.Tables.{table-cong}
 use Rattle.raster.proofs.Rows.{part-weight, front-weight}
 use Rattle.raster.proofs.Runs.{Stretch, byBoth, both-are, row-pair, vertical-pair, horizontal-pair}
 use Rattle.raster.proofs.Whole.{vertical}

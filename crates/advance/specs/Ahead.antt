@@ -4,7 +4,7 @@ use mathlib.Core.Path.{_≡_}
 use Prim.Native.Nat.{ℕ, _^_, _≤_}
 use lib.IntN.{ℤ, natAbs}
 use lib.ListN.{length}
-use Rattle.model.specs.Lists.{at}
+use Rattle.lists.specs.Lists.{at}
 use Rattle.momentum.specs.Reciprocal.{aheadOf}
 use Rattle.runs.specs.Limits.{Within, StepLimits}
 use Rattle.runs.specs.Run.{stepAt}

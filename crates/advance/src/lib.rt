@@ -9,7 +9,7 @@ use stencil::pair::Round;
 ghost use Prim.Native.Nat.{_*_};
 ghost use mathlib.Core.Path.{_≡_};
 ghost use lib.ListN.{length};
-ghost use Rattle.model.specs.Lists.{table};
+ghost use Rattle.lists.specs.Lists.{table};
 ghost use Rattle.model.specs.Rounds.{eighth};
 ghost use Rattle.runs.specs.Run.{weightAt, stepAt};
 ghost use Rattle.raster.specs.Whole.{rowStep, gridStep};

@@ -8,7 +8,7 @@ ghost use mathlib.Core.Bool.{cond};
 ghost use Prim.Native.Nat.{_+_, _*_, _≤_};
 ghost use lib.Dec.{eqb};
 ghost use lib.ListN.{length};
-ghost use Rattle.model.specs.Lists.{at, chain};
+ghost use Rattle.lists.specs.Lists.{at, chain};
 ghost use Rattle.model.specs.Text.{signedDecimal};
 ghost use Rattle.model.specs.Program.{field, rowText};
 ghost use Rattle.output.specs.Put.{Put};

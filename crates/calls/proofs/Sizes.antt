@@ -10,7 +10,7 @@ use Rattle.model.specs.declared.Terms.{Terms}
 use Rattle.model.specs.declared.Rounds.{Rounds}
 use Rattle.model.specs.declared.Verdict.{Verdict}
 use Rattle.model.specs.Calls.{Answer, pixelsOf, figuresOf, ending, checkVerdict, checkAnswer, runVerdict, runAnswer}
-use Rattle.model.specs.Lists.{at}
+use Rattle.lists.specs.Lists.{at}
 use Rattle.model.proofs.Accepted.{check-accepted, check-feasible, run-accepted}
 use Rattle.model.proofs.Answers.{check-answer, run-answer}
 use Rattle.model.proofs.Range.{widest-fits}

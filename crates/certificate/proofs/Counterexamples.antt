@@ -8,7 +8,7 @@ use Rattle.integers.proofs.Order.{true-leZ}
 use mathlib.Core.List.{map}
 use Rattle.integers.specs.Whole.{clamp, nearest}
 use Rattle.integers.specs.Sum.{total}
-use Rattle.model.specs.Lists.{table, chain, firstWhere}
+use Rattle.lists.specs.Lists.{table, chain, firstWhere}
 use Rattle.model.specs.Problem.{Problem, InBox, fall, misfit, price, pull, image, floor, slack, distance, weightSum}
 use Rattle.model.specs.Grid.{weightOf, readingOf, lowEnd, highEnd, verticalPairs, horizontalPairs, gridPairs}
 use Rattle.model.specs.Root.{rootBy, root}

@@ -17,7 +17,7 @@ use Rattle.integers.proofs.Order.{*ℤ-mono, 0≤pos}
 use Rattle.integers.proofs.Absolute.{natAbs-product}
 use Rattle.integers.proofs.Clamp.{clamp-scale}
 use Rattle.integers.proofs.Total.{total-cong, total-*ℤ}
-use Rattle.model.specs.Lists.{at}
+use Rattle.lists.specs.Lists.{at}
 use Rattle.model.specs.Calls.{Answer}
 use Rattle.model.specs.Problem.{Problem, pairCount, firstOf, secondOf, fall, misfit, price, Feasible, pull, image, floor, slack, distance, divided, times}
 use Rattle.model.specs.Demand.{Figures, Certificate, TwoFlows}

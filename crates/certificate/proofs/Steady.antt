@@ -15,10 +15,11 @@ use Rattle.integers.specs.Sum.{total}
 use Rattle.integers.specs.Whole.{sameZ, nearest}
 use Rattle.integers.proofs.Parts.{parts, whole, by-≤, of-≤, of-<}
 use Rattle.integers.proofs.Order.{sameZ-true, sameZ-false}
-use Rattle.model.specs.Lists.{at}
+use Rattle.lists.specs.Lists.{at}
 use Rattle.model.specs.Problem.{Problem, pairCount, Feasible, image, price, floor, slack}
 use Rattle.model.specs.Rounds.{stepped, step, wouldMove, firstMoving, Steady, oneMore, steadyRounds}
-use Rattle.model.proofs.Lists.{getD-table, firstWhere-first}
+use Rattle.lists.proofs.Tables.{getD-table}
+use Rattle.lists.proofs.First.{firstWhere-first}
 use Rattle.model.proofs.Sizes.{step-size}
 use Rattle.model.proofs.Degree.{degree}
 use Rattle.certificate.proofs.Lagrangian.{Sound, image-in-box}

@@ -12,7 +12,7 @@ use mathlib.Core.List.{List, [], _∷_, _++_}
 use Prim.Native.Nat.{ℕ, _+_, _*_}
 use lib.IntN.{ℤ, pos, negℤ, _+ℤ_, _*ℤ_}
 use Rattle.integers.specs.Whole.{quotient, sameZ}
-use Rattle.model.specs.Lists.{at}
+use Rattle.lists.specs.Lists.{at}
 use Rattle.model.specs.Problem.{Problem, price, weightSum, image, floor, slack, distance, divided, times}
 use Rattle.model.specs.Rounds.{nearestEighth}
 use Rattle.certificate.specs.Statements.{start, ahead, run, eighthDown, eighthAway, close, certified, alike, alikeAtZero, near, withinSlacks, equalAtZero, timesAsLarge, settledWithin, movedWithin, settlesWhen}

@@ -3,7 +3,7 @@ use mathlib.Core.List.{List, [], _∷_}
 use Prim.Native.Nat.{ℕ}
 use lib.IntN.{ℤ, pos}
 use lib.ListN.{getD}
-use Rattle.model.specs.Lists.{at}
+use Rattle.lists.specs.Lists.{at}
 use Rattle.model.specs.Problem.{Problem}
 use Rattle.model.specs.Grid.{lowEnd, highEnd, gridPairs, grid}
 use Rattle.model.specs.Values.{one, pair}

@@ -5,7 +5,7 @@ use Prim.Native.Nat.{ℕ, _+_, _*_}
 use lib.IntN.{ℤ, pos, _+ℤ_, _*ℤ_}
 use lib.Signed.{leZ, ltZ, shrZ}
 use Rattle.integers.specs.Whole.{quotient, sign, sameZ}
-use Rattle.model.specs.Lists.{at}
+use Rattle.lists.specs.Lists.{at}
 use Rattle.model.specs.Problem.{Problem, price, image, slack, distance}
 use Rattle.model.specs.Rounds.{eighth, nearestEighth, quickRounds, Steady, steadyRounds}
 

@@ -8,13 +8,13 @@ use lib.ListN.{length, getD}
 use lib.Signed.{_≤ℤ_}
 use Rattle.integers.proofs.Absolute.{natAbs-upto}
 use Rattle.model.specs.declared.Terms.{Terms}
-use Rattle.model.specs.Lists.{at}
+use Rattle.lists.specs.Lists.{at}
 use Rattle.model.specs.Problem.{Feasible, image, InBox}
 use Rattle.model.specs.Grid.{grid}
 use Rattle.model.specs.Calls.{pixelsOf, pairsOf, imageOf}
 use Rattle.model.specs.Accepted.{TermsAllowed, WeightsAllowed}
 use Rattle.model.proofs.Weights.{weight-most}
-use Rattle.model.proofs.Lists.{length-table}
+use Rattle.lists.proofs.Tables.{length-table}
 use Rattle.model.proofs.Range.{widest-fits}
 use Rattle.model.proofs.Bounds as Bounds
 use Rattle.model.proofs.Bounds.{value-least, value-most, image-inside}

@@ -15,11 +15,11 @@ use Rattle.integers.proofs.Ring.{*ℤ-assoc, *ℤ-pos1, pos1-*ℤ}
 use Rattle.integers.proofs.Total.{total-*ℤ, total-cong}
 use Rattle.integers.proofs.Absolute.{natAbs-difference, natAbs-product}
 use Rattle.model.specs.declared.Terms.{Terms}
-use Rattle.model.specs.Lists.{at}
+use Rattle.lists.specs.Lists.{at}
 use Rattle.model.specs.Problem.{Problem, pairCount, fall, misfit, price, Feasible, image, floor, slack, InBox}
 use Rattle.model.specs.Grid.{weightOf, readingOf, grid}
 use Rattle.model.specs.Accepted.{WeightsAllowed}
-use Rattle.model.proofs.Lists.{getD-inside}
+use Rattle.lists.proofs.Tables.{getD-inside}
 use Rattle.model.proofs.Weights.{weight-is}
 use Rattle.runs.specs.Run.{weightAt}
 use Rattle.figures.specs.Ready.{scaleOf}

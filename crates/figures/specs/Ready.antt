@@ -7,7 +7,7 @@ use lib.Dec.{eqb}
 use lib.IntN.{ℤ}
 use lib.ListN.{length}
 use Rattle.model.specs.declared.Terms.{Terms}
-use Rattle.model.specs.Lists.{at}
+use Rattle.lists.specs.Lists.{at}
 use Rattle.model.specs.Problem.{Feasible, InBox}
 use Rattle.model.specs.Grid.{grid}
 use Rattle.model.specs.Calls.{pixelsOf, pairsOf, imageOf}

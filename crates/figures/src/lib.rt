@@ -9,7 +9,7 @@ ghost use Prim.Native.Nat.{_+_, _*_, _^_, _<_};
 ghost use mathlib.Core.Path.{_≡_};
 ghost use lib.IntN.{pos, natAbs, _+ℤ_, _-ℤ_, _*ℤ_};
 ghost use lib.Signed.{_≤ℤ_};
-ghost use Rattle.model.specs.Lists.{at};
+ghost use Rattle.lists.specs.Lists.{at};
 ghost use Rattle.model.specs.Problem;
 ghost use Rattle.model.specs.Grid.{grid};
 ghost use Rattle.figures.specs.Ready.{PriceReady, FlowReady, scaleOf};

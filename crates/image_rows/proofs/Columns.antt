@@ -8,8 +8,8 @@ use lib.ListN.{length}
 use lib.Signed.{_≤ℤ_}
 use Rattle.integers.specs.Whole.{clamp}
 use Rattle.integers.proofs.Clamp.{clamp-≥, clamp-≤}
-use Rattle.model.specs.Lists.{at, table}
-use Rattle.model.proofs.Lists.{length-table, getD-table}
+use Rattle.lists.specs.Lists.{at, table}
+use Rattle.lists.proofs.Tables.{length-table, getD-table}
 use Rattle.runs.specs.Ends.{Between}
 use Rattle.runs.specs.Limits.{Within}
 use Rattle.image_rows.specs.Limits.{ColumnLimits, RowLimits}

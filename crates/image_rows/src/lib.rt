@@ -8,7 +8,7 @@ ghost use mathlib.Core.Path.{_≡_};
 ghost use Prim.Native.Nat.{_<_};
 ghost use lib.ListN.{length};
 ghost use lib.Signed.{_≤ℤ_};
-ghost use Rattle.model.specs.Lists.{table};
+ghost use Rattle.lists.specs.Lists.{table};
 ghost use Rattle.runs.specs.Ends.{Between};
 ghost use Rattle.image_rows.specs.Limits.{ColumnLimits, RowLimits};
 ghost use Rattle.image_rows.specs.Row.{columnValue, rowValue};

@@ -13,7 +13,7 @@ use borrow.Author.Tests.{eqb-true, eqb-false}
 use Rattle.model.specs.declared.Terms.{Terms}
 use Rattle.model.specs.declared.Rounds.{Rounds}
 use Rattle.model.specs.declared.Verdict.{Verdict}
-use Rattle.model.specs.Lists.{zeros, overwritten}
+use Rattle.lists.specs.Lists.{zeros, overwritten}
 use Rattle.model.specs.Grid.{sizeAllowed}
 use Rattle.model.specs.Verdict.{left}
 use Rattle.model.specs.Calls.{Answer, pixelsOf, pairsOf, imageOf, checkVerdict, checkAnswer, checkImage, runVerdict, runAnswer, runImage}
@@ -21,7 +21,8 @@ use Rattle.model.specs.Tape.{Progress, Parse, turned, whole, parse, ReadAnswer,
 use Rattle.model.specs.declared.ReadResult.{ReadResult}
 use Rattle.model.specs.Answers.{readAnswerOf}
 use Rattle.model.specs.Program.{jobAnswer, jobImage}
-use Rattle.model.proofs.Lists.{length-table}
+use Rattle.lists.proofs.Tables.{length-table}
+use Rattle.lists.proofs.Placed.{take-overwritten}
 use Rattle.roundtrip.proofs.Accepted.{accepted-job}
 use Rattle.roundtrip.proofs.Judged.{accepted-parse, passed-parse, answer-by, samples-by, weights-by, flow-by}
 use Rattle.roundtrip.proofs.RoundTrip.{counted}
@@ -51,10 +52,6 @@ module _ (t : Terms) (samples : List ℕ) (weights : List ℤ) where
 
 zeros-length : (n : ℕ) → length (zeros n) ≡ n
 zeros-length n = length-replicate n _
-
--- a table's front is what was read into it
-front-read : {A : Type 0} (xs table : List A) (n : ℕ) → length xs ≡ n → take n (overwritten xs table) ≡ xs
-front-read xs table n e = take-at xs (drop (length xs) table) n e
 
 -- what holds of a whole job and of the tables that it was read into
 pub record Fits (samples weights flow : ℕ) (p : Progress) : Type 0 where
@@ -101,10 +98,10 @@ module _ {X : Type 0} (shown : Answer → List ℤ → X) (shows : Shows shown) 
   F = overwritten (p .flow) flow
 
   codes : take (pixelsOf (p .terms)) S ≡ p .samples
-  codes = front-read (p .samples) samples (pixelsOf (p .terms)) (f .sampled)
+  codes = take-overwritten samples (p .samples) (f .sampled)
 
   own : take (allOf weighted (pairsOf (p .terms))) W ≡ p .weights
-  own = front-read (p .weights) weights _ (sym (counted (length (p .weights)) (pairsOf (p .terms)) (f .weighs)))
+  own = take-overwritten weights (p .weights) (sym (counted (length (p .weights)) (pairsOf (p .terms)) (f .weighs)))
 
   front-length : length (take (pixelsOf (p .terms)) image) ≡ pixelsOf (p .terms)
   front-length = length-take-le _ image imageHolds
@@ -125,7 +122,7 @@ module _ {X : Type 0} (shown : Answer → List ℤ → X) (shows : Shows shown) 
       let t : Terms = p .terms in
       ap₂ (λ (s : List ℕ) (w : List ℤ). ofCheck shown shows t s w (take (pairsOf t) F) (take (pixelsOf t) image)) codes own
       ∙ ap (λ (g : List ℤ). ofCheck shown shows t (p .samples) (p .weights) g (take (pixelsOf t) image))
-      (front-read (p .flow) flow (pairsOf t) e)
+      (take-overwritten flow (p .flow) e)
       ∙ same-check shown shows t (p .samples) (p .weights) (p .flow) (take (pixelsOf t) image) (zeros (pixelsOf t))
       (front-length ∙ sym (zeros-length (pixelsOf t)))
 

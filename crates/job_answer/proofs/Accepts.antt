@@ -10,7 +10,7 @@ use lib.ListN.{length, getD, length-replicate}
 use borrow.Author.Tests.{eqb-false}
 use Rattle.model.specs.declared.Terms.{Terms}
 use Rattle.model.specs.declared.Lent.{Lent}
-use Rattle.model.specs.Lists.{zeros}
+use Rattle.lists.specs.Lists.{zeros}
 use Rattle.model.specs.Calls.{pixelsOf, pairsOf, checkAnswer, runAnswer}
 use Rattle.model.specs.Accepted.{JobAllowed}
 use Rattle.model.specs.Tape.{Progress, whole, lentBy, parse}

@@ -13,14 +13,14 @@ use lib.ListN.{length}
 use lib.Signed.{ltZ, _≤ℤ_}
 use Rattle.integers.proofs.Order.{ltZ-false, false-ltZ}
 use Rattle.integers.proofs.Absolute.{natAbs→upper, natAbs-upto}
-use Rattle.model.specs.Lists.{at, firstWhere}
+use Rattle.lists.specs.Lists.{at, firstWhere}
 use Rattle.model.specs.Problem.{Feasible, InBox}
 use Rattle.model.specs.Grid.{Terms, sizeAllowed, weightAllowed, pairWeightAllowed, weightOf, boxAllowed, lowEnd, highEnd, grid}
 use Rattle.model.specs.Verdict.{Verdict, Accept, Refuse, Row, firstRefusal, decided}
 use Rattle.model.specs.Calls.{Rounds, Answer, refusal, pixelsOf, pairsOf, allOrNone, sizeRow, weightRow, boxRow, roundsRow, lengthRow, optionalRow, pairWeightsRow, flowRow, imageRow, firstOver, firstBeyond, firstOutside, figuresOf, checkVerdict, checkAnswer, priceVerdict, priceAnswer, runVerdict, runAnswer}
 use Rattle.model.specs.Tape.{tapeOf, writeRows}
 use Rattle.model.specs.Accepted.{TermsAllowed, WeightsAllowed, CheckAllowed, PriceAllowed, RunAllowed, WriteAllowed}
-use Rattle.model.proofs.Lists.{firstWhere-first}
+use Rattle.lists.proofs.First.{firstWhere-first}
 use Rattle.model.proofs.Refusals.{accepted, passed, accepted-rows, Numbered, refused-number}
 use Rattle.model.proofs.Bounds.{SizeLimits, size-limits, both-true}
 

@@ -5,12 +5,12 @@ use mathlib.Core.Bool.{cond}
 use mathlib.Core.List.{List, []}
 use Prim.Native.Nat.{ℕ, _*_, _<_}
 use lib.IntN.{ℤ, pos}
-use Rattle.model.specs.Lists.{at, zeros}
+use Rattle.lists.specs.Lists.{at, zeros}
 use Rattle.model.specs.Problem.{pull, image}
 use Rattle.model.specs.Grid.{Terms, grid}
 use Rattle.model.specs.Verdict.{Verdict, decided, left}
 use Rattle.model.specs.Calls.{Rounds, Answer, refusal, checked, settled, spent, pixelsOf, pairsOf, imageOf, figuresOf, checkVerdict, checkAnswer, checkImage, priceVerdict, priceFigures, priceAnswer, ending, runVerdict, runAnswer, runFlow, runImage, runWork}
-use Rattle.model.proofs.Lists.{getD-table}
+use Rattle.lists.proofs.Tables.{getD-table}
 
 module _ (t : Terms) (samples : List ℕ) (weights flow values : List ℤ) {v : Verdict} (h : checkVerdict t samples weights flow values ≡ v) where
   pub check-answer : checkAnswer t samples weights flow values ≡ decided v (figuresOf checked 0 t samples weights flow) refusal

@@ -2,7 +2,6 @@
 --     Sizes       a step and quick rounds have a number for each pair
 --     Values      the values marked ● in document 01
 --     Refusals    of the first refusal
---     Lists       of `table`, `chain` and `firstWhere`
 --     Root        the root is the largest whole number whose square is at most n
 --     Decimal     the decimal text of a number is its digits, without a leading zero
 --     Pairs       how many pairs there are, and which two pixels each has
@@ -15,7 +14,6 @@
 pub mod Sizes
 pub mod Values
 pub mod Refusals
-pub mod Lists
 pub mod Root
 pub mod Decimal
 pub mod Pairs

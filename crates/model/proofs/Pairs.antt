@@ -11,7 +11,8 @@ use lib.ListN.{length, getD, length-append, List·getD-append}
 use lib.Seq.{getD-append-add}
 use Rattle.model.specs.Problem.{Pair}
 use Rattle.model.specs.Grid.{pixel, verticalPairs, horizontalPairs, gridPairs}
-use Rattle.model.proofs.Lists.{length-table, getD-table, length-chain, getD-chain}
+use Rattle.lists.proofs.Tables.{length-table, getD-table}
+use Rattle.lists.proofs.Chains.{length-chain, getD-chain}
 
 pub vertical-count : (w h : ℕ) → length (verticalPairs w h) ≡ w * (h - 1)
 unfolding verticalPairs

@@ -4,10 +4,10 @@ use mathlib.Core.List.{List}
 use Prim.Native.Nat.{ℕ, zero, suc}
 use lib.IntN.{ℤ, pos}
 use lib.ListN.{length, length-replicate}
-use Rattle.model.specs.Lists.{at}
+use Rattle.lists.specs.Lists.{at}
 use Rattle.model.specs.Problem.{Problem, pairCount}
 use Rattle.model.specs.Rounds.{stepped, step, Quick, quickStart, quickRound, quickRounds}
-use Rattle.model.proofs.Lists.{length-table}
+use Rattle.lists.proofs.Tables.{length-table}
 
 module _ (share : ℤ → ℤ) (p : Problem) where
   pub step-size : (flow : List ℤ) → length (step share p flow) ≡ pairCount p

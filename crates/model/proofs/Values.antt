@@ -4,7 +4,7 @@ use mathlib.Core.Path.{_≡_, refl}
 use mathlib.Core.List.{map}
 use Rattle.integers.specs.Whole.{clamp, nearest}
 use Rattle.integers.specs.Sum.{total}
-use Rattle.model.specs.Lists.{table, chain, firstWhere}
+use Rattle.lists.specs.Lists.{table, chain, firstWhere}
 use Rattle.model.specs.Problem.{fall, misfit, price, pull, image, floor, slack}
 use Rattle.model.specs.Grid.{sizeAllowed, weightAllowed, pairWeightAllowed, weightOf, boxAllowed, readingOf, lowEnd, highEnd, verticalPairs, horizontalPairs, gridPairs}
 use Rattle.model.specs.Root.{rootBy, root}

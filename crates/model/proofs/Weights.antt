@@ -14,7 +14,7 @@ use Rattle.model.specs.Problem.{weightSum}
 use Rattle.model.specs.Grid.{Terms, weightOf, grid}
 use Rattle.model.specs.Calls.{pairsOf}
 use Rattle.model.specs.Accepted.{WeightsAllowed}
-use Rattle.model.proofs.Lists.{getD-by}
+use Rattle.lists.proofs.Tables.{getD-by}
 
 module _ (t : Terms) (weights : List ℤ) where
   -- the number that stands for pair j's weight

@@ -8,7 +8,7 @@ use Prim.Native.Nat.{ℕ, _*_, _≤_, _<_}
 use lib.IntN.{ℤ, pos, natAbs}
 use lib.ListN.{length}
 use lib.Signed.{_≤ℤ_}
-use Rattle.model.specs.Lists.{at}
+use Rattle.lists.specs.Lists.{at}
 use Rattle.model.specs.Grid.{Terms, weightOf, lowEnd, highEnd}
 use Rattle.model.specs.Calls.{Rounds, pixelsOf, pairsOf}
 use Rattle.model.specs.Tape.{tapeOf}

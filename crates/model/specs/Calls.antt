@@ -9,7 +9,7 @@ use lib.IntN.{ℤ, pos, natAbs}
 use lib.ListN.{length}
 use lib.Signed.{ltZ}
 pub use Rattle.model.specs.declared.Rounds.{Rounds}
-use Rattle.model.specs.Lists.{at, zeros, table, firstWhere}
+use Rattle.lists.specs.Lists.{at, zeros, table, firstWhere}
 use Rattle.model.specs.Problem.{image, price, floor, slack}
 use Rattle.model.specs.Grid.{Terms, sizeAllowed, weightAllowed, pairWeightAllowed, weightOf, boxAllowed, gridPairs, grid, lowEnd, highEnd}
 use Rattle.model.specs.Rounds.{eighth, nearestEighth, quickRounds, Steady, steadyRounds}

@@ -9,7 +9,7 @@ use lib.IntN.{ℤ, pos, natAbs}
 use lib.ListN.{getD}
 use lib.Signed.{ltZ}
 pub use Rattle.model.specs.declared.Terms.{Terms}
-use Rattle.model.specs.Lists.{table, chain}
+use Rattle.lists.specs.Lists.{table, chain}
 use Rattle.model.specs.Problem.{Pair, Problem}
 
 -- Width and height are each 1 to 4,096, their product at most 1,048,576 (SPECIFICATION 1.1)

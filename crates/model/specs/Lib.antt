@@ -1,7 +1,6 @@
 -- Document 01 as definitions, in its order. A comment gives the document's word and, where it differs, the field's
 -- standard term, and the paragraph of docs/SPECIFICATION.md that says the same in words. Numbers are ℕ or ℤ without
 -- limits; machine widths enter with the calls' types.
---     Lists       buffers as lists: reading, tabulating, the first index
 --     Problem     readings, box and weighted pairs of any shape: fall, price, flow, image, floor, slack, divisions
 --     Grid        document 01's raster as such a problem
 --     Root        the whole square root
@@ -18,7 +17,6 @@
 --     Program     the cleaning program's output
 --     Season      the season report's output
 --     Values      the values that document 01 marks to be proved
-pub mod Lists
 pub mod Problem
 pub mod Grid
 pub mod Root

@@ -6,7 +6,7 @@ use Prim.Native.String.{String}
 use lib.Dec.{ltb, eqb}
 use lib.IntN.{ℤ}
 use lib.ListN.{length}
-use Rattle.model.specs.Lists.{at, zeros, chain}
+use Rattle.lists.specs.Lists.{at, zeros, chain}
 use Rattle.model.specs.Text.{ascii, decimal, signedDecimal}
 use Rattle.model.specs.Grid.{Terms, pixel}
 use Rattle.model.specs.Calls.{Outcome, refused, checked, settled, spent, Answer, refusal, pixelsOf, pairsOf, checkAnswer, checkImage, runAnswer, runImage}

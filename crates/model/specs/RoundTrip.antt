@@ -9,7 +9,7 @@ use lib.IntN.{ℤ}
 use lib.ListN.{length}
 use Rattle.model.specs.declared.Terms.{Terms}
 use Rattle.model.specs.declared.Rounds.{Rounds}
-use Rattle.model.specs.Lists.{overwritten}
+use Rattle.lists.specs.Lists.{overwritten}
 use Rattle.model.specs.Calls.{pixelsOf, pairsOf}
 use Rattle.model.specs.Tape.{ReadAnswer, readAnswer, readSamples, readWeights, readFlow, writeAnswer, writeOutput}
 

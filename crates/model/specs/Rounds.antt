@@ -7,7 +7,7 @@ use Prim.Native.Nat.{ℕ, zero, suc, _+_, _*_, _/_}
 use lib.Dec.{ltb}
 use lib.IntN.{ℤ, pos, negℤ, _+ℤ_, _-ℤ_, _*ℤ_}
 use Rattle.integers.specs.Whole.{clamp, quotient, nearest, sameZ}
-use Rattle.model.specs.Lists.{at, zeros, table, firstWhere}
+use Rattle.lists.specs.Lists.{at, zeros, table, firstWhere}
 use Rattle.model.specs.Problem.{Problem, pairCount, fall, image}
 use Rattle.model.specs.Root.{root}
 

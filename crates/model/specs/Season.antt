@@ -8,7 +8,7 @@ use lib.Dec.{eqb, ltb}
 use lib.IntN.{natAbs}
 use lib.ListN.{length, getD, take, drop}
 pub use Rattle.model.specs.declared.Totals.{Totals}
-use Rattle.model.specs.Lists.{firstWhere, overwritten}
+use Rattle.lists.specs.Lists.{firstWhere, overwritten}
 use Rattle.model.specs.Text.{ascii, decimal}
 use Rattle.model.specs.Verdict.{Verdict, Accept, Refuse}
 use Rattle.model.specs.Calls.{Outcome, refused, checked, settled, spent, Answer, refusal, pixelsOf}

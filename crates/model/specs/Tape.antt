@@ -9,7 +9,7 @@ use lib.ListN.{length, getD}
 pub use Rattle.model.specs.declared.Lent.{Lent}
 pub use Rattle.model.specs.declared.Entry.{Entry}
 pub use Rattle.model.specs.declared.Entry.the-variants.{End, Size, WeightBox, RoundLimits, Sample, Flow, PairWeight}
-use Rattle.model.specs.Lists.{chain, overwritten, at}
+use Rattle.lists.specs.Lists.{chain, overwritten, at}
 use Rattle.model.specs.Grid.{Terms, weightOf}
 use Rattle.model.specs.Verdict.{Verdict, Accept, Refuse, Row, row, firstRefusal, left}
 use Rattle.model.specs.Calls.{Rounds, pixelsOf, pairsOf, allOrNone, sizeRow, weightRow, boxRow, roundsRow, lengthRow, optionalRow, pairWeightsRow, flowRow}

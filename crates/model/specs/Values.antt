@@ -8,7 +8,7 @@ use mathlib.Core.List.{List, [], _∷_, _++_}
 use Prim.Native.Nat.{ℕ, _*_}
 use lib.IntN.{ℤ, pos, negℤ}
 use lib.ListN.{take}
-use Rattle.model.specs.Lists.{zeros, chain}
+use Rattle.lists.specs.Lists.{zeros, chain}
 use Rattle.model.specs.Grid.{Terms, grid}
 use Rattle.model.specs.Rounds.{eighth, nearestEighth, quickRounds}
 use Rattle.model.specs.Calls.{Rounds, checked, settled, spent, Answer, refusal, figures, pixelsOf, pairsOf, checkAnswer, checkImage, priceAnswer, runAnswer, runFlow, runImage}

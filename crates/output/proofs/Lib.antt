@@ -1,2 +1,2 @@
--- The laws of bytes laid into a buffer.
+-- The laws of bytes laid one behind the other.
 pub mod Laid

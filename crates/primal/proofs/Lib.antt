@@ -1,7 +1,5 @@
 -- Laws of the image of a flow.
 --     Stencil     the stencil's definitions are the model's
---     Parts       a part of a buffer
 --     RowParts    the parts of the flow that a row of the image takes
 pub mod Stencil
-pub mod Parts
 pub mod RowParts

@@ -12,16 +12,27 @@ use borrow.Author.Tests.{lt-ltb, le-ltb}
 use lib.Dec.{ltb}
 use lib.IntN.{ℤ, pos, _+ℤ_, _-ℤ_}
 use lib.ListN.{length, getD, take, drop}
-use lib.Seq.{getD-take, getD-drop, drop-drop}
-use Rattle.model.specs.Lists.{at, table}
-use Rattle.model.proofs.Lists.{length-table}
+use lib.Seq.{drop-drop}
+use Rattle.lists.specs.Lists.{at, table}
+use Rattle.lists.proofs.Tables.{length-table, table-cong}
+use Rattle.lists.proofs.Parts.{part-at, part-or, part-length}
+use Rattle.lists.proofs.Fill.{Filling, filling-part}
 use Rattle.image_rows.specs.Limits.{RowLimits}
+use Rattle.runs.proofs.Elements.{part-within}
 use Rattle.primal.specs.Limits.{ImageLimits, ImageRowLimits}
 use Rattle.image_rows.specs.Row.{rowValue}
 use Rattle.primal.specs.Image.{imageValue, withRow}
 use Rattle.primal.specs.Stencil.{gathered, rightPair}
-use Rattle.runs.proofs.Fill.{Filling, filling-part, table-cong}
-use Rattle.primal.proofs.Parts.{part, part-at, part-within, length-part}
+
+-- the part from index a to index e, as `&l[a..e]` lends it
+abbrev pub part : {A : Type 0} → ℕ → ℕ → List A → List A
+part a e l = take (e - a) (drop a l)
+
+part-number : (a e : ℕ) (l : List ℤ) (c : ℕ) → at (part a e l) c ≡ cond (ltb c (e - a)) (at l (a + c)) (pos 0)
+part-number a e l c = part-or a (e - a) l c (pos 0)
+
+length-part : {A : Type 0} (a e : ℕ) (l : List A) → e ≤ length l → length (part a e l) ≡ e - a
+length-part a e l h = part-length a (e - a) l (omega arith)
 
 -- two tests that hold together
 same-test : (a b c d : ℕ) → (a < b → c < d) → (c < d → a < b) → ltb a b ≡ ltb c d
@@ -88,23 +99,23 @@ module _ (w h r : ℕ) (flow : List ℤ) where
   acrossPart = part (w * (h - 1) + r * (w - 1)) (w * (h - 1) + r * (w - 1) + (w - 1)) flow
 
 above-at : (w r : ℕ) (flow : List ℤ) (c : ℕ) → c < w → at (part (r * w - w) (r * w) flow) c ≡ cond (ltb 0 r) (at flow ((r - 1) * w + c)) (pos 0)
-above-at w zero flow c hc = part-at (0 * w - w) (0 * w) flow c ∙ rw (le-ltb c (0 * w - (0 * w - w)) (omega arith))
+above-at w zero flow c hc = part-number (0 * w - w) (0 * w) flow c ∙ rw (le-ltb c (0 * w - (0 * w - w)) (omega arith))
 above-at w (suc q) flow c hc =
     let start : suc q * w - w ≡ q * w = omega arith in
     let before : suc q - 1 ≡ q = omega arith in
-    part-at (suc q * w - w) (suc q * w) flow c
+    part-number (suc q * w - w) (suc q * w) flow c
     ∙ rw (lt-ltb c (suc q * w - (suc q * w - w)) (omega arith), lt-ltb 0 (suc q) (omega arith), start, before)
 
 module _ (w h r : ℕ) (hr : r < h) (flow : List ℤ) (c : ℕ) (hc : c < w) where
   below-at : at (belowPart w h r flow) c ≡ cond (ltb (r + 1) h) (at flow (r * w + c)) (pos 0)
   below-at =
-      part-at (r * w) (min (r * w + w) (w * (h - 1))) flow c
+      part-number (r * w) (min (r * w + w) (w * (h - 1))) flow c
       ∙ rw (below-test w h r (w * (h - 1)) c hc (vertical-more w h r hr))
 
 across-at : (w h r : ℕ) (flow : List ℤ) (c : ℕ) → at (acrossPart w h r flow) c ≡ cond (ltb (c + 1) w) (at flow (rightPair w h r c)) (pos 0)
 across-at w h r flow c =
     let start : w * (h - 1) + r * (w - 1) + c ≡ rightPair w h r c = omega arith in
-    part-at (w * (h - 1) + r * (w - 1)) (w * (h - 1) + r * (w - 1) + (w - 1)) flow c
+    part-number (w * (h - 1) + r * (w - 1)) (w * (h - 1) + r * (w - 1) + (w - 1)) flow c
     ∙ rw (across-test (w * (h - 1) + r * (w - 1)) w c, start)
 
 left-at : (w h r : ℕ) (flow : List ℤ) (c : ℕ) → c < w → at (pos 0 ∷ acrossPart w h r flow) c ≡ cond (ltb 0 c) (at flow (rightPair w h r (c - 1))) (pos 0)
@@ -126,7 +137,7 @@ module _ (w h r : ℕ) (hr : r < h) (flow : List ℤ) (c : ℕ) (hc : c < w) whe
   pixel-column = mul-add-mod-self-right r w c ∙ mod-eq-of-lt hc
 
   sample-at : (samples : List ℕ) → getD (part (r * w) (r * w + w) samples) c 0 ≡ getD samples (r * w + c) 0
-  sample-at samples = getD-take (r * w + w - r * w) (drop (r * w) samples) c 0 (omega arith) ∙ getD-drop (r * w) samples c 0
+  sample-at samples = part-at (r * w) (r * w + w - r * w) samples c 0 (omega arith)
 
   -- a pixel of a row is a pixel of the image
   pub row-is-image : (low high : ℤ) (samples : List ℕ) → rowValue low high (part (r * w) (r * w + w) samples) (belowPart w h r flow) (abovePart w h r flow) (acrossPart w h r flow) c ≡ imageValue low high samples flow w h (r * w + c)
@@ -168,9 +179,9 @@ module _ {image : List ℤ} {samples : List ℕ} {flow : List ℤ} {w h r : ℕ}
         across-count = rw (length-part (w * (h - 1) + r * (w - 1)) (w * (h - 1) + r * (w - 1) + (w - 1)) flow (omega arith)) (omega (arith, row-length));
         below-count = λ k. below ∙ below-whole w h r (w * (h - 1)) (vertical-more w h r (l .row-most)) (rw below at k) ∙ sym row-length;
         above-count = λ k. above ∙ above-whole w r (rw above at k) ∙ sym row-length;
-        below-most = part-within (r * w) (min (r * w + w) (w * (h - 1))) flow (m .flow-most);
-        above-most = part-within (r * w - w) (r * w) flow (m .flow-most);
-        across-most = part-within (w * (h - 1) + r * (w - 1)) (w * (h - 1) + r * (w - 1) + (w - 1)) flow (m .flow-most);
+        below-most = part-within (r * w) (min (r * w + w) (w * (h - 1)) - r * w) flow (m .flow-most);
+        above-most = part-within (r * w - w) (r * w - (r * w - w)) flow (m .flow-most);
+        across-most = part-within (w * (h - 1) + r * (w - 1)) (w * (h - 1) + r * (w - 1) + (w - 1) - (w * (h - 1) + r * (w - 1))) flow (m .flow-most);
       }
 
 -- a part of w numbers from a on is put back

@@ -4,7 +4,7 @@ use Prim.Native.Nat.{ℕ, _+_, _/_, _%_}
 use lib.IntN.{ℤ, _-ℤ_}
 use lib.ListN.{length, getD, take, drop}
 use Rattle.integers.specs.Whole.{clamp}
-use Rattle.model.specs.Lists.{at}
+use Rattle.lists.specs.Lists.{at}
 use Rattle.model.specs.Grid.{readingOf}
 use Rattle.primal.specs.Stencil.{gathered}
 

@@ -3,7 +3,7 @@
 use image_rows::image_row;
 ghost use mathlib.Core.Path.{_≡_};
 ghost use Prim.Native.Nat.{_+_, _-_, _*_, _<_, min};
-ghost use Rattle.model.specs.Lists.{table};
+ghost use Rattle.lists.specs.Lists.{table};
 ghost use Rattle.primal.specs.Limits.{ImageLimits, ImageRowLimits};
 ghost use Rattle.primal.specs.Image.{imageValue, withRow};
 

@@ -6,12 +6,12 @@ use Prim.Native.Nat.{ℕ, zero, suc, _*_, zero-le}
 use lib.IntN.{ℤ, pos}
 use lib.ListN.{replicate}
 use Rattle.model.specs.declared.Terms.{Terms}
-use Rattle.model.specs.Lists.{at}
+use Rattle.lists.specs.Lists.{at}
 use Rattle.model.specs.Problem.{pairCount}
 use Rattle.model.specs.Grid.{grid}
 use Rattle.model.specs.Rounds.{step, nextMomentum, Quick, quickStart, quickRound, quickRounds}
 use Rattle.model.specs.Accepted.{TermsAllowed, WeightsAllowed}
-use Rattle.model.proofs.Lists.{table-constant}
+use Rattle.lists.proofs.Tables.{table-constant}
 use Rattle.model.proofs.Root.{momentum-least}
 use Rattle.runs.specs.Limits.{Within}
 use Rattle.runs.proofs.Elements.{within-table}

@@ -7,18 +7,17 @@ use native.Mathlib.Omega.{arith}
 use lib.IntN.{ℤ, pos, natAbs, _-ℤ_}
 use Rattle.integers.proofs.Absolute.{natAbs-difference}
 use Rattle.model.specs.declared.Terms.{Terms}
-use Rattle.model.specs.Lists.{at, table}
+use Rattle.lists.specs.Lists.{at, table}
 use Rattle.model.specs.Problem.{pairCount}
 use Rattle.model.specs.Grid.{grid}
 use Rattle.model.specs.Rounds.{stepped, step, nextMomentum, quickRound}
 use Rattle.model.specs.Calls.{imageOf}
 use Rattle.model.specs.Accepted.{TermsAllowed, WeightsAllowed}
-use Rattle.model.proofs.Lists.{getD-table}
+use Rattle.lists.proofs.Tables.{getD-table, table-cong}
 use Rattle.model.proofs.Root.{momentum-grows, momentum-least}
 use Rattle.runs.specs.Limits.{Within}
 use Rattle.runs.specs.Run.{weightAt}
 use Rattle.raster.specs.Whole.{gridStep}
-use Rattle.runs.proofs.Fill.{table-cong}
 use Rattle.raster.proofs.Model.{step-is, stepped-is}
 use Rattle.momentum.specs.Reciprocal.{Reciprocal}
 use Rattle.momentum.specs.Reciprocal.{aheadOf}

@@ -3,7 +3,7 @@ use mathlib.Core.List.{List, _++_}
 use Prim.Native.Nat.{ℕ, zero, suc}
 use lib.IntN.{ℤ}
 use Rattle.model.specs.declared.Terms.{Terms}
-use Rattle.model.specs.Lists.{zeros}
+use Rattle.lists.specs.Lists.{zeros}
 use Rattle.model.specs.Problem.{Problem, pairCount}
 use Rattle.model.specs.Grid.{grid}
 use Rattle.model.specs.Rounds.{eighth, quickRounds}

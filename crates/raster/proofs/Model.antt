@@ -15,7 +15,7 @@ use Rattle.integers.proofs.Order.{0≤pos}
 use Rattle.integers.proofs.Absolute.{natAbs-upto}
 use Rattle.integers.proofs.Total.{total-cong}
 use Rattle.model.specs.declared.Terms.{Terms}
-use Rattle.model.specs.Lists.{at, table, firstWhere}
+use Rattle.lists.specs.Lists.{at, table, firstWhere}
 use Rattle.model.specs.Problem.{pairCount, firstOf, secondOf, fall, misfit, pull, image}
 use Rattle.model.specs.Grid.{readingOf, lowEnd, highEnd, grid}
 use Rattle.model.specs.Rounds.{stepped, step, wouldMove, firstMoving}
@@ -23,7 +23,8 @@ use Rattle.model.specs.Calls.{pairsOf, imageOf}
 use Rattle.model.specs.Accepted.{WeightsAllowed}
 use Rattle.model.proofs.Answers.{held-image}
 use Rattle.model.proofs.Weights.{weight-is}
-use Rattle.model.proofs.Lists.{firstWhere-cong, getD-by}
+use Rattle.lists.proofs.Tables.{getD-by, table-cong}
+use Rattle.lists.proofs.First.{firstWhere-cong}
 use Rattle.model.proofs.Pairs.{neighbours, first-inside, second-inside}
 use Rattle.runs.specs.Limits.{Within, WeightLimits}
 use Rattle.runs.specs.Ends.{BoxEnds}
@@ -31,7 +32,6 @@ use Rattle.runs.specs.Run.{weightAt}
 use Rattle.primal.specs.Image.{imageValue}
 use Rattle.stencil.specs.Pair.{stepValue}
 use Rattle.raster.specs.Whole.{gridStep, gridMoves, gridFall, gridVariation}
-use Rattle.runs.proofs.Fill.{table-cong}
 use Rattle.primal.proofs.Stencil.{pull-gathered}
 
 module _ (t : Terms) (samples : List ℕ) where

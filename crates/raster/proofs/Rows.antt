@@ -1,23 +1,19 @@
--- A buffer worked on row by row: what a row's part of it reads, that it keeps its limits, and what the whole holds once a
--- filled part has come back. Assumes nothing.
-use mathlib.Core.Path.{_≡_, sym, ap, ap₂, _∙_, subst}
-use mathlib.Core.List.{List, _++_}
-use Prim.Native.Nat.{ℕ, suc, _+_, _-_, _*_, _≤_, _<_, zero-le}
+-- A buffer worked on row by row: where its rows end, and the weights of a row's pairs. Assumes nothing.
+use mathlib.Core.Path.{_≡_, sym, ap, _∙_, subst}
+use mathlib.Core.List.{List}
+use Prim.Native.Nat.{ℕ, suc, _+_, _-_, _*_, _≤_, _<_}
 use native.Mathlib.Nat.{mul-le-mul-right, zero-add}
 use native.Mathlib.Decide.{decLt}
 use native.Mathlib.Omega.{arith}
-use lib.IntN.{ℤ, pos, natAbs}
-use lib.ListN.{length, getD, take, drop, length-take, length-drop, List·getD-eq-default}
+use lib.IntN.{ℤ, pos}
+use lib.ListN.{length, take, drop, length-take, length-drop}
 use lib.Signed.{_≤ℤ_}
-use lib.Seq.{getD-take, getD-drop, drop-at, drop-drop}
-use borrow.Rule.Slice.PartMut.{putMid}
 use Rattle.integers.proofs.Order.{0≤pos}
-use Rattle.model.specs.Lists.{at, table}
-use Rattle.model.proofs.Lists.{length-table}
-use Rattle.runs.specs.Limits.{Within, WeightLimits}
+use Rattle.lists.proofs.Parts.{part-at, part-length, part-by}
+use Rattle.runs.specs.Limits.{WeightLimits}
 use Rattle.runs.specs.Run.{weightAt}
+use Rattle.runs.proofs.Elements.{part-within}
 use Rattle.raster.specs.Whole.{rowPixel}
-use Rattle.runs.proofs.Fill.{filled, filled-part}
 use Rattle.primal.proofs.Stencil.{horizontal-here}
 
 -- the rows end where the buffer does: `row` rows of a numbers each lie before `start`
@@ -27,48 +23,6 @@ row-end row h a start length l e f = let q : suc row * a ≤ h * a = mul-le-mul-
 -- after the last row the buffer is at its end
 pub rows-end : (row h a start length : ℕ) → row ≤ h → h ≤ row → start ≡ row * a → length ≡ h * a → start ≡ length
 rows-end row h a start length l m e f = let q : row * a ≡ h * a = ap (λ (n : ℕ). n * a) (omega arith) in omega arith
-
--- the count that the machine computes for a part
-pub part-count : (a n : ℕ) → a + n - a ≡ n
-part-count a n = omega arith
-
-module _ {A : Type 0} where
-  pub part-at : (a n : ℕ) (l : List A) (i : ℕ) (d : A) → i < n → getD (take n (drop a l)) i d ≡ getD l (a + i) d
-  part-at a n l i d h = getD-take n (drop a l) i d h ∙ getD-drop a l i d
-
-  pub part-length : (a n : ℕ) (l : List A) → a + n ≤ length l → length (take n (drop a l)) ≡ n
-  part-length a n l h = simp (length-take, length-drop) (omega arith)
-
-  -- past what is filled a buffer is as it was
-  pub rest-is : (a : ℕ) (g : ℕ → A) (e : List A) {l : List A} → l ≡ filled a g e → drop a l ≡ drop a e
-  rest-is a g e p = ap (drop a) p ∙ drop-at (table a g) (drop a e) a (length-table a g)
-
-  -- a part of n values from a on has come back filled
-  pub put-part : (a n : ℕ) (g : ℕ → A) (e : List A) {l part : List A} → l ≡ filled a g e → part ≡ table n (λ i. g (a + i)) →
-      putMid a (a + n - a) l part ≡ filled (a + n) g e
-  put-part a n g e {l} {part} p q =
-      ap (λ (k : ℕ). putMid a k l part) (part-count a n)
-      ∙ ap₂ (λ (x y : List A). putMid a n x y) p q
-      ∙ ap (λ (x : List A). take a (filled a g e) ++ (table n (λ i. g (a + i)) ++ x)) (drop-drop n a (filled a g e))
-      ∙ filled-part g e a n
-
--- a part keeps the limits of the whole
-pub drop-within : {k : ℕ} (a : ℕ) (l : List ℤ) → Within k l → Within k (drop a l)
-drop-within {k} a l h i = subst (λ (z : ℤ). natAbs z ≤ k) (sym (getD-drop a l i (pos 0))) (h (a + i))
-
--- what holds of 0 and of every number holds of every number of a part
-part-by : (P : ℤ → Type 0) → P (pos 0) → (a n : ℕ) (l : List ℤ) → ((i : ℕ) → P (at l i)) → (i : ℕ) → P (at (take n (drop a l)) i)
-part-by P none a n l h i = by (decLt i n)
-  where
-    by : Dec (i < n) → P (at (take n (drop a l)) i)
-    by (yes b) = subst P (sym (part-at a n l i (pos 0) b)) (h (a + i))
-    by (no g) = subst P (sym (List·getD-eq-default (take n (drop a l)) (pos 0) {n = i} (simp length-take (omega (arith, g))))) none
-
-pub part-within : {k : ℕ} (a n : ℕ) (l : List ℤ) → Within k l → Within k (take n (drop a l))
-part-within {k} a n l h = part-by (λ z. natAbs z ≤ k) zero-le a n l h
-
-pub lent-within : {k : ℕ} (a n : ℕ) (l : List ℤ) {part : List ℤ} → part ≡ take n (drop a l) → Within k l → Within k part
-lent-within {k} a n l o h = subst (Within k) (sym o) (part-within a n l h)
 
 -- n of m pairs' weights, from a on, are there, unless none are
 pub part-there : {m : ℕ} {weights : List ℤ} → WeightLimits m weights → (a n : ℕ) → a + n ≤ m → 0 < length weights → a + n ≤ length weights
@@ -80,7 +34,7 @@ part-weights {m} {weights} w a n o h =
     subst (WeightLimits n) (sym o)
     (record {
       lent = λ p. whole p (decLt 0 (length weights));
-      least = part-by (λ z. pos 0 ≤ℤ z) (0≤pos 0) a n weights (w .least);
+      least = part-by (λ z. pos 0 ≤ℤ z) (pos 0) (0≤pos 0) a n weights (w .least);
       most = part-within a n weights (w .most);
     })
   where

@@ -8,14 +8,16 @@ use native.Mathlib.Omega.{arith}
 use lib.IntN.{ℤ, pos}
 use lib.ListN.{length, take, drop, length-drop}
 use lib.Seq.{length-take-le, getD-drop}
-use Rattle.model.specs.Lists.{at}
+use Rattle.lists.specs.Lists.{at}
 use Rattle.runs.specs.Limits.{Within, StepLimits, VariationLimits, FallLimits}
 use Rattle.raster.specs.Whole.{firstPixel, secondPixel, rowPixel, AcrossLimits, GridLimits, GridSize, RasterLimits, WorkLimits}
 use Rattle.model.specs.Grid.{gridPairs}
 use Rattle.model.proofs.Pairs.{grid-count}
-use Rattle.runs.proofs.Fill.{filled}
-use Rattle.raster.proofs.Rows.{row-end, part-count, part-at, part-length, part-within, part-weights, drop-within, rest-is, row-pixel}
-use Rattle.raster.proofs.Whole.{vertical, vertical-first, vertical-second, horizontal-first, horizontal-second, vertical-sides, pairs-most, vertical-most, vertical-reach, rest-all}
+use Rattle.lists.proofs.Parts.{part-count, part-at, part-length, rest-all}
+use Rattle.lists.proofs.Fill.{filled, filled-rest}
+use Rattle.runs.proofs.Elements.{part-within, drop-within}
+use Rattle.raster.proofs.Rows.{row-end, part-weights, row-pixel}
+use Rattle.raster.proofs.Whole.{vertical, vertical-first, vertical-second, horizontal-first, horizontal-second, vertical-sides, pairs-most, vertical-most, vertical-reach}
 
 -- ---- parts of buffers
 
@@ -37,7 +39,7 @@ pub lent : (l : List ℤ) (a n : ℕ) → a + n ≤ length l → Lent l a n
 lent l a n h =
     record {
       inside = h;
-      size = ap (λ (k : ℕ). length (take k (drop a l))) (part-count a n) ∙ part-length a n l h;
+      size = ap (λ (k : ℕ). length (take k (drop a l))) (part-count a n) ∙ part-length a n l (omega arith);
       number = λ i b. ap (λ (k : ℕ). at (take k (drop a l)) i) (part-count a n) ∙ part-at a n l i (pos 0) b;
       within = part-within a (a + n - a) l;
     }
@@ -48,7 +50,7 @@ row-part {l} {row} {h} {a} {start} b e f = lent l start a (row-end row h a start
 
 -- .. past what is filled
 pub unfilled : {l : List ℤ} {a n : ℕ} (g : ℕ → ℤ) {now : List ℤ} → now ≡ filled a g l → Lent l a n → Stretch l a n (cut now a n)
-unfilled {l} {a} {n} g p s = subst (λ (m : List ℤ). Stretch l a n (take (a + n - a) m)) (sym (rest-is a g l p)) s
+unfilled {l} {a} {n} g p s = subst (λ (m : List ℤ). Stretch l a n (take (a + n - a) m)) (sym (filled-rest g l a p)) s
 
 -- all that follows
 pub rest : (l : List ℤ) (a n : ℕ) → length l ≡ a + n → {part : List ℤ} → part ≡ drop a l → Stretch l a n part

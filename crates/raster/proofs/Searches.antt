@@ -1,17 +1,16 @@
 -- A search for a moving pair by parts: where no pair before a moves, the n pairs from a on say whether one of them does.
 -- Assumes nothing.
-use mathlib.Core.Path.{_≡_, refl, ap}
+use mathlib.Core.Path.{_≡_, refl, sym, ap, _∙_}
 use mathlib.Core.Bool.{Bool, true}
 use Prim.Native.Nat.{ℕ, _+_, _≤_, _<_}
 use native.Mathlib.Omega.{arith}
-use Rattle.model.specs.Lists.{firstWhere}
-use Rattle.model.proofs.Lists.{firstWhere-first}
+use Rattle.lists.specs.Lists.{firstWhere}
+use Rattle.lists.proofs.First.{firstWhere-first, firstWhere-cong}
+use Rattle.lists.proofs.Search.{Passed, passed-append, search-found, search-none}
 use Rattle.runs.specs.declared.pairs.Moving.{Moving}
 use Rattle.runs.specs.declared.pairs.Moving.the-variants.{At, Nothing}
 use Rattle.runs.specs.Run.{movingOf}
 use Rattle.runs.proofs.Moving.{nothing-is, at-is, nothing-moves, one-moves, first-is}
-use Rattle.model.proofs.Lists.{firstWhere-cong}
-use Rattle.runs.proofs.Search.{Passed, passed-append, search-found, search-ended}
 
 -- the answer of a search among n pairs
 abbrev pub answer : ℕ → (ℕ → Bool) → Moving
@@ -37,10 +36,10 @@ module _ (test : ℕ → Bool) where
 
 module _ (test : ℕ → Bool) where
   pub none-answer : {k n : ℕ} → Passed test k → k ≡ n → Nothing ≡ answer n test
-  none-answer {n = n} p e = nothing-is n (firstWhere n test) (search-ended test p e)
+  none-answer {k} {n} p e = nothing-is n (firstWhere n test) (sym (search-none n test k (omega arith, p) (omega arith)) ∙ e)
 
   pub first-answer : {j n : ℕ} → Passed test j → j < n → test j ≡ true → At j ≡ answer n test
-  first-answer {n = n} p l t = at-is n (firstWhere n test) (search-found test p l t) l
+  first-answer {j} {n} p l t = at-is n (firstWhere n test) (sym (search-found n test j (omega arith, p) t)) l
 
   -- ---- the first n pairs
 

@@ -11,12 +11,13 @@ use borrow.Rule.Slice.PartMut.{putMid}
 use Rattle.integers.proofs.Order.{≤ℤ-trans, negℤ-mono}
 use Rattle.integers.proofs.Absolute.{natAbs-neg, ≤-abs, bounds→natAbs}
 use Rattle.integers.proofs.Clamp.{Place, below, above, inside, clamp-place}
-use Rattle.model.specs.Lists.{table}
+use Rattle.lists.specs.Lists.{table}
 use Rattle.stencil.specs.Pair.{stepValue}
 use Rattle.runs.specs.Run.{weightAt, stepAt}
 use Rattle.raster.specs.Whole.{rowStep, gridStep}
-use Rattle.runs.proofs.Fill.{filled, table-cong}
-use Rattle.raster.proofs.Rows.{put-part, part-weight, front-weight}
+use Rattle.lists.proofs.Tables.{table-cong}
+use Rattle.lists.proofs.Fill.{filled, filled-back}
+use Rattle.raster.proofs.Rows.{part-weight, front-weight}
 use Rattle.raster.proofs.Whole.{vertical}
 use Rattle.raster.proofs.Runs.{Stretch, both, byBoth, both-are, row-run, vertical-run, horizontal-run}
 
@@ -26,7 +27,7 @@ module _ (share : ℤ → ℤ) {w start first : ℕ} (row : ℕ) (weight : ℤ) 
       own ≡ take (w - 1) (drop start weights) → stepped ≡ table (length part) (stepAt share (weightAt weight own) part pixels 1) →
       putMid start (start + (w - 1) - start) now stepped ≡ filled (start + (w - 1)) (rowStep share w (weightAt weight weights) flow image) flow
   row-stepped p q r s t o e =
-      put-part start (w - 1) (rowStep share w (weightAt weight weights) flow image) flow p
+      filled-back (rowStep share w (weightAt weight weights) flow image) flow start (w - 1) p
       (e ∙ row-run table (λ n _ _. table-cong n) (byBoth (stepValue share)) _ (both (weightAt weight weights) flow) row q r (s .size)
       (λ k b. both-are (part-weight weight weights start (w - 1) o k b) (s .number k b)) t)
 

@@ -1,20 +1,14 @@
--- The pixels of a raster's pairs, by runs: the vertical pairs, then the horizontal ones through all rows; and what a
--- buffer holds once the two runs of all its pairs are filled. Assumes nothing.
+-- The pixels of a raster's pairs, by runs: the vertical pairs, then the horizontal ones through all rows. Assumes nothing.
 use mathlib.Core.Path.{_≡_, sym, ap, _∙_}
-use mathlib.Core.List.{List, _++_}
+use mathlib.Core.List.{List}
 use Prim.Native.Nat.{ℕ, _+_, _-_, _*_, _≤_, _<_}
-use native.Mathlib.Nat.{le-refl, mul-le-mul-left}
+use native.Mathlib.Nat.{mul-le-mul-left}
 use native.Mathlib.Omega.{arith}
 use lib.IntN.{ℤ}
-use lib.ListN.{length, take, drop, length-drop}
-use lib.Seq.{take-all}
-use borrow.Rule.Slice.PartMut.{putMid}
-use Rattle.model.specs.Lists.{table}
+use lib.ListN.{length}
 use Rattle.model.specs.Problem.{Pair}
 use Rattle.model.proofs.Pairs.{grid-count, vertical-pair, horizontal-at}
 use Rattle.raster.specs.Whole.{firstPixel, secondPixel, rowPixel, GridSize}
-use Rattle.runs.proofs.Fill.{filled, filled-all, length-filled}
-use Rattle.raster.proofs.Rows.{rest-is, put-part}
 
 -- how many vertical pairs there are
 abbrev pub vertical : ℕ → ℕ → ℕ
@@ -57,28 +51,3 @@ module _ {w h : ℕ} {flow image : List ℤ} (s : GridSize w h flow image) where
   -- a pair's pixels w apart lie in the raster
   pub vertical-reach : vertical w h + w ≡ length image
   vertical-reach = vertical-sides w h (s .height-least) ∙ sym (s .image-length)
-
--- a part that ends where the buffer does is all that follows
-pub rest-all : {A : Type 0} (v : ℕ) (l : List A) → take (length l - v) (drop v l) ≡ drop v l
-rest-all v l = take-all (length l - v) (drop v l) (simp length-drop (le-refl (length l - v)))
-
-module _ {A : Type 0} (g : ℕ → A) (e : List A) (v n : ℕ) (size : length e ≡ v + n) where
-  -- the vertical run filled ..
-  pub upper-filled : {part : List A} → part ≡ table v g → part ++ drop v e ≡ filled v g e
-  upper-filled p = ap (λ (l : List A). l ++ drop v e) p
-
-  -- .. then the other
-  module _ {l : List A} (p : l ≡ filled v g e) where
-    length-upper : length l ≡ v + n
-    length-upper = ap length p ∙ length-filled g e v (omega arith) ∙ size
-
-    pub lower-part : take (length l - v) (drop v l) ≡ drop v e
-    lower-part = rest-all v l ∙ rest-is v g e p
-
-    pub both-filled : {part : List A} → part ≡ table n (λ i. g (v + i)) → putMid v (length l - v) l part ≡ table (v + n) g
-    both-filled {part} q =
-        ap (λ (k : ℕ). putMid v k l part) (ap (λ (k : ℕ). k - v) length-upper)
-        ∙ put-part v n g e p q
-        ∙ ap (λ (k : ℕ). filled k g e) (sym size)
-        ∙ filled-all g e
-        ∙ ap (λ (k : ℕ). table k g) size

@@ -7,7 +7,7 @@ use mathlib.Core.Path.{_≡_}
 use lib.IntN.{ℤ, natAbs, _-ℤ_, _*ℤ_}
 use lib.ListN.{length, getD}
 use Rattle.integers.specs.Whole.{abs}
-use Rattle.model.specs.Lists.{at}
+use Rattle.lists.specs.Lists.{at}
 use Rattle.model.specs.Grid.{gridPairs}
 use Rattle.stencil.specs.Pair.{stepValue, moves}
 use Rattle.runs.specs.Limits.{Within, WeightLimits}

@@ -6,7 +6,7 @@ use runs::pairs::Moving;
 use runs::part::part_of;
 ghost use mathlib.Core.Path.{_≡_};
 ghost use lib.ListN.{length};
-ghost use Rattle.model.specs.Lists.{table, firstWhere};
+ghost use Rattle.lists.specs.Lists.{table, firstWhere};
 ghost use Rattle.model.specs.Rounds.{nearestEighth};
 ghost use Rattle.runs.specs.Run.{weightAt, movingOf};
 ghost use Rattle.raster.specs.Whole.{AcrossLimits, rowStep, rowMoves, GridLimits, gridStep, gridMoves};

@@ -9,7 +9,7 @@ ghost use mathlib.Core.Path.{_≡_};
 ghost use lib.IntN.{pos, _*ℤ_};
 ghost use lib.ListN.{length};
 ghost use Rattle.integers.specs.Sum.{total};
-ghost use Rattle.model.specs.Lists.{at};
+ghost use Rattle.lists.specs.Lists.{at};
 ghost use Rattle.model.specs.Grid.{gridPairs};
 ghost use Rattle.runs.specs.Run.{weightAt};
 ghost use Rattle.raster.specs.Whole.{rowFall, gridFall, rowVariation, gridVariation, WeightedLimits, WorkLimits};

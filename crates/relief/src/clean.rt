@@ -4,7 +4,7 @@ use text::line::put_refusal;
 ghost use mathlib.Core.Path.{_≡_};
 ghost use lib.ListN.{length};
 ghost use Rattle.io.specs.Counts.{Counts};
-ghost use Rattle.model.specs.Lists.{overwritten};
+ghost use Rattle.lists.specs.Lists.{overwritten};
 ghost use Rattle.model.specs.Program.{programText};
 
 // The text stands at the front of the output; how many bytes it has. The tables hold 4,096 samples,

@@ -9,12 +9,12 @@ use lib.IntN.{ℤ, pos}
 use lib.ListN.{length}
 use Rattle.integers.proofs.Clamp.{clamp-size, natAbs-clamp}
 use Rattle.model.specs.declared.Terms.{Terms}
-use Rattle.model.specs.Lists.{at}
+use Rattle.lists.specs.Lists.{at}
 use Rattle.model.specs.Problem.{pairCount, image}
 use Rattle.model.specs.Grid.{weightOf, lowEnd, highEnd, gridPairs, grid}
 use Rattle.model.specs.Rounds.{stepped, step}
 use Rattle.model.specs.Calls.{imageOf}
-use Rattle.model.proofs.Lists.{length-table}
+use Rattle.lists.proofs.Tables.{length-table}
 use Rattle.model.proofs.Pairs.{grid-count}
 use Rattle.model.proofs.Range.{widest-fits, low-size, high-size}
 use Rattle.model.proofs.Weights.{weight-most}

@@ -2,7 +2,7 @@
 
 ghost use mathlib.Core.Path.{_≡_};
 ghost use lib.ListN.{length};
-ghost use Rattle.model.specs.Lists.{zeros};
+ghost use Rattle.lists.specs.Lists.{zeros};
 
 // Only zeros.
 pub fn clear(buffer: &mut [i32])

@@ -19,7 +19,7 @@ use Rattle.model.specs.declared.Rounds.{Rounds}
 use Rattle.model.specs.declared.Verdict.{Verdict}
 use Rattle.model.specs.declared.Entry.{Entry}
 use Rattle.model.specs.declared.Entry.the-variants.{End, Size, WeightBox, RoundLimits, Sample, Flow, PairWeight}
-use Rattle.model.specs.Lists.{chain}
+use Rattle.lists.specs.Lists.{chain}
 use Rattle.model.specs.Grid.{sizeAllowed, weightAllowed, boxAllowed}
 use Rattle.model.specs.Verdict.{firstRefusal}
 use Rattle.model.specs.Calls.{pixelsOf, pairsOf}
@@ -30,7 +30,8 @@ use Rattle.model.proofs.Accepted.{all-or-none, neither, weight-passes}
 use Rattle.model.specs.declared.Lent.{Lent}
 use Rattle.steps.specs.declared.Step.{Step}
 use Rattle.records.proofs.Digits.{four-fits}
-use Rattle.roundtrip.proofs.Sequences.{length-none, listed, listed-more, listed-none, Each, each-none, each-more}
+use Rattle.lists.proofs.Tables.{length-none}
+use Rattle.lists.proofs.Chains.{listed, listed-more, listed-none, Each, each-none, each-more}
 use Rattle.steps.proofs.Turns.{entryAt, nextAt, termsVerdict, Passed, Turn, turn}
 use Rattle.roundtrip.proofs.Entries.{take-next}
 

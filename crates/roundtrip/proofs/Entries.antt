@@ -12,10 +12,10 @@ use mir.Val.{SFits}
 use borrow.Author.Tests.{ltb-true}
 use Rattle.model.specs.declared.Entry.{Entry}
 use Rattle.model.specs.declared.Entry.the-variants.{End, Size, WeightBox, RoundLimits, Sample, Flow, PairWeight}
-use Rattle.model.specs.Lists.{table}
+use Rattle.lists.specs.Lists.{table}
 use Rattle.model.specs.Tape.{known, bodyLength, decoded, encoded}
 use Rattle.records.proofs.Digits.{two-there, two-back, four-there, four-back}
-use Rattle.roundtrip.proofs.Sequences.{take-drop-table}
+use Rattle.lists.proofs.Parts.{part-table}
 use Rattle.steps.proofs.Turns.{entryAt, nextAt}
 
 -- the bytes of the record that was read are those that it was read from
@@ -96,7 +96,7 @@ module _ (tape : List ℕ) (o : ℕ) where
         regroup = omega arith
 
         rest : take body (drop (suc o) tape) ≡ table body (λ i. getD tape (o + 1 + i) 0)
-        rest = ap (λ (n : ℕ). take body (drop n tape)) (sym (add-one o)) ∙ take-drop-table tape (o + 1) body 0 fits
+        rest = ap (λ (n : ℕ). take body (drop n tape)) (sym (add-one o)) ∙ part-table tape (o + 1) body 0 fits
 
         encoding : encoded (entryAt tape o) ≡ getD tape o 0 ∷ table body (λ i. getD tape (o + 1 + i) 0)
         encoding = encoded-decoded (getD tape o 0) (λ i. getD tape (o + 1 + i) 0) k (λ i. b (o + 1 + i))

@@ -1,5 +1,4 @@
 -- The laws of the whole tape.
---     Sequences   `table` and `chain` over the elements of a list, and what holds of each
 --     Entries     records and their bytes, there and back
 --     Offsets     where the records of a job stand on its tape
 --     Accepted    an accepted tape is the bytes of the job that was read
@@ -7,7 +6,6 @@
 --     WriteRows   the rows of write
 --     Walk        reading goes on over a record whose bytes stand at its offset, and over a stretch of records
 --     RoundTrip   writing and reading undo each other
-pub mod Sequences
 pub mod Entries
 pub mod Offsets
 pub mod Accepted

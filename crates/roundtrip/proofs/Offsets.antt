@@ -9,10 +9,9 @@ use lib.ListN.{length, getD, drop, length-append}
 use Rattle.model.specs.declared.Terms.{Terms}
 use Rattle.model.specs.declared.Rounds.{Rounds}
 use Rattle.model.specs.declared.Entry.the-variants.{End, Size, WeightBox, RoundLimits, Sample, Flow, PairWeight}
-use Rattle.model.specs.Lists.{at, chain}
+use Rattle.lists.specs.Lists.{at, chain}
 use Rattle.model.specs.Tape.{encoded, tapeOf}
-use Rattle.model.proofs.Lists.{length-chain}
-use Rattle.roundtrip.proofs.Sequences.{member-here, behind-here}
+use Rattle.lists.proofs.Chains.{length-chain, member-here, behind-here}
 
 module _ (t : Terms) (r : Rounds) (s : List ℕ) (w f : List ℤ) where
   abbrev pub header : List ℕ

@@ -8,7 +8,7 @@ use native.Mathlib.Omega.{arith}
 use lib.Dec.{eqb, ltb}
 use lib.IntN.{ℤ, pos, negsuc, natAbs}
 use lib.ListN.{length, getD, take, drop}
-use lib.Seq.{length-take-le, take-at, take-append-seam}
+use lib.Seq.{length-take-le, take-append-seam}
 use mir.Syntax.{w32}
 use mir.Val.{SFits}
 use borrow.Author.Tests.{lt-ltb, le-ltb, ltb-false, eq-eqb, eqb-true, eqb-false}
@@ -17,7 +17,8 @@ use Rattle.integers.proofs.Absolute.{natAbs-upto}
 use Rattle.model.specs.declared.Terms.{Terms}
 use Rattle.model.specs.declared.Rounds.{Rounds}
 use Rattle.model.specs.declared.Entry.the-variants.{End, Size, WeightBox, RoundLimits, Sample, Flow, PairWeight}
-use Rattle.model.specs.Lists.{at, overwritten}
+use Rattle.lists.specs.Lists.{at, overwritten}
+use Rattle.lists.proofs.Placed.{take-overwritten}
 use Rattle.model.specs.Grid.{weightOf}
 use Rattle.model.specs.Calls.{pixelsOf, pairsOf, allOrNone, firstBeyond}
 use Rattle.model.specs.Tape.{Progress, nothing, allowedAfter, Parse, whole, parseFrom, ReadAnswer, readAnswer, readSamples, readWeights, readFlow, tapeOf, WriteAnswer, writeAnswer, writeOutput, lentBy}
@@ -223,7 +224,7 @@ module _ (tape : List ℕ) (byte : (i : ℕ) → getD tape i 0 < 256) (lent : Le
 front : {A : Type 0} (count : ReadAnswer → ℕ) (xs buffer : List A) {a b : ReadAnswer} {l : List A} → a ≡ b →
     l ≡ overwritten xs buffer → length xs ≡ count b → take (count a) l ≡ xs
 front {A} count xs buffer x y n =
-    ap₂ (λ (a : ReadAnswer) (l : List A). take (count a) l) x y ∙ take-at xs (drop (length xs) buffer) _ n
+    ap₂ (λ (a : ReadAnswer) (l : List A). take (count a) l) x y ∙ take-overwritten buffer xs n
 
 -- A tape of bytes that read accepts is given back by write, for the terms, the samples, the weights and the flow that a call
 -- gave and left

@@ -1,19 +1,20 @@
 -- The numbers of buffers within limits: as the machine reads them back from their bits, and what the limits say of a pair.
 -- Assumes nothing.
-use mathlib.Core.Path.{_≡_}
+use mathlib.Core.Path.{_≡_, sym, subst}
 use mathlib.Core.List.{List}
 use Prim.Native.Nat.{ℕ, _+_, _^_, _≤_, _<_, zero-le}
-use native.Mathlib.Decide.{decLt}
 use native.Mathlib.Omega.{arith}
 use lib.IntN.{ℤ, pos, natAbs}
-use lib.ListN.{length, List·getD-eq-default}
+use lib.ListN.{length, take, drop}
+use lib.Seq.{getD-drop}
 use lib.Signed.{_≤ℤ_}
 use mir.Syntax.{w32}
 use mir.Val.{toZ, ofZ}
 use mir.ValLaws.{toZ-ofZ}
 use Rattle.integers.proofs.Machine.{fits}
-use Rattle.model.specs.Lists.{at, table}
-use Rattle.model.proofs.Lists.{length-table, getD-table, getD-by}
+use Rattle.lists.specs.Lists.{at, table}
+use Rattle.lists.proofs.Tables.{length-table, getD-table, getD-by}
+use Rattle.lists.proofs.Parts.{part-by}
 use Rattle.runs.specs.Limits.{Within, WeightLimits, StepLimits}
 use Rattle.runs.specs.Run.{weightAt}
 use Rattle.stencil.specs.Limits.{PairLimits}
@@ -24,17 +25,23 @@ element l h i = toZ-ofZ w32 (at l i) (fits w32 (omega (arith, h i)))
 -- ---- buffers whose numbers are all at most k in size
 
 pub within-below : {k : ℕ} (l : List ℤ) → ((i : ℕ) → i < length l → natAbs (at l i) ≤ k) → Within k l
-within-below {k} l h i = by (decLt i (length l))
-  where
-    by : Dec (i < length l) → natAbs (at l i) ≤ k
-    by (yes m) = h i m
-    by (no m) = rw (List·getD-eq-default l (pos 0) {n = i} (omega (arith, m))) zero-le
+within-below {k} l h = getD-by (λ z. natAbs z ≤ k) l (pos 0) (pos 0) zero-le h
 
 pub within-table : {k : ℕ} (n : ℕ) (g : ℕ → ℤ) → ((i : ℕ) → i < n → natAbs (g i) ≤ k) → Within k (table n g)
 within-table n g h =
     within-below (table n g) (λ i m.
     let l : i < n = rw (length-table n g) at m in
     rw (getD-table n g i (pos 0) l) (h i l))
+
+-- so are those of a part
+pub part-within : {k : ℕ} (a n : ℕ) (l : List ℤ) → Within k l → Within k (take n (drop a l))
+part-within {k} a n l h = part-by (λ z. natAbs z ≤ k) (pos 0) zero-le a n l h
+
+pub lent-within : {k : ℕ} (a n : ℕ) (l : List ℤ) {part : List ℤ} → part ≡ take n (drop a l) → Within k l → Within k part
+lent-within {k} a n l o h = subst (Within k) (sym o) (part-within a n l h)
+
+pub drop-within : {k : ℕ} (a : ℕ) (l : List ℤ) → Within k l → Within k (drop a l)
+drop-within {k} a l h i = subst (λ (z : ℤ). natAbs z ≤ k) (sym (getD-drop a l i (pos 0))) (h (a + i))
 
 -- ---- what the limits say of a pair
 

@@ -11,7 +11,7 @@ use Rattle.integers.specs.Whole.{abs, square}
 use Rattle.integers.specs.Sum.{total}
 use Rattle.integers.proofs.Absolute.{natAbs-difference, natAbs-product, natAbs-square}
 use Rattle.integers.proofs.Total.{total-suc, total-append, natAbs-total}
-use Rattle.model.specs.Lists.{at}
+use Rattle.lists.specs.Lists.{at}
 use Rattle.model.specs.Grid.{readingOf}
 use Rattle.runs.specs.Limits.{Within}
 use Rattle.stencil.proofs.Readings.{reading-most}

@@ -8,7 +8,7 @@ use lib.IntN.{ℤ}
 use lib.ListN.{length}
 use lib.Signed.{_≤ℤ_, ltZ}
 use Rattle.model.specs.declared.Terms.{Terms}
-use Rattle.model.specs.Lists.{at, firstWhere}
+use Rattle.lists.specs.Lists.{at, firstWhere}
 use Rattle.model.specs.Grid.{lowEnd, highEnd}
 
 -- Two numbers are the ends of a job's box (the bounds of the box constraint) (SPECIFICATION 1.6)

@@ -5,7 +5,7 @@ use Prim.Native.Nat.{ℕ, _+_, _^_, _≤_, _<_}
 use lib.IntN.{ℤ, pos, natAbs}
 use lib.ListN.{length}
 use lib.Signed.{_≤ℤ_}
-use Rattle.model.specs.Lists.{at}
+use Rattle.lists.specs.Lists.{at}
 
 -- every number of a buffer is at most k in size
 abbrev pub Within : ℕ → List ℤ → Type 0

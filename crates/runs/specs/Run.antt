@@ -7,7 +7,7 @@ use lib.Dec.{ltb}
 use lib.IntN.{ℤ, _-ℤ_, _*ℤ_}
 use lib.ListN.{getD}
 use Rattle.integers.specs.Whole.{abs}
-use Rattle.model.specs.Lists.{at}
+use Rattle.lists.specs.Lists.{at}
 use Rattle.runs.specs.declared.pairs.Moving.{Moving}
 use Rattle.runs.specs.declared.pairs.Moving.the-variants.{At, Nothing}
 use Rattle.stencil.specs.Pair.{stepValue, moves}

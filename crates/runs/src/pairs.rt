@@ -11,7 +11,7 @@ ghost use mathlib.Core.Path.{_≡_};
 ghost use lib.IntN.{pos, _*ℤ_};
 ghost use lib.ListN.{length};
 ghost use Rattle.integers.specs.Sum.{total};
-ghost use Rattle.model.specs.Lists.{at, table, firstWhere};
+ghost use Rattle.lists.specs.Lists.{at, table, firstWhere};
 ghost use Rattle.model.specs.Rounds.{nearestEighth};
 ghost use Rattle.runs.specs.Limits.{WeightLimits, StepLimits, VariationLimits, FallLimits};
 ghost use Rattle.runs.specs.Run.{fallAt, weightAt, stepAt, movesAt, movingOf, variationAt};

@@ -6,7 +6,7 @@ ghost use lib.IntN.{pos, _-ℤ_};
 ghost use lib.ListN.{length, getD};
 ghost use Rattle.integers.specs.Whole.{square};
 ghost use Rattle.integers.specs.Sum.{total};
-ghost use Rattle.model.specs.Lists.{at};
+ghost use Rattle.lists.specs.Lists.{at};
 ghost use Rattle.model.specs.Grid.{readingOf};
 ghost use Rattle.runs.specs.Ends.{firstOutsideRange};
 ghost use Rattle.runs.specs.Limits.{MisfitLimits};

@@ -5,7 +5,7 @@ use mathlib.Core.List.{List, [], _++_, append-assoc}
 use Prim.Native.Nat.{ℕ, _+_, _-_, _*_, _<_, zero-le}
 use native.Mathlib.Omega.{arith}
 use lib.ListN.{length, take, drop, length-drop, length-append}
-use lib.Seq.{length-take-le, take-append-le, drop-drop}
+use lib.Seq.{take-append-le, drop-drop}
 use Rattle.model.specs.declared.Lent.{Lent}
 use Rattle.model.specs.declared.Totals.{Totals}
 use Rattle.model.specs.Tape.{nothing}
@@ -19,11 +19,11 @@ use Rattle.window.specs.declared.Input.{Input}
 use Rattle.season_read.specs.declared.State.{State}
 use Rattle.window.specs.Window.{atHand, Lies, Grown}
 use Rattle.season_read.specs.Stream.{Stands, left, Goes}
-use Rattle.window.proofs.Buffers.{drop-take}
+use Rattle.lists.proofs.Parts.{drop-take, part-length}
 
 -- how many bytes are at hand
 pub size-of : (buffer : List ℕ) (w : Window) → Lies buffer w → length (atHand buffer w) ≡ w .end - w .start
-size-of buffer w l = length-take-le (w .end - w .start) (drop (w .start) buffer) (omega (arith, length-drop (w .start) buffer, l .inside))
+size-of buffer w l = part-length (w .start) (w .end - w .start) buffer (omega (arith, l .inside))
 
 module _ (lent : Lent) (buffer : List ℕ) (s : State) (st : Stands lent buffer s) where
   abbrev w : Window

@@ -8,7 +8,7 @@ use raster::grid;
 use runs::pairs::Moving;
 ghost use mathlib.Core.Path.{_≡_};
 ghost use lib.Dec.{ltb};
-ghost use Rattle.model.specs.Lists.{at};
+ghost use Rattle.lists.specs.Lists.{at};
 ghost use Rattle.model.specs.Problem.{pairCount};
 ghost use Rattle.model.specs.Grid.{grid as theGrid};
 ghost use Rattle.model.specs.Rounds.{nearestEighth, firstMoving, steadyRounds};

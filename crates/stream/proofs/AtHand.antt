@@ -1,11 +1,12 @@
 -- What the bytes at hand come to, from what taking a job of the first 65,536 of them gives. Assumes nothing.
-use mathlib.Core.Path.{_≡_, refl, sym, ap, ap₂, _∙_, subst}
+use mathlib.Core.Path.{_≡_, sym, ap, ap₂, _∙_, subst}
 use mathlib.Core.Bool.{Bool, true, false, true≢false}
-use mathlib.Core.List.{List, [], _∷_, _++_, append-nil}
+use mathlib.Core.List.{List, [], _++_, append-nil}
 use Prim.Native.Nat.{ℕ, _+_, _≤_, _<_}
 use native.Mathlib.Omega.{arith}
 use lib.ListN.{length, take, drop, length-append, length-take}
 use lib.Seq.{take-all, drop-append-le}
+use Rattle.lists.proofs.Tables.{length-none}
 use Rattle.model.specs.declared.Lent.{Lent}
 use Rattle.model.specs.declared.Totals.{Totals}
 use Rattle.model.specs.declared.Verdict.{Verdict}
@@ -22,10 +23,6 @@ use Rattle.stream.proofs.Reports.{over-report, refused-report, counted-
 
 abbrev ends : Totals → ℕ → ℕ → Report
 ends t number place = record { totals = t; ending = Verdict.Refuse number place }
-
-empty : (l : List ℕ) → length l ≡ 0 → l ≡ []
-empty [] e = refl
-empty (x ∷ l) e = absurd (omega arith)
 
 module _ (bytes : List ℕ) (lent : Lent) (t : Totals) (few : t .jobs < 65535) where
   abbrev front : List ℕ
@@ -56,7 +53,7 @@ module _ (bytes : List ℕ) (lent : Lent) (t : Totals) (few : t .jobs < 65535) w
     where
       some : length (bytes ++ rest) ≡ 0 → ⊥
       some z =
-          let none : take 65536 bytes ++ [] ≡ [] = append-nil (take 65536 bytes) ∙ ap (take 65536) (empty bytes (omega (arith, length-append bytes rest))) in
+          let none : take 65536 bytes ++ [] ≡ [] = append-nil (take 65536 bytes) ∙ ap (take 65536) (length-none bytes (omega (arith, length-append bytes rest))) in
           let nothing-read : parse [] lent ≡ turned n q = sym (ap (λ (l : List ℕ). parse l lent) none) ∙ r .refused [] in
           true≢false (sym (no-bytes lent nothing-read) ∙ r .faulty)
 
@@ -78,4 +75,4 @@ module _ (bytes : List ℕ) (lent : Lent) (t : Totals) (few : t .jobs < 65535) w
           (first-ended lent bytes l (ap (λ (x : List ℕ). parse x lent) (sym (take-all 65536 bytes l)) ∙ s .refused))
 
   pub next-over : {ended : Bool} → ended ≡ true → length bytes ≡ 0 → Reports bytes ended lent t (record { totals = t; ending = Verdict.Accept })
-  next-over e z rest follows = ap₂ (λ (x y : List ℕ). reportFrom lent t (x ++ y)) (empty bytes z) (follows e) ∙ over-report lent t
+  next-over e z rest follows = ap₂ (λ (x y : List ℕ). reportFrom lent t (x ++ y)) (length-none bytes z) (follows e) ∙ over-report lent t

@@ -9,11 +9,12 @@ use lib.ListN.{length, length-append}
 use Rattle.model.specs.declared.Terms.{Terms}
 use Rattle.model.specs.declared.Rounds.{Rounds}
 use Rattle.model.specs.declared.Entry.the-variants.{End}
-use Rattle.model.specs.Lists.{chain, overwritten}
+use Rattle.lists.specs.Lists.{chain, overwritten}
 use Rattle.model.specs.Tape.{encoded, tapeOf}
-use Rattle.model.proofs.Lists.{length-chain}
+use Rattle.lists.proofs.Chains.{length-chain}
+use Rattle.lists.proofs.Placed.{placed-front}
 use Rattle.output.specs.Put.{Put}
-use Rattle.output.proofs.Laid.{placed-front, put-length, put-then, chain-start, chain-next}
+use Rattle.output.proofs.Laid.{put-length, put-then, chain-start, chain-next}
 use Rattle.roundtrip.proofs.Offsets as Offsets
 
 -- n records of k bytes each, which a loop lays from offset o on

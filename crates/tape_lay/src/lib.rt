@@ -11,7 +11,7 @@ ghost use Prim.Native.Nat.{_+_, _*_, _≤_};
 ghost use lib.IntN.{natAbs};
 ghost use lib.ListN.{length, getD};
 ghost use Rattle.model.specs.declared.Entry.{Entry};
-ghost use Rattle.model.specs.Lists.{at, chain, overwritten};
+ghost use Rattle.lists.specs.Lists.{at, chain, overwritten};
 ghost use Rattle.model.specs.Tape.{encoded, tapeOf};
 ghost use Rattle.output.specs.Put.{Put};
 

@@ -1,9 +1,7 @@
 -- The laws of read.
---     Filling     what a loop that fills a buffer has laid down
 --     Numbers     an accepted tape's numbers, where the code reads them
 --     Promised    what read promises, from what it gave and left
 --     Passed      what the counts of a tape that has passed say
-pub mod Filling
 pub mod Numbers
 pub mod Promised
 pub mod Passed

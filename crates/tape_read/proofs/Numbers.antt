@@ -1,5 +1,5 @@
 -- The numbers of an accepted tape, where the code reads them. Assumes nothing.
-use mathlib.Core.Path.{_≡_, refl, sym, ap, ap₂, _∙_, subst}
+use mathlib.Core.Path.{_≡_, refl, sym, ap, ap₂, _∙_}
 use mathlib.Core.Bool.{Bool, true, false, cond}
 use mathlib.Core.List.{List, _++_}
 use Prim.Native.Nat.{ℕ, _+_, _*_, _≤_, _<_}
@@ -7,17 +7,17 @@ use native.Mathlib.Omega.{arith}
 use lib.Dec.{eqb, ltb}
 use lib.IntN.{ℤ, pos, natAbs}
 use lib.ListN.{length, getD, drop, List·getD-eq-default}
-use lib.Seq.{ext-getD}
 use borrow.Author.Tests.{eqb-true, eqb-false}
 use Rattle.integers.proofs.Order.{pos-natAbs-nonneg}
 use Rattle.integers.proofs.Absolute.{natAbs-upto}
 use Rattle.model.specs.declared.Entry.{Entry}
 use Rattle.model.specs.declared.Entry.the-variants.{Sample, Flow, PairWeight}
-use Rattle.model.specs.Lists.{at, table, firstWhere}
+use Rattle.lists.specs.Lists.{at, table, firstWhere}
 use Rattle.model.specs.Grid.{weightOf}
 use Rattle.model.specs.Calls.{firstBeyond}
 use Rattle.model.specs.Tape.{decoded, encoded, Progress, tapeOf}
-use Rattle.model.proofs.Lists.{length-table, getD-table, getD-inside, firstWhere-cong}
+use Rattle.lists.proofs.Tables.{getD-inside, table-list}
+use Rattle.lists.proofs.First.{firstWhere-cong}
 use Rattle.model.proofs.Accepted.{no-longer}
 use Rattle.model.specs.declared.Lent.{Lent}
 use Rattle.records.specs.declared.tally.Tally.{Tally}
@@ -42,15 +42,6 @@ abbrev pub firstOn : List ℕ → Tally → ℕ
 firstOn tape t =
     firstWhere (t .flows)
     (beyondOwn tape (t .terms .weight) (15 + 2 * t .samples) (t .weights) (15 + 2 * t .samples + 3 * t .weights))
-
--- a list from its elements
-table-list : {A : Type 0} (xs : List A) (g : ℕ → A) (d : A) → ((i : ℕ) → i < length xs → g i ≡ getD xs i d) →
-    table (length xs) g ≡ xs
-table-list xs g d e =
-    ext-getD d (table (length xs) g) xs (length-table (length xs) g)
-    (λ i h.
-    let l : i < length xs = subst (λ (n : ℕ). i < n) (length-table (length xs) g) h in
-    getD-table (length xs) g i d l ∙ e i l)
 
 module _ (tape : List ℕ) (lent : Lent) (byte : (i : ℕ) → getD tape i 0 < 256) (p : Progress) (j : Job tape lent byte p) where
   abbrev job : List ℕ

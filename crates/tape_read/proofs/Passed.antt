@@ -8,7 +8,7 @@ use native.Mathlib.Omega.{arith}
 use lib.Dec.{eqb}
 use lib.IntN.{ℤ, pos}
 use lib.ListN.{length, getD}
-use Rattle.model.specs.Lists.{table, overwritten}
+use Rattle.lists.specs.Lists.{table, overwritten}
 use Rattle.model.specs.Tape.{Progress, turned, whole, parse, readAnswer, readSamples, readWeights, readFlow, lentBy}
 use Rattle.model.proofs.Accepted.{up-to}
 use Rattle.records.specs.declared.tally.Tally.{Tally}

@@ -7,7 +7,7 @@ ghost use mathlib.Core.Path.{_≡_};
 ghost use Prim.Native.Nat.{_+_, _*_, _≤_};
 ghost use lib.IntN.{pos};
 ghost use lib.ListN.{length, getD};
-ghost use Rattle.model.specs.Lists.{table, firstWhere, overwritten};
+ghost use Rattle.lists.specs.Lists.{table, firstWhere, overwritten};
 ghost use Rattle.tape_read.specs.Places.{pairWeightAt, numberAt, ownWeight, beyondOwn};
 
 // The weight of pair j, of so many weight records from an offset on: its own, or, where there are

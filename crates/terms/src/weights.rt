@@ -8,7 +8,7 @@ ghost use mathlib.Core.Bool.{not};
 ghost use Prim.Native.Nat.{_<_};
 ghost use lib.Dec.{ltb};
 ghost use lib.ListN.{length};
-ghost use Rattle.model.specs.Lists.{at};
+ghost use Rattle.lists.specs.Lists.{at};
 ghost use Rattle.model.specs.Grid.{pairWeightAllowed, weightOf};
 ghost use Rattle.model.specs.Calls.{firstOver};
 

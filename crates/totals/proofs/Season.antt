@@ -10,10 +10,10 @@ use lib.ListN.{length, getD, length-append, List·getD-append}
 use lib.Seq.{getD-append-seam}
 use borrow.Author.Tests.{lt-ltb, le-ltb, eq-eqb, ne-eqb}
 use Rattle.model.specs.declared.Totals.{Totals}
-use Rattle.model.specs.Lists.{firstWhere}
+use Rattle.lists.specs.Lists.{firstWhere}
 use Rattle.model.specs.Calls.{Outcome, refused, checked, settled, spent, refusal}
 use Rattle.model.specs.Season.{Treated, sumOver, settledOne, spentOne, checkedOne, slackOf, largestSlack, hasSlack, firstLargest, totalsOf}
-use Rattle.model.proofs.Lists.{First, firstWhere-first, firstWhere-is}
+use Rattle.lists.proofs.First.{First, firstWhere-first, firstWhere-is}
 use Rattle.calls.specs.Slack.{mostSlack}
 use Rattle.totals.specs.Counted.{leads, withJob, Bounded}
 

@@ -3,7 +3,7 @@
 ghost use mathlib.Core.Path.{_≡_};
 ghost use Prim.Native.Nat.{_+_, _≤_};
 ghost use lib.ListN.{length, getD};
-ghost use Rattle.model.specs.Lists.{table, overwritten};
+ghost use Rattle.lists.specs.Lists.{table, overwritten};
 ghost use Rattle.window.specs.Window.{Lies, Roomy, Room, Grown};
 
 // Where they begin and end, and whether the input has ended behind them.

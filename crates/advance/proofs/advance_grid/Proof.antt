@@ -11,12 +11,13 @@ use mir.Val.{toZ, ofZ}
 use mir.ValLaws.{toZ-ofZ}
 use Rattle.model.specs.Rounds.{eighth}
 use Rattle.raster.specs.Whole.{gridStep}
-use Rattle.runs.proofs.Fill.{filled, length-filled}
+use Rattle.lists.proofs.Fill.{filled, length-filled, upper-filled, lower-part, both-filled}
+use Rattle.runs.proofs.Elements.{part-within, lent-within}
 use Rattle.runs.specs.Run.{weightAt}
 use Rattle.model.proofs.Pairs.{grid-count}
-use Rattle.raster.proofs.Rows.{part-within, lent-within, part-there}
+use Rattle.raster.proofs.Rows.{part-there}
 use Rattle.raster.proofs.Runs.{Stretch, rest, vertical-limits, horizontal-limits}
-use Rattle.raster.proofs.Whole.{vertical, vertical-most, all-pairs, upper-filled, lower-part, both-filled}
+use Rattle.raster.proofs.Whole.{vertical, vertical-most, all-pairs}
 use Rattle.advance.specs.Ahead.{gridAhead}
 use Rattle.advance.proofs.Runs.{vertical-iterate, vertical-ahead, horizontal-iterate, horizontal-ahead}
 use Rattle.advance.proofs.advance_grid.Statement.{statement}

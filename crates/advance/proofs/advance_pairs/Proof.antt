@@ -11,13 +11,13 @@ use mir.Syntax.{w32}
 use mir.Val.{toZ, ofZ}
 use mir.ValLaws.{toZ-ofZ}
 use Rattle.integers.proofs.Machine.{read, called}
-use Rattle.model.specs.Lists.{at}
+use Rattle.lists.specs.Lists.{at}
 use Rattle.model.specs.Rounds.{eighth}
 use Rattle.runs.specs.Run.{weightAt, stepAt}
 use Rattle.runs.proofs.Elements.{element, own-inside, own-within, pair-limits}
 use Rattle.raster.proofs.Steps.{step-most}
 use Rattle.runs.specs.Limits.{Within}
-use Rattle.runs.proofs.Fill.{Filling, filling-none, filling-more, filling-all, filling-rest}
+use Rattle.lists.proofs.Fill.{Filling, filling-none, filling-more, filling-all, filling-rest}
 use Rattle.momentum.specs.Reciprocal.{aheadOf}
 use Rattle.advance.specs.Ahead.{aheadAt}
 use Rattle.advance.proofs.advance_pairs.Statement.{statement}

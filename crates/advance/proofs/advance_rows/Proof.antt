@@ -7,13 +7,14 @@ use lib.ListN.{length}
 use mir.Syntax.{w32}
 use mir.Val.{toZ, ofZ}
 use mir.ValLaws.{toZ-ofZ}
-use Rattle.model.specs.Lists.{table}
-use Rattle.model.proofs.Lists.{length-table}
+use Rattle.lists.specs.Lists.{table}
+use Rattle.lists.proofs.Tables.{length-table}
+use Rattle.lists.proofs.Fill.{filled, filled-none, length-filled, filled-done, filled-back}
+use Rattle.runs.proofs.Elements.{lent-within}
 use Rattle.model.specs.Rounds.{eighth}
 use Rattle.runs.specs.Run.{weightAt}
 use Rattle.raster.specs.Whole.{rowStep}
-use Rattle.runs.proofs.Fill.{filled, filled-none, length-filled, filled-done}
-use Rattle.raster.proofs.Rows.{row-end, put-part, lent-within, part-there}
+use Rattle.raster.proofs.Rows.{row-end, part-there}
 use Rattle.raster.proofs.Runs.{Stretch, cut, lent, unfilled, row-limits}
 use Rattle.advance.specs.Ahead.{rowAhead}
 use Rattle.advance.proofs.Runs.{row-iterate, row-ahead}
@@ -132,10 +133,10 @@ loop-again c =
       omega arith,
       omega (arith, l .inv .1),
       omega (arith, l .inv .2),
-      put-part (l .at) (w - 1) _ (s .args .flow .now) (l .inv .3)
+      filled-back _ (s .args .flow .now) (l .at) (w - 1) (l .inv .3)
           (c .before .before .advance-pairs .ensures .0
           ∙ row-iterate eighth (l .row) (s .args .m) weight (s .args .weights .now) (l .inv .1) (l .inv .2) own (flow-part i) (ahead-part i) (image-part i)),
-      put-part (l .at) (w - 1) _ (s .args .ahead .now) (l .inv .4)
+      filled-back _ (s .args .ahead .now) (l .at) (w - 1) (l .inv .4)
           (c .before .before .advance-pairs .ensures .1
           ∙ row-ahead eighth (l .row) (s .args .m) weight (s .args .weights .now) (l .inv .1) (l .inv .2) own (flow-part i) (ahead-part i) (image-part i)),
     )

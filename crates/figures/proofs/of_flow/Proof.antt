@@ -8,7 +8,7 @@ use mir.Syntax.{w64}
 use mir.Val.{toZ, ofZ}
 use Rattle.integers.specs.Sum.{total}
 use Rattle.integers.proofs.Machine.{read}
-use Rattle.model.specs.Lists.{at}
+use Rattle.lists.specs.Lists.{at}
 use Rattle.model.specs.Problem.{pairCount, fall, misfit, price, image, floor, slack}
 use Rattle.model.specs.Grid.{grid}
 use Rattle.model.proofs.Bounds as Bounds

@@ -11,10 +11,10 @@ use mir.Syntax.{w32}
 use mir.Val.{toZ, ofZ}
 use mir.ValLaws.{toZ-ofZ}
 use Rattle.integers.proofs.Machine.{read}
-use Rattle.model.specs.Lists.{at}
+use Rattle.lists.specs.Lists.{at}
 use Rattle.image_rows.specs.Row.{rowValue}
 use Rattle.runs.proofs.Elements.{element}
-use Rattle.runs.proofs.Fill.{Filling, filling-none, filling-more, filling-all}
+use Rattle.lists.proofs.Fill.{Filling, filling-none, filling-more, filling-all}
 use Rattle.image_rows.proofs.Columns.{column-limits, clamped-between}
 use Rattle.image_rows.proofs.image_row.Statement.{statement}
 use Rattle.image_rows.proofs.image_row.Tie as tie

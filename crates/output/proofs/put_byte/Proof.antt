@@ -1,7 +1,7 @@
 -- `output::put_byte` meets its contract. Assumes nothing.
 use mathlib.Core.Path.{refl}
 use native.Mathlib.Omega.{arith}
-use Rattle.output.proofs.Laid.{placed-one}
+use Rattle.lists.proofs.Placed.{placed-one}
 use borrow.Author.Needs.{needs}
 use Rattle.output.proofs.put_byte.Statement.{statement}
 use Rattle.output.proofs.put_byte.Tie as tie

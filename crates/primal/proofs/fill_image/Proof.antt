@@ -8,7 +8,7 @@ use mir.Syntax.{w32}
 use mir.Val.{toZ}
 use mir.ValLaws.{toZ-ofZ}
 use Rattle.primal.specs.Image.{imageValue}
-use Rattle.runs.proofs.Fill.{Filling, filling-none, filling-all}
+use Rattle.lists.proofs.Fill.{Filling, filling-none, filling-all}
 use Rattle.primal.proofs.RowParts.{row-in, filling-row, same-raster}
 use Rattle.primal.proofs.fill_image.Statement.{statement}
 use Rattle.primal.proofs.fill_image.Tie as tie

@@ -10,7 +10,7 @@ use lib.Seq.{length-take-le}
 use mir.Syntax.{w32}
 use mir.ValLaws.{toZ-ofZ}
 use Rattle.quick.specs.Ready.{QuickReady}
-use Rattle.quick.proofs.Halves.{second-half, second-back}
+use Rattle.lists.proofs.Parts.{second-half, second-back}
 use Rattle.quick.proofs.quick_round.Statement.{statement}
 use Rattle.quick.proofs.quick_round.Tie as tie
 

@@ -11,9 +11,9 @@ use mir.Val.{toZ, ofZ}
 use Rattle.integers.specs.Sum.{total}
 use Rattle.integers.proofs.Total.{total-cong}
 use Rattle.integers.proofs.Machine.{read}
-use Rattle.model.specs.Lists.{at}
+use Rattle.lists.specs.Lists.{at}
 use Rattle.raster.specs.Whole.{firstPixel, secondPixel, gridFall}
-use Rattle.raster.proofs.Rows.{part-within}
+use Rattle.runs.proofs.Elements.{part-within}
 use Rattle.raster.proofs.Whole.{vertical, vertical-most, all-pairs}
 use Rattle.raster.proofs.Runs.{Stretch, lent-rest, vertical-falls, work-limits, work-size, horizontal-work, pairs-few, vertical-run, horizontal-run}
 use Rattle.raster_sums.proofs.RunSums.{work}

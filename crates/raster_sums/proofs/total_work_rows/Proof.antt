@@ -9,7 +9,7 @@ use mir.Val.{toZ, ofZ}
 use Rattle.integers.specs.Sum.{total}
 use Rattle.integers.proofs.Total.{total-zero, total-cong}
 use Rattle.integers.proofs.Machine.{read}
-use Rattle.model.specs.Lists.{at}
+use Rattle.lists.specs.Lists.{at}
 use Rattle.raster.specs.Whole.{rowPixel, rowFall}
 use Rattle.raster.proofs.Rows.{rows-end}
 use Rattle.raster.proofs.Runs.{Lent, row-part, row-falls, work-limits, row-run, pairs-few}

@@ -7,7 +7,7 @@ use borrow.Author.Tests.{lt-ltb, le-ltb}
 use mir.Syntax.{w32}
 use mir.ValLaws.{toZ-ofZ}
 use Rattle.integers.proofs.Machine.{read}
-use Rattle.model.specs.Lists.{at}
+use Rattle.lists.specs.Lists.{at}
 use Rattle.model.specs.Problem.{pairCount}
 use Rattle.model.specs.Grid.{grid}
 use Rattle.model.specs.Rounds.{nearestEighth, firstMoving}

@@ -9,7 +9,7 @@ use lib.ListN.{length}
 use mir.Syntax.{w32}
 use Rattle.integers.proofs.Machine.{read}
 use Rattle.model.specs.declared.Entry.{Entry}
-use Rattle.model.specs.Lists.{at}
+use Rattle.lists.specs.Lists.{at}
 use Rattle.model.specs.Tape.{encoded}
 use Rattle.output.proofs.Laid.{put-as}
 use Rattle.tape_lay.proofs.Laying.{Laid, laid-none, laid-length, laid-room, laid-more, laid-all}

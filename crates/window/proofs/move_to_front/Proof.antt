@@ -1,13 +1,11 @@
 -- `window::move_to_front` meets its contract. The loop's invariant: the first `i` bytes have been moved, and those
 -- behind them are as they were. Assumes nothing.
-use mathlib.Core.Path.{_≡_, ap, _∙_}
+use mathlib.Core.Path.{_≡_}
 use mathlib.Core.List.{List}
 use Prim.Native.Nat.{ℕ, _+_, _-_, _≤_, zero-le}
 use native.Mathlib.Omega.{arith}
-use lib.ListN.{length, getD, set}
-use Rattle.model.specs.Lists.{table, overwritten}
-use Rattle.roundtrip.proofs.Sequences.{filled-none, filled-length, filled-more}
-use Rattle.window.proofs.Buffers.{behind}
+use lib.ListN.{length, getD}
+use Rattle.lists.proofs.Fill.{Filling, filling-none, filling-more, filling-rest, filling-front}
 use Rattle.window.proofs.move_to_front.Statement.{statement}
 use Rattle.window.proofs.move_to_front.Tie as tie
 
@@ -16,17 +14,17 @@ from buffer start i = getD buffer (start + i) 0
 
 abbrev Inv-loop : tie.InvT-loop
 Inv-loop buffer₀ start count i₀ buffer i =
-    (i ≤ count) × (buffer ≡ overwritten (table i (from buffer₀ start)) buffer₀)
+    (i ≤ count) × Filling (from buffer₀ start) buffer₀ i buffer
 
 abbrev μ-loop : tie.MeasureT-loop
 μ-loop buffer₀ start count i₀ buffer i = count - i
 
 loop-holds : tie.Need-loop-holds Inv-loop μ-loop
-loop-holds c = (zero-le, filled-none _ _)
+loop-holds c = (zero-le, filling-none _ _)
 
 -- the buffer keeps its length
 long : (c : tie.At-loop Inv-loop μ-loop) → length (c .loop .buffer) ≡ length (c .before .args .buffer .now)
-long c = ap length (c .loop .inv .1) ∙ filled-length _ _ (c .loop .i) (omega (arith, c .before .pre, c .loop .inv .0))
+long c = c .loop .inv .1 .long
 
 add-buffer : tie.Need-add-buffer Inv-loop μ-loop
 add-buffer c = omega (arith, c .before .before .pre, c .before .before .good)
@@ -43,21 +41,13 @@ loop-less c = omega arith
 loop-again : tie.Need-loop-again Inv-loop μ-loop
 loop-again c =
     let s = c .before .before in
-    let a = s .before .args in (
-      omega arith,
-      ap (λ (l : List ℕ). set l (s .loop .i) (getD l (a .start + s .loop .i) 0)) (s .loop .inv .1)
-          ∙ filled-more (a .buffer .now) (from (a .buffer .now) (a .start)) (s .loop .i) _ (omega (arith, s .before .pre))
-          (behind (a .buffer .now) (from (a .buffer .now) (a .start)) (s .loop .i) (a .start + s .loop .i) 0 (omega arith)),
-    )
+    (omega arith, filling-more (s .loop .inv .1) (omega (arith, s .before .pre)) (filling-rest (s .loop .inv .1) _ 0 (omega arith)))
 
 same-length : tie.Need-same-length Inv-loop μ-loop
 same-length c = long (c .before)
 
 returns : tie.Need-returns Inv-loop μ-loop
-returns c =
-    let a = c .before .before .args in
-    let all : c .before .loop .i ≡ a .count = omega arith in
-    c .before .loop .inv .1 ∙ ap (λ (n : ℕ). overwritten (table n (from (a .buffer .now) (a .start))) (a .buffer .now)) all
+returns c = filling-front (c .before .loop .inv .1) (omega arith)
 
 pub move-to-front-spec : {M : Type 1} → statement M
 move-to-front-spec =

@@ -7,7 +7,7 @@ use Prim.Native.Nat.{ℕ, suc, _+_, _*_, _-_, _≤_, zero-le}
 use native.Mathlib.Nat.{mul-le-mul-right}
 use lib.IntN.{ℤ}
 use lib.ListN.{length}
-use Rattle.model.specs.Lists.{at, chain}
+use Rattle.lists.specs.Lists.{at, chain}
 use Rattle.model.specs.Program.{rowText}
 use Rattle.output.specs.Put.{Put}
 use Rattle.output.proofs.Laid.{put-as, put-length, chain-start, chain-next}

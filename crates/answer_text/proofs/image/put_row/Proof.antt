@@ -11,7 +11,7 @@ use lib.ListN.{length}
 use mir.Syntax.{w32}
 use mir.Val.{SFits}
 use mir.Facts.{toZ-ofZ}
-use Rattle.model.specs.Lists.{at, chain}
+use Rattle.lists.specs.Lists.{at, chain}
 use Rattle.model.specs.Text.{ascii, signedDecimal}
 use Rattle.model.specs.Program.{field}
 use Rattle.output.specs.Put.{Put}

@@ -12,7 +12,7 @@ use mir.Syntax.{w32, w64}
 use mir.Val.{toZ, ofZ}
 use Rattle.integers.proofs.Machine.{read}
 use Rattle.model.specs.declared.Verdict.{Verdict}
-use Rattle.model.specs.Lists.{at}
+use Rattle.lists.specs.Lists.{at}
 use Rattle.model.specs.Problem.{Feasible}
 use Rattle.model.specs.Grid.{grid}
 use Rattle.model.specs.Rounds.{eighth, nearestEighth, steadyRounds}

@@ -20,7 +20,7 @@ use Rattle.model.proofs.Pairs.{grid-count}
 use Rattle.raster.proofs.Rows.{part-there, part-weight, front-weight}
 use Rattle.raster.proofs.Whole.{vertical, vertical-most, all-pairs}
 use Rattle.raster.proofs.Runs.{Stretch, lent-rest, vertical-limits, horizontal-limits, both, byBoth, both-are, vertical-run, horizontal-run}
-use Rattle.runs.proofs.Search.{Passed}
+use Rattle.lists.proofs.Search.{Passed}
 use Rattle.raster.proofs.Searches.{answer, answer-cong, none-moves, first-moves, none-answer, front-first, part-none, part-first}
 use Rattle.raster.proofs.grid.first_moving_grid.Statement.{statement}
 use Rattle.raster.proofs.grid.first_moving_grid.Tie as tie

@@ -14,7 +14,7 @@ use Rattle.runs.specs.Run.{weightAt}
 use Rattle.raster.specs.Whole.{rowMoves}
 use Rattle.raster.proofs.Rows.{rows-end, part-there, part-weight}
 use Rattle.raster.proofs.Runs.{Lent, row-part, row-limits, both, byBoth, both-are, row-run}
-use Rattle.runs.proofs.Search.{Passed, passed-none}
+use Rattle.lists.proofs.Search.{Passed, passed-none}
 use Rattle.raster.proofs.Searches.{answer, answer-cong, first-moves, none-answer, part-none, part-first}
 use Rattle.raster.proofs.grid.first_moving_rows.Statement.{statement}
 use Rattle.raster.proofs.grid.first_moving_rows.Tie as tie

@@ -12,13 +12,13 @@ use mir.ValLaws.{toZ-ofZ}
 use Rattle.model.specs.Rounds.{nearestEighth}
 use Rattle.runs.specs.Run.{weightAt}
 use Rattle.raster.specs.Whole.{gridStep}
-use Rattle.model.specs.Lists.{table}
-use Rattle.runs.proofs.Fill.{filled, length-filled}
+use Rattle.lists.specs.Lists.{table}
+use Rattle.lists.proofs.Fill.{filled, length-filled, upper-filled, lower-part, both-filled}
 use Rattle.model.proofs.Pairs.{grid-count}
 use Rattle.raster.proofs.Rows.{part-there}
 use Rattle.raster.proofs.Steps.{vertical-stepped, horizontal-stepped}
 use Rattle.raster.proofs.Runs.{Stretch, rest, vertical-limits, horizontal-limits}
-use Rattle.raster.proofs.Whole.{vertical, vertical-most, all-pairs, upper-filled, lower-part, both-filled}
+use Rattle.raster.proofs.Whole.{vertical, vertical-most, all-pairs}
 use Rattle.raster.proofs.grid.step_grid.Statement.{statement}
 use Rattle.raster.proofs.grid.step_grid.Tie as tie
 

@@ -7,12 +7,12 @@ use lib.ListN.{length}
 use mir.Syntax.{w32}
 use mir.Val.{toZ, ofZ}
 use mir.ValLaws.{toZ-ofZ}
-use Rattle.model.specs.Lists.{table}
-use Rattle.model.proofs.Lists.{length-table}
+use Rattle.lists.specs.Lists.{table}
+use Rattle.lists.proofs.Tables.{length-table}
+use Rattle.lists.proofs.Fill.{filled, filled-none, length-filled, filled-all}
 use Rattle.model.specs.Rounds.{nearestEighth}
 use Rattle.runs.specs.Run.{weightAt}
 use Rattle.raster.specs.Whole.{rowStep}
-use Rattle.runs.proofs.Fill.{filled, filled-none, length-filled, filled-all}
 use Rattle.raster.proofs.Rows.{rows-end, part-there}
 use Rattle.raster.proofs.Runs.{Lent, row-part, unfilled, row-limits}
 use Rattle.raster.proofs.Steps.{row-stepped}

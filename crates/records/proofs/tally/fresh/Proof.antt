@@ -1,6 +1,6 @@
 -- `records::tally::fresh` meets its contract, by computing. Assumes nothing.
 use mathlib.Core.Path.{refl}
-use Rattle.model.specs.Lists.{table, chain}
+use Rattle.lists.specs.Lists.{table, chain}
 use Rattle.model.specs.Grid.{verticalPairs, horizontalPairs, gridPairs}
 use Rattle.records.proofs.tally.fresh.Statement.{statement}
 use Rattle.records.proofs.tally.fresh.Tie as tie

@@ -5,8 +5,8 @@ use native.Mathlib.Omega.{arith}
 use borrow.Author.Needs.{needs}
 use lib.IntN.{pos}
 use lib.ListN.{length}
-use Rattle.runs.proofs.Fill.{Filling, filling-none, filling-more, filling-all}
-use Rattle.model.proofs.Lists.{table-constant}
+use Rattle.lists.proofs.Tables.{table-constant}
+use Rattle.lists.proofs.Fill.{Filling, filling-none, filling-more, filling-all}
 use Rattle.rounds.proofs.buffers.clear.Statement.{statement}
 use Rattle.rounds.proofs.buffers.clear.Tie as tie
 

@@ -7,9 +7,9 @@ use lib.IntN.{pos}
 use lib.ListN.{length}
 use mir.Syntax.{w32}
 use mir.ValLaws.{toZ-ofZ}
-use Rattle.runs.proofs.Fill.{Filling, filling-none, filling-more, filling-all}
-use Rattle.model.specs.Lists.{at, table}
-use Rattle.model.proofs.Lists.{table-self}
+use Rattle.lists.proofs.Tables.{table-self}
+use Rattle.lists.proofs.Fill.{Filling, filling-none, filling-more, filling-all}
+use Rattle.lists.specs.Lists.{at, table}
 use Rattle.rounds.proofs.buffers.copy.Statement.{statement}
 use Rattle.rounds.proofs.buffers.copy.Tie as tie
 

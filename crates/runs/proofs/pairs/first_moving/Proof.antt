@@ -1,6 +1,6 @@
 -- `runs::pairs::first_moving` meets its contract. Assumes nothing.
 use mathlib.Core.Path.{_≡_, sym, _∙_}
-use Prim.Native.Nat.{_+_, _-_, _≤_, _<_}
+use Prim.Native.Nat.{_+_, _-_, _<_}
 use native.Mathlib.Omega.{arith}
 use borrow.Author.Needs.{needs}
 use lib.ListN.{length}
@@ -12,18 +12,18 @@ use Rattle.model.specs.Rounds.{nearestEighth}
 use Rattle.runs.specs.Run.{weightAt, movesAt}
 use Rattle.runs.proofs.Elements.{element, own-inside, pair-limits}
 use Rattle.runs.proofs.Moving.{nothing-is, at-is}
-use Rattle.runs.proofs.Search.{Passed, passed-none, passed-more, search-found, search-ended}
+use Rattle.lists.proofs.Search.{Searched, search-start, search-on, search-found, search-none}
 use Rattle.runs.proofs.pairs.first_moving.Statement.{statement}
 use Rattle.runs.proofs.pairs.first_moving.Tie as tie
 
 abbrev Inv-loop : tie.InvT-loop
-Inv-loop flow image stride weight weights j₀ j = (j ≤ length flow) × Passed (movesAt nearestEighth (weightAt (toZ w32 weight) weights) flow image stride) j
+Inv-loop flow image stride weight weights j₀ j = Searched (length flow) (movesAt nearestEighth (weightAt (toZ w32 weight) weights) flow image stride) j
 
 abbrev μ-loop : tie.MeasureT-loop
 μ-loop flow image stride weight weights j₀ j = length flow - j
 
 loop-holds : tie.Need-loop-holds Inv-loop μ-loop
-loop-holds c = (omega arith, passed-none _)
+loop-holds c = search-start _ _
 
 number-or-requires : tie.Need-number-or-requires Inv-loop μ-loop
 number-or-requires c κs = own-inside (c .before .before .pre .weights-limits) (omega arith)
@@ -55,20 +55,21 @@ loop-less c = search needs
 loop-again : tie.Need-loop-again Inv-loop μ-loop
 loop-again c =
     let l = c .before .before .before .before .before .before .before .loop in
-    (omega arith, passed-more _ (l .j) (l .inv .1) (sym (tested (c .before)) ∙ c .if2 .left))
+    search-on _ _ (l .j) (l .inv) (omega arith) (sym (tested (c .before)) ∙ c .if2 .left)
 
 returns : tie.Need-returns Inv-loop μ-loop
 returns c =
     let s = c .before .before in
     let l = c .before .loop in
-    rw (toZ-ofZ w32 _ (s .fits .weight)) at (nothing-is (length (s .args .flow .now)) _ (search-ended _ (l .inv .1) (omega arith)))
+    let end : l .j ≡ length (s .args .flow .now) = omega arith in
+    rw (toZ-ofZ w32 _ (s .fits .weight)) at (nothing-is (length (s .args .flow .now)) _ (sym (search-none _ _ _ (l .inv) (omega arith)) ∙ end))
 
 returns-2 : tie.Need-returns-2 Inv-loop μ-loop
 returns-2 c =
     let s = c .before .before .before .before .before .before .before .before in
     let l = c .before .before .before .before .before .before .before .loop in
     let inside : l .j < length (s .args .flow .now) = omega arith in
-    rw (toZ-ofZ w32 _ (s .fits .weight)) at (at-is (length (s .args .flow .now)) _ (search-found _ (l .inv .1) inside (sym (tested (c .before)) ∙ c .if2 .taken)) inside)
+    rw (toZ-ofZ w32 _ (s .fits .weight)) at (at-is (length (s .args .flow .now)) _ (sym (search-found _ _ _ (l .inv) (sym (tested (c .before)) ∙ c .if2 .taken))) inside)
 
 pub first-moving-spec : {M : Type 1} → statement M
 first-moving-spec =

@@ -13,7 +13,7 @@ use Rattle.integers.proofs.Machine.{read, called}
 use Rattle.model.specs.Rounds.{nearestEighth}
 use Rattle.runs.specs.Run.{weightAt, stepAt}
 use Rattle.runs.proofs.Elements.{element, own-inside, pair-limits}
-use Rattle.runs.proofs.Fill.{Filling, filling-none, filling-more, filling-all, filling-rest}
+use Rattle.lists.proofs.Fill.{Filling, filling-none, filling-more, filling-all, filling-rest}
 use Rattle.runs.proofs.pairs.step_pairs.Statement.{statement}
 use Rattle.runs.proofs.pairs.step_pairs.Tie as tie
 

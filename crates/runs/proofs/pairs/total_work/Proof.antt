@@ -10,7 +10,7 @@ use mir.Val.{toZ, ofZ}
 use Rattle.integers.specs.Sum.{total}
 use Rattle.integers.proofs.Total.{total-zero}
 use Rattle.integers.proofs.Machine.{read}
-use Rattle.model.specs.Lists.{at}
+use Rattle.lists.specs.Lists.{at}
 use Rattle.runs.specs.Run.{fallAt}
 use Rattle.runs.proofs.Elements.{element}
 use Rattle.runs.proofs.Sums.{total-more, product-most, work-most}

@@ -8,8 +8,8 @@ use lib.ListN.{length, List·getD-eq-default}
 use mir.Syntax.{w32}
 use mir.Val.{toZ, ofZ}
 use mir.ValLaws.{toZ-ofZ}
-use Rattle.model.specs.Lists.{at}
-use Rattle.model.proofs.Lists.{getD-inside}
+use Rattle.lists.specs.Lists.{at}
+use Rattle.lists.proofs.Tables.{getD-inside}
 use Rattle.runs.proofs.part.number_or.Statement.{statement}
 use Rattle.runs.proofs.part.number_or.Tie as tie
 

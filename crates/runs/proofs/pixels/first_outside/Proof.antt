@@ -2,7 +2,7 @@
 use mathlib.Core.Path.{_≡_, sym, _∙_}
 use mathlib.Core.Bool.{Bool, _||_}
 use mathlib.Core.List.{List}
-use Prim.Native.Nat.{ℕ, _-_, _≤_, _<_}
+use Prim.Native.Nat.{ℕ, _-_}
 use native.Mathlib.Omega.{arith}
 use borrow.Author.Needs.{needs}
 use lib.IntN.{ℤ}
@@ -11,9 +11,9 @@ use lib.Signed.{ltZ}
 use mir.Syntax.{w32}
 use mir.Val.{toZ, ofZ}
 use mir.ValLaws.{toZ-ofZ}
-use Rattle.model.specs.Lists.{at}
+use Rattle.lists.specs.Lists.{at}
 use Rattle.integers.proofs.Machine.{read}
-use Rattle.runs.proofs.Search.{Passed, passed-none, passed-more, search-found, search-ended}
+use Rattle.lists.proofs.Search.{Searched, search-start, search-on, search-found, search-none}
 use Rattle.runs.proofs.pixels.first_outside.Statement.{statement}
 use Rattle.runs.proofs.pixels.first_outside.Tie as tie
 
@@ -21,13 +21,13 @@ abbrev outsideAt : List ℤ → ℤ → ℤ → ℕ → Bool
 outsideAt values low high i = ltZ (at values i) low || ltZ high (at values i)
 
 abbrev Inv-loop : tie.InvT-loop
-Inv-loop values low high i₀ i = (i ≤ length values) × Passed (outsideAt values (toZ w32 low) (toZ w32 high)) i
+Inv-loop values low high i₀ i = Searched (length values) (outsideAt values (toZ w32 low) (toZ w32 high)) i
 
 abbrev μ-loop : tie.MeasureT-loop
 μ-loop values low high i₀ i = length values - i
 
 loop-holds : tie.Need-loop-holds Inv-loop μ-loop
-loop-holds c = (omega arith, passed-none _)
+loop-holds c = search-start _ _
 
 -- the test at i
 tested : (c : tie.After-outside Inv-loop μ-loop) → let s = c .before .before .before .before in c .outside .result ≡ outsideAt (s .args .values .now) (toZ w32 (ofZ w32 (s .args .low))) (toZ w32 (ofZ w32 (s .args .high))) (c .before .before .before .loop .i)
@@ -39,8 +39,7 @@ returns : tie.Need-returns Inv-loop μ-loop
 returns c =
     let s = c .before .before .before .before .before in
     let l = c .before .before .before .before .loop in
-    let inside : l .i < length (s .args .values .now) = omega arith in
-    rw (toZ-ofZ w32 _ (s .fits .low), toZ-ofZ w32 _ (s .fits .high)) at (sym (search-found _ (l .inv .1) inside (sym (tested (c .before)) ∙ c .if1 .taken)))
+    rw (toZ-ofZ w32 _ (s .fits .low), toZ-ofZ w32 _ (s .fits .high)) at (search-found _ _ _ (l .inv) (sym (tested (c .before)) ∙ c .if1 .taken))
 
 loop-less : tie.Need-loop-less Inv-loop μ-loop
 loop-less c = search needs
@@ -48,14 +47,13 @@ loop-less c = search needs
 loop-again : tie.Need-loop-again Inv-loop μ-loop
 loop-again c =
     let l = c .before .before .before .before .loop in
-    (omega arith, passed-more _ (l .i) (l .inv .1) (sym (tested (c .before)) ∙ c .if1 .left))
+    search-on _ _ (l .i) (l .inv) (omega arith) (sym (tested (c .before)) ∙ c .if1 .left)
 
 returns-2 : tie.Need-returns-2 Inv-loop μ-loop
 returns-2 c =
     let s = c .before .before in
     let l = c .before .loop in
-    let e : l .i ≡ length (s .args .values .now) = omega arith in
-    rw (toZ-ofZ w32 _ (s .fits .low), toZ-ofZ w32 _ (s .fits .high)) at (e ∙ sym (search-ended _ (l .inv .1) e))
+    rw (toZ-ofZ w32 _ (s .fits .low), toZ-ofZ w32 _ (s .fits .high)) at (search-none _ _ _ (l .inv) (c .loop-test .left))
 
 pub first-outside-spec : {M : Type 1} → statement M
 first-outside-spec =

@@ -3,7 +3,7 @@ use mathlib.Core.Path.{ap, _∙_}
 use mathlib.Core.List.{List, _++_}
 use Prim.Native.Nat.{ℕ}
 use lib.ListN.{length}
-use Rattle.model.specs.Lists.{overwritten}
+use Rattle.lists.specs.Lists.{overwritten}
 use Rattle.output.proofs.Laid.{put-front}
 use Rattle.stream.proofs.Reports.{season-text}
 use borrow.Author.Needs.{needs}

@@ -8,7 +8,7 @@ use borrow.Author.Needs.{needs}
 use lib.Dec.{ltb}
 use lib.IntN.{ℤ, natAbs}
 use mir.Facts.{toZ-ofZ}
-use Rattle.terms.proofs.Search.{Searched, search-start, search-on, search-found, search-none}
+use Rattle.lists.proofs.Search.{Searched, search-start, search-on, search-found, search-none}
 use Rattle.tape_read.specs.Places.{beyondOwn}
 use Rattle.tape_read.proofs.fill.beyond_from.Statement.{statement}
 use Rattle.tape_read.proofs.fill.beyond_from.Tie as tie

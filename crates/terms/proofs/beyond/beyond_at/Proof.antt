@@ -6,7 +6,7 @@ use lib.Dec.{ltb}
 use lib.IntN.{ℤ, natAbs}
 use mir.Syntax.{w32}
 use Rattle.integers.proofs.Machine.{read}
-use Rattle.model.specs.Lists.{at}
+use Rattle.lists.specs.Lists.{at}
 use Rattle.terms.proofs.beyond.beyond_at.Statement.{statement}
 use Rattle.terms.proofs.beyond.beyond_at.Tie as tie
 

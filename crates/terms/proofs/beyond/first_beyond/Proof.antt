@@ -2,7 +2,7 @@
 use mathlib.Core.Path.{sym, _∙_}
 use borrow.Author.Needs.{needs}
 use Rattle.model.specs.Calls.{firstBeyond}
-use Rattle.terms.proofs.Search.{none-met}
+use Rattle.lists.proofs.Search.{none-met}
 use Rattle.terms.proofs.beyond.first_beyond.Statement.{statement}
 use Rattle.terms.proofs.beyond.first_beyond.Tie as tie
 

@@ -6,10 +6,10 @@ use native.Mathlib.Omega.{arith}
 use lib.Dec.{ltb}
 use lib.IntN.{natAbs}
 use lib.ListN.{length}
-use Rattle.model.specs.Lists.{at}
+use Rattle.lists.specs.Lists.{at}
 use Rattle.model.specs.Grid.{weightOf}
 use Rattle.model.specs.Calls.{firstBeyond}
-use Rattle.terms.proofs.Search.{Searched, search-start, search-on, search-found, search-none}
+use Rattle.lists.proofs.Search.{Searched, search-start, search-on, search-found, search-none}
 use Rattle.terms.proofs.beyond.search_beyond.Statement.{statement}
 use Rattle.terms.proofs.beyond.search_beyond.Tie as tie
 

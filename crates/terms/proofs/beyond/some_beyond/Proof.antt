@@ -5,10 +5,10 @@ use native.Mathlib.Omega.{arith}
 use lib.Dec.{ltb}
 use lib.IntN.{natAbs}
 use lib.ListN.{length}
-use Rattle.model.specs.Lists.{at}
+use Rattle.lists.specs.Lists.{at}
 use Rattle.model.specs.Grid.{weightOf}
 use Rattle.model.specs.Calls.{firstBeyond}
-use Rattle.terms.proofs.Search.{Met, met-start, met-on, met-end}
+use Rattle.lists.proofs.Search.{Met, met-start, met-on, met-end}
 use Rattle.terms.proofs.beyond.some_beyond.Statement.{statement}
 use Rattle.terms.proofs.beyond.some_beyond.Tie as tie
 

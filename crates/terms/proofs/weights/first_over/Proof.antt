@@ -2,7 +2,7 @@
 use mathlib.Core.Path.{sym, _∙_}
 use borrow.Author.Needs.{needs}
 use Rattle.model.specs.Calls.{firstOver}
-use Rattle.terms.proofs.Search.{none-met}
+use Rattle.lists.proofs.Search.{none-met}
 use Rattle.terms.proofs.weights.first_over.Statement.{statement}
 use Rattle.terms.proofs.weights.first_over.Tie as tie
 

@@ -5,7 +5,7 @@ use borrow.Author.Needs.{needs}
 use lib.IntN.{ℤ}
 use mir.Syntax.{w32}
 use Rattle.integers.proofs.Machine.{read}
-use Rattle.model.specs.Lists.{at}
+use Rattle.lists.specs.Lists.{at}
 use Rattle.model.specs.Grid.{pairWeightAllowed}
 use Rattle.terms.proofs.weights.over_at.Statement.{statement}
 use Rattle.terms.proofs.weights.over_at.Tie as tie

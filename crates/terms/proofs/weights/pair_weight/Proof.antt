@@ -7,9 +7,9 @@ use lib.IntN.{pos, natAbs}
 use lib.ListN.{length, List·getD-eq-default}
 use mir.Syntax.{w32}
 use Rattle.integers.proofs.Machine.{read}
-use Rattle.model.specs.Lists.{at}
+use Rattle.lists.specs.Lists.{at}
 use Rattle.model.specs.Grid.{weightOf}
-use Rattle.model.proofs.Lists.{getD-inside}
+use Rattle.lists.proofs.Tables.{getD-inside}
 use Rattle.terms.proofs.weights.pair_weight.Statement.{statement}
 use Rattle.terms.proofs.weights.pair_weight.Tie as tie
 

@@ -5,10 +5,10 @@ use mathlib.Core.Bool.{not}
 use Prim.Native.Nat.{_-_}
 use native.Mathlib.Omega.{arith}
 use lib.ListN.{length}
-use Rattle.model.specs.Lists.{at}
+use Rattle.lists.specs.Lists.{at}
 use Rattle.model.specs.Grid.{pairWeightAllowed}
 use Rattle.model.specs.Calls.{firstOver}
-use Rattle.terms.proofs.Search.{Searched, search-start, search-on, search-found, search-none}
+use Rattle.lists.proofs.Search.{Searched, search-start, search-on, search-found, search-none}
 use Rattle.terms.proofs.weights.search_over.Statement.{statement}
 use Rattle.terms.proofs.weights.search_over.Tie as tie
 

@@ -4,10 +4,10 @@ use mathlib.Core.Bool.{not}
 use Prim.Native.Nat.{_-_}
 use native.Mathlib.Omega.{arith}
 use lib.ListN.{length}
-use Rattle.model.specs.Lists.{at}
+use Rattle.lists.specs.Lists.{at}
 use Rattle.model.specs.Grid.{pairWeightAllowed}
 use Rattle.model.specs.Calls.{firstOver}
-use Rattle.terms.proofs.Search.{Met, met-start, met-on, met-end}
+use Rattle.lists.proofs.Search.{Met, met-start, met-on, met-end}
 use Rattle.terms.proofs.weights.some_over.Statement.{statement}
 use Rattle.terms.proofs.weights.some_over.Tie as tie
 

@@ -1,18 +1,43 @@
--- What a loop that looks for the first index at which a test holds has found, from its invariant; and one that only tells
--- whether there is such an index. Assumes nothing.
-use mathlib.Core.Path.{_≡_, refl, sym}
+-- A search from the front for the first index at which a test holds: the invariant of a loop that looks for it, and of
+-- one that only tells whether there is such an index. Assumes nothing.
+use mathlib.Core.Path.{_≡_, refl, sym, ap, _∙_}
 use mathlib.Core.Bool.{Bool, true, false, _||_, true≢false}
-use Prim.Native.Nat.{ℕ, _+_, _≤_, _<_, zero-le}
+use Prim.Native.Nat.{ℕ, _+_, _-_, _≤_, _<_, zero-le}
+use native.Mathlib.Decide.{decLt}
 use native.Mathlib.Omega.{arith}
-use borrow.Author.Count.{below-more}
+use borrow.Author.Count.{below-none, below-more}
 use borrow.Author.Tests.{ltb-false, lt-ltb, le-ltb}
 use lib.Dec.{ltb}
-use Rattle.model.specs.Lists.{firstWhere}
-use Rattle.model.proofs.Lists.{firstWhere-first, firstWhere-is}
+use Rattle.lists.specs.Lists.{firstWhere}
+use Rattle.lists.proofs.First.{firstWhere-first, firstWhere-is}
 
--- no index before i passes the test
+-- no index before k passes the test
+module _ (test : ℕ → Bool) where
+  abbrev pub Passed : ℕ → Type 0
+  Passed k = (i : ℕ) → i < k → test i ≡ false
+
+  pub passed-none : Passed 0
+  passed-none = below-none (λ i. test i ≡ false)
+
+  -- n more
+  pub passed-append : (k n : ℕ) → Passed k → ((i : ℕ) → i < n → test (k + i) ≡ false) → Passed (k + n)
+  passed-append k n p h i l = by (decLt i k)
+    where
+      by : Dec (i < k) → test i ≡ false
+      by (yes b) = p i b
+      by (no g) =
+          let e : i ≡ k + (i - k) = omega (arith, g) in
+          ap test e ∙ h (i - k) (omega (arith, g))
+
+-- .. of n indices
 abbrev pub Searched : ℕ → (ℕ → Bool) → ℕ → Type 0
-Searched n test i = (i ≤ n) × ((k : ℕ) → k < i → test k ≡ false)
+Searched n test i = (i ≤ n) × Passed test i
+
+pub search-start : (n : ℕ) (test : ℕ → Bool) → Searched n test 0
+search-start n test = (zero-le, passed-none test)
+
+pub search-on : (n : ℕ) (test : ℕ → Bool) (i : ℕ) → Searched n test i → i < n → test i ≡ false → Searched n test (i + 1)
+search-on n test i s l t = (omega arith, below-more (λ k. test k ≡ false) i (s .1) t)
 
 pub search-found : (n : ℕ) (test : ℕ → Bool) (i : ℕ) → Searched n test i → test i ≡ true → i ≡ firstWhere n test
 search-found n test i s t = sym (firstWhere-is n test i (record { within = s .0; before = s .1; found = λ _. t }))
@@ -20,12 +45,6 @@ search-found n test i s t = sym (firstWhere-is n test i (record { within = s .0;
 pub search-none : (n : ℕ) (test : ℕ → Bool) (i : ℕ) → Searched n test i → n ≤ i → i ≡ firstWhere n test
 search-none n test i s l =
     sym (firstWhere-is n test i (record { within = s .0; before = s .1; found = λ h. absurd (omega arith) }))
-
-pub search-start : (n : ℕ) (test : ℕ → Bool) → Searched n test 0
-search-start n test = (zero-le, λ k h. absurd (omega arith))
-
-pub search-on : (n : ℕ) (test : ℕ → Bool) (i : ℕ) → Searched n test i → i < n → test i ≡ false → Searched n test (i + 1)
-search-on n test i s l t = (omega arith, below-more _ _ (s .1) t)
 
 -- `some`: an index passes the test; else none before i does
 abbrev pub Met : ℕ → (ℕ → Bool) → ℕ → Bool → Type 0

@@ -1,31 +1,20 @@
--- A buffer that is filled from the front: its first k values are g 0, .., g (k − 1), the others as they were. A loop that
--- writes a slice, one value a turn, has it for its invariant. Assumes nothing.
+-- A list that is filled from the front: its first k values are g 0, .., g (k − 1), the others as they were. A loop that
+-- writes a slice, one value or one part a turn, has it for its invariant. Assumes nothing.
 use mathlib.Core.Path.{_≡_, refl, sym, ap, ap₂, _∙_}
-use mathlib.Core.List.{List, [], _∷_, _++_, append-assoc, append-nil}
-use Prim.Native.Nat.{ℕ, zero, suc, _+_, _-_, _≤_, _<_, zero-le}
-use native.Mathlib.Nat.{add-zero, add-suc}
+use mathlib.Core.List.{List, _++_, append-assoc, append-nil}
+use Prim.Native.Nat.{ℕ, suc, _+_, _-_, _≤_, _<_, zero-le}
 use native.Mathlib.Numerals.{add-one}
 use native.Mathlib.Omega.{arith}
 use lib.ListN.{length, getD, take, drop, set, length-append, length-drop, length-set}
 use lib.Seq.{drop-cons, drop-length, drop-drop, drop-at, take-at, set-at, append-snoc, getD-append-add, getD-drop}
-use Rattle.model.specs.Lists.{table}
-use Rattle.model.proofs.Lists.{length-table}
+use borrow.Rule.Slice.PartMut.{putMid}
+use Rattle.lists.specs.Lists.{table, overwritten}
+use Rattle.lists.proofs.Tables.{length-table, table-append}
+use Rattle.lists.proofs.Parts.{part-count, rest-all}
 
 module _ {A : Type 0} where
   abbrev pub filled : ℕ → (ℕ → A) → List A → List A
   filled k g e = table k g ++ drop k e
-
-  pub table-append : (n m : ℕ) (f : ℕ → A) → table (n + m) f ≡ table n f ++ table m (λ i. f (n + i))
-  unfolding table
-  table-append n zero f = rw (add-zero n) (sym (append-nil (table n f)))
-  table-append n (suc m) f =
-      rw (add-suc n m, table-append n m f) (append-assoc (table n f) (table m (λ i. f (n + i))) (f (n + m) ∷ []))
-
-  -- the same numbers below n make the same table
-  pub table-cong : (n : ℕ) {f g : ℕ → A} → ((i : ℕ) → i < n → f i ≡ g i) → table n f ≡ table n g
-  unfolding table
-  table-cong zero h = refl
-  table-cong (suc n) h = ap₂ (λ l x. l ++ (x ∷ [])) (table-cong n (λ i l. h i (omega arith))) (h n (omega arith))
 
   module _ (g : ℕ → A) (e : List A) where
     pub filled-none : filled 0 g e ≡ e
@@ -58,6 +47,42 @@ module _ {A : Type 0} where
     filled-part a n =
         rw (← (drop-drop n a (filled a g e)), take-at (table a g) (drop a e) a (length-table a g), drop-at (table a g) (drop a e) a (length-table a g), drop-drop n a e, table-append a n g)
         (sym (append-assoc (table a g) (table n (λ i. g (a + i))) (drop (a + n) e)))
+
+    -- past what is filled a list is as it was
+    pub filled-rest : (k : ℕ) {l : List A} → l ≡ filled k g e → drop k l ≡ drop k e
+    filled-rest k p = ap (drop k) p ∙ drop-at (table k g) (drop k e) k (length-table k g)
+
+    -- a part of n values from a on was lent and has come back filled
+    pub filled-back : (a n : ℕ) {l part : List A} → l ≡ filled a g e → part ≡ table n (λ i. g (a + i)) →
+        putMid a (a + n - a) l part ≡ filled (a + n) g e
+    filled-back a n {l} {part} p q =
+        ap (λ (k : ℕ). putMid a k l part) (part-count a n)
+        ∙ ap₂ (λ (x y : List A). putMid a n x y) p q
+        ∙ ap (λ (x : List A). take a (filled a g e) ++ (table n (λ i. g (a + i)) ++ x)) (drop-drop n a (filled a g e))
+        ∙ filled-part a n
+
+-- ---- a list that is filled in two parts, of v and of n values
+
+module _ {A : Type 0} (g : ℕ → A) (e : List A) (v n : ℕ) (size : length e ≡ v + n) where
+  -- the first ..
+  pub upper-filled : {part : List A} → part ≡ table v g → part ++ drop v e ≡ filled v g e
+  upper-filled p = ap (λ (l : List A). l ++ drop v e) p
+
+  -- .. then the other
+  module _ {l : List A} (p : l ≡ filled v g e) where
+    length-upper : length l ≡ v + n
+    length-upper = ap length p ∙ length-filled g e v (omega arith) ∙ size
+
+    pub lower-part : take (length l - v) (drop v l) ≡ drop v e
+    lower-part = rest-all v l ∙ filled-rest g e v p
+
+    pub both-filled : {part : List A} → part ≡ table n (λ i. g (v + i)) → putMid v (length l - v) l part ≡ table (v + n) g
+    both-filled {part} q =
+        ap (λ (k : ℕ). putMid v k l part) (ap (λ (k : ℕ). k - v) length-upper)
+        ∙ filled-back g e v n p q
+        ∙ ap (λ (k : ℕ). filled k g e) (sym size)
+        ∙ filled-all g e
+        ∙ ap (λ (k : ℕ). table k g) size
 
 -- ---- the invariant of a loop that fills: the list `now`, of which k values of `entry` are filled
 
@@ -93,3 +118,8 @@ module _ {A : Type 0} {g : ℕ → A} {e : List A} {k : ℕ} {l : List A} (f : F
   filling-part n {l′} h q =
       let now : l′ ≡ filled (k + n) g e = q ∙ rw (f .is) (filled-part g e k n) in
       record { within = h; long = rw now (length-filled g e (k + n) h); is = now }
+
+  -- filled as far as a count that the loop was given
+  pub filling-front : {count : ℕ} → k ≡ count → l ≡ overwritten (table count g) e
+  filling-front {count} h =
+      f .is ∙ ap (λ n. filled n g e) h ∙ ap (λ n. table count g ++ drop n e) (sym (length-table count g))
