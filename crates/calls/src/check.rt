@@ -1,9 +1,9 @@
 // Check judges a flow and fills its image.
 
+use image::whole::fill_image;
 use model::Answer;
 use model::Terms;
 use model::Verdict;
-use primal::fill_image;
 use stencil::pixel;
 ghost use mathlib.Core.Path.{_≡_};
 ghost use mathlib.Core.Logic.{_↔_};
@@ -22,11 +22,10 @@ pub fn check(t: Terms, samples: &[u8], weights: &[i32], flow: &[i32], image: &mu
     if let Verdict::Refuse { number, place } = verdict {
         return Answer::Refused { number, place };
     }
-    let w = t.width as usize;
-    let h = t.height as usize;
+    let s = layout::shape_of(t);
     let lower = pixel::low_end(t.low);
     let upper = pixel::high_end(t.high);
-    fill_image(image, samples, flow, w, h, lower, upper);
+    fill_image(image, samples, flow, s, lower, upper);
     let f = figures::of_flow(t, samples, weights, flow, image);
     Answer::Checked {
         price: f.price,

@@ -1,9 +1,9 @@
 -- An allowed job is within the limits of the passes. Assumes nothing.
 use mathlib.Core.Path.{_≡_, sym, ap, _∙_, subst}
 use mathlib.Core.List.{List, []}
-use Prim.Native.Nat.{ℕ, _^_, _≤_, _<_}
+use Prim.Native.Nat.{ℕ, _≤_, _<_}
 use native.Mathlib.Omega.{arith}
-use lib.IntN.{ℤ}
+use lib.IntN.{ℤ, pos}
 use lib.ListN.{length, getD}
 use lib.Signed.{_≤ℤ_}
 use Rattle.integers.proofs.Absolute.{natAbs-upto}
@@ -18,10 +18,11 @@ use Rattle.lists.proofs.Tables.{length-table}
 use Rattle.model.proofs.Range.{widest-fits}
 use Rattle.model.proofs.Bounds as Bounds
 use Rattle.model.proofs.Bounds.{value-least, value-most, image-inside}
-use Rattle.runs.specs.Limits.{Within, MisfitLimits}
-use Rattle.raster.specs.Whole.{RasterLimits, WeightedLimits, WorkLimits}
-use Rattle.raster.proofs.Model.{weight-limits}
-use Rattle.runs.proofs.Elements.{within-below}
+use Rattle.layout.specs.Runs.{shapeOf}
+use Rattle.stencil.specs.Limits.{most}
+use Rattle.passes.specs.Limits.{Within, WeightLimits, RasterLimits, FlowLimits, MisfitLimits}
+use Rattle.passes.proofs.Model.{shape-limits, weight-limits}
+use Rattle.passes.proofs.Elements.{within-below}
 use Rattle.model.proofs.Answers.{held-image}
 
 module _ (t : Terms) (samples : List ℕ) (weights : List ℤ) where
@@ -30,31 +31,25 @@ module _ (t : Terms) (samples : List ℕ) (weights : List ℤ) where
 
   -- a flow within the weights
   pub flow-most : (flow : List ℤ) → length flow ≡ pairsOf t → WeightsAllowed t weights → t .weight ≤ 65280 → Feasible (grid t samples weights) (at flow) →
-      Within (2 ^ 20) flow
+      Within most flow
   flow-most flow n w h within = within-below flow (λ j l. omega (arith, within j (rw n at l), weight-most t weights w h j))
 
   module _ (ok : Bounds.Allowed t samples weights) where
+    -- the weights of the pairs, where each counts once without them
+    pub own-weights : WeightLimits (pairsOf t) (pos 1) weights
+    own-weights = weight-limits t weights (ok .pair-weights) (pos 1) (omega arith)
+
     -- an image of the box
     module _ (values : List ℤ) (n : length values ≡ pixelsOf t) (inside : InBox (grid t samples weights) (at values)) where
-      image-most : Within (2 ^ 20) values
+      image-most : Within most values
       image-most = within-below values (λ i l. omega (
         arith,
         widest-fits,
         natAbs-upto (value-least t samples weights ok (at values) inside i (rw n at l)) (value-most t samples weights ok (at values) inside i (rw n at l)),
       ))
 
-      pub raster-limits : RasterLimits (t .width) (t .height) values
-      raster-limits =
-          record {
-            width-least = ok .terms .width-least;
-            height-least = ok .terms .height-least;
-            pixels-most = ok .terms .pixels-most;
-            image-length = n;
-            image-most = image-most;
-          }
-
-      pub fall-limits : WeightedLimits (t .width) (t .height) (pairsOf t) values weights
-      fall-limits = record { raster = raster-limits; weights-limits = weight-limits t weights (ok .pair-weights) }
+      pub raster-limits : RasterLimits (shapeOf t) values
+      raster-limits = record { shape = shape-limits (ok .terms); image-length = n; image-most = image-most }
 
       pub misfit-limits : length samples ≡ pixelsOf t → MisfitLimits values samples
       misfit-limits m =
@@ -76,5 +71,5 @@ module _ (t : Terms) (samples : List ℕ) (weights : List ℤ) where
             subst (λ (x : ℤ). (grid t samples weights .low ≤ℤ x) × (x ≤ℤ grid t samples weights .high)) (sym (held-image t samples weights flow e i l))
             (image-inside t samples weights ok (at flow) i l)
 
-        pub work-limits : WorkLimits (t .width) (t .height) (pairsOf t) flow values
-        work-limits = record { raster = raster-limits values image-size image-inside-box; flow-length = n; flow-most = flow-most flow n (ok .pair-weights) (ok .terms .weight-most) within }
+        pub flow-limits : FlowLimits (shapeOf t) flow values
+        flow-limits = record { raster = raster-limits values image-size image-inside-box; flow-length = n; flow-most = flow-most flow n (ok .pair-weights) (ok .terms .weight-most) within }

@@ -21,10 +21,10 @@ use Rattle.model.specs.Grid.{weightOf, readingOf, grid}
 use Rattle.model.specs.Accepted.{WeightsAllowed}
 use Rattle.lists.proofs.Tables.{getD-inside}
 use Rattle.model.proofs.Weights.{weight-is}
-use Rattle.runs.specs.Run.{weightAt}
+use Rattle.layout.specs.Runs.{shapeOf}
+use Rattle.passes.specs.Pairs.{weightAt, variationAt, firstValue, secondValue}
 use Rattle.figures.specs.Ready.{scaleOf}
 use Rattle.model.specs.Calls.{Outcome, figures, figuresOf, pixelsOf, pairsOf}
-use Rattle.raster.specs.Whole.{gridVariation}
 use Rattle.model.proofs.Bounds as Bounds
 use Rattle.model.proofs.Bounds.{largest, price-bound, floor-bound}
 
@@ -44,7 +44,7 @@ module _ (t : Terms) (samples : List ℕ) (weights : List ℤ) where
     unfolding misfit
     misfit-at n e = sized _ e n
 
-    pub variation-at : {v : ℕ} → pos v ≡ total (pairsOf t) (gridVariation (t .width) (t .height) (weightAt (pos 1) weights) values) →
+    pub variation-at : {v : ℕ} → pos v ≡ total (pairsOf t) (variationAt (weightAt (pos 1) weights) (firstValue (shapeOf t) values) (secondValue (shapeOf t) values)) →
         pos v ≡ variation (at values)
     unfolding fall
     variation-at e = e

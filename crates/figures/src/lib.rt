@@ -2,9 +2,9 @@
 
 use integers::signed;
 use model::Terms;
-use raster_sums::total_variation_grid;
-use raster_sums::total_work_grid;
-use runs::pixels::misfit;
+use passes::pixels::misfit;
+use passes::sums::total_product;
+use passes::sums::total_variation;
 ghost use Prim.Native.Nat.{_+_, _*_, _^_, _<_};
 ghost use mathlib.Core.Path.{_≡_};
 ghost use lib.IntN.{pos, natAbs, _+ℤ_, _-ℤ_, _*ℤ_};
@@ -37,11 +37,11 @@ fn scale(weight: u32, weights: &[i32]) -> u32
 }
 
 // The dual objective: the data fidelity term plus twice the sum of flow times fall.
-fn dual(fidelity: u64, work: i64) -> i64
-    requires { ⌜ fidelity + 2 * natAbs work < 2 ^ 63 ⌝ }
-    ensures { λ r. ⌜ r ≡ pos fidelity +ℤ pos 2 *ℤ work ⌝ }
+fn dual(fidelity: u64, product: i64) -> i64
+    requires { ⌜ fidelity + 2 * natAbs product < 2 ^ 63 ⌝ }
+    ensures { λ r. ⌜ r ≡ pos fidelity +ℤ pos 2 *ℤ product ⌝ }
 {
-    signed::add_wide(signed::natural_wide(fidelity), signed::mul_wide(2, work))
+    signed::add_wide(signed::natural_wide(fidelity), signed::mul_wide(2, product))
 }
 
 // The duality gap.
@@ -57,7 +57,8 @@ pub fn image_price(t: Terms, samples: &[u8], weights: &[i32], image: &[i32]) -> 
     requires { ⌜ PriceReady t (now samples) (now weights) (now image) ⌝ }
     ensures { λ r. ⌜ pos r ≡ Problem.price (grid t (now (samples .entry)) (now (weights .entry))) (at (now (image .entry))) ⌝ }
 {
-    let variation = total_variation_grid(image, t.width as usize, t.height as usize, weights);
+    let s = layout::shape_of(t);
+    let variation = total_variation(image, s, weights);
     objective(misfit(image, samples), variation, scale(t.weight, weights))
 }
 
@@ -68,12 +69,11 @@ pub fn of_flow(t: Terms, samples: &[u8], weights: &[i32], flow: &[i32], image: &
     ensures { λ r. ⌜ r .floor ≡ Problem.floor (grid t (now (samples .entry)) (now (weights .entry))) (at (now (flow .entry))) ⌝ }
     ensures { λ r. ⌜ pos (r .slack) ≡ Problem.slack (grid t (now (samples .entry)) (now (weights .entry))) (at (now (flow .entry))) ⌝ }
 {
-    let w = t.width as usize;
-    let h = t.height as usize;
+    let s = layout::shape_of(t);
     let fidelity = misfit(image, samples);
-    let variation = total_variation_grid(image, w, h, weights);
+    let variation = total_variation(image, s, weights);
     let price = objective(fidelity, variation, scale(t.weight, weights));
-    let floor = dual(fidelity, total_work_grid(flow, image, w, h));
+    let floor = dual(fidelity, total_product(flow, image, s));
     Figures {
         price,
         floor,

@@ -12,7 +12,7 @@ use Rattle.model.specs.Verdict.{Row, firstRefusal, decided}
 use Rattle.model.specs.Calls.{pixelsOf, pairsOf, sizeRow, weightRow, boxRow, lengthRow, optionalRow, pairWeightsRow, firstOutside, priceVerdict}
 use Rattle.model.proofs.Refusals.{firstRefusal-append}
 use Rattle.terms.proofs.Accepted.{accepted-size}
-use Rattle.runs.specs.Ends.{BoxEnds}
+use Rattle.passes.specs.Ends.{BoxEnds}
 use Rattle.row_judges.specs.Outside.{outsideRow}
 
 module _ (t : Terms) where

@@ -5,7 +5,7 @@ use lib.Dec.{ltb}
 use lib.IntN.{ℤ}
 use lib.ListN.{length}
 use Rattle.model.specs.Verdict.{Row, row}
-use Rattle.runs.specs.Ends.{firstOutsideRange}
+use Rattle.passes.specs.Ends.{firstOutsideRange}
 
 -- 9: a value outside the range, at the first index
 abbrev pub outsideRow : ℤ → ℤ → List ℤ → Row

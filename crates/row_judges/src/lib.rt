@@ -2,7 +2,7 @@
 
 use model::Terms;
 use model::Verdict;
-use runs::pixels::first_outside;
+use passes::pixels::first_outside;
 ghost use Prim.Native.Nat.{_<_, _≤_};
 ghost use mathlib.Core.Path.{_≡_};
 ghost use mathlib.Core.List.{[], _∷_};

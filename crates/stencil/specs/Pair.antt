@@ -1,5 +1,5 @@
 -- What a step makes of one pair, from its number and its pixels' values, by the share of the fall that it adds. That this is
--- the step of crate `model` is proved in raster/proofs/Model.antt.
+-- the step of crate `model` is proved in passes/proofs/Model.antt.
 use mathlib.Core.Bool.{Bool, not}
 use lib.IntN.{ℤ, negℤ, _+ℤ_, _-ℤ_}
 use Rattle.integers.specs.Whole.{clamp, sameZ}

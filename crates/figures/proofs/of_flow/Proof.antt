@@ -9,120 +9,143 @@ use mir.Val.{toZ, ofZ}
 use Rattle.integers.specs.Sum.{total}
 use Rattle.integers.proofs.Machine.{read}
 use Rattle.lists.specs.Lists.{at}
-use Rattle.model.specs.Problem.{pairCount, fall, misfit, price, image, floor, slack}
+use Rattle.model.specs.Problem.{Problem, pairCount, fall, misfit, price, image, floor, slack}
 use Rattle.model.specs.Grid.{grid}
 use Rattle.model.proofs.Bounds as Bounds
 use Rattle.model.proofs.Bounds.{largest, largest-fits, image-inside, floor-bound}
 use Rattle.certificate.proofs.Distance.{floor-below}
 use Rattle.certificate.proofs.Grid.{grid-sound}
-use Rattle.raster.proofs.Model.{weight-limits, misfit-is, variation-is, work-is}
-use Rattle.runs.specs.Run.{weightAt}
+use Rattle.layout.specs.Runs.{shapeOf}
+use Rattle.passes.specs.Limits.{FlowLimits}
+use Rattle.passes.specs.Pairs.{weightAt}
+use Rattle.passes.proofs.Model.{misfit-is, variation-is, product-is}
 use Rattle.figures.specs.Ready.{scaleOf}
-use Rattle.figures.proofs.Jobs.{with-bytes, misfit-limits, work-limits, image-size, image-inside-box}
+use Rattle.figures.proofs.Jobs.{with-bytes, own-weights, misfit-limits, flow-limits, image-inside-box}
 use Rattle.figures.proofs.Objectives.{variation, sized, price-is, price-fits, floor-is, floor-fits}
 use Rattle.figures.proofs.of_flow.Statement.{statement}
 use Rattle.figures.proofs.of_flow.Tie as tie
 
-allowed : (c : tie.After-struct-known) → Bounds.Allowed (c .before .before .args .t) (c .before .before .args .samples .now) (c .before .before .args .weights .now)
-allowed c = with-bytes _ _ _ (c .before .before .pre .terms) (c .before .before .pre .pair-weights) (c .struct-known .given .1 .1 .1 .1 .0 .fits) (λ i. omega (arith, c .before .shared-slice-known .given i))
+-- ---- the shape is at hand
+
+module _ (c : tie.After-shape-of) where
+  abbrev entry : tie.Start
+  entry = c .before .before
+
+  abbrev problem : Problem
+  problem = grid (entry .args .t) (entry .args .samples .now) (entry .args .weights .now)
+
+  -- the flow, and its image
+  abbrev f : ℕ → ℤ
+  f = at (entry .args .flow .now)
+
+  abbrev x : ℕ → ℤ
+  x = image problem f
+
+  allowed : Bounds.Allowed (entry .args .t) (entry .args .samples .now) (entry .args .weights .now)
+  allowed = with-bytes _ _ _ (entry .pre .terms) (entry .pre .pair-weights) (c .shape-of .ensures .1 .high-byte) (λ i. omega (arith, c .before .shared-slice-known .given i))
+
+  limits : FlowLimits (shapeOf (entry .args .t)) (entry .args .flow .now) (entry .args .image .now)
+  limits = flow-limits _ _ _ allowed (entry .args .flow .now) (entry .pre .flow-length) (entry .pre .feasible) (entry .pre .image)
 
 misfit-requires : tie.Need-misfit-requires
 misfit-requires c κs =
-    let k = c .before in
-    let s = k .before .before in
-    let ok = allowed k in
-    misfit-limits _ _ _ ok (s .args .image .now) (image-size _ _ _ ok (s .args .flow .now) (s .pre .flow-length) (s .pre .feasible) (s .pre .image))
+    let s = entry c in
+    let ok = allowed c in
+    misfit-limits _ _ _ ok (s .args .image .now) (limits c .raster .image-length)
     (image-inside-box _ _ _ ok (s .args .flow .now) (s .pre .flow-length) (s .pre .feasible) (s .pre .image)) (s .pre .samples-length)
 
-total-variation-grid-requires : tie.Need-total-variation-grid-requires
-total-variation-grid-requires c κs =
-    let k = c .before .before in
-    let s = k .before .before in
-    let w = work-limits _ _ _ (allowed k) (s .args .flow .now) (s .pre .flow-length) (s .pre .feasible) (s .pre .image) in
-    record { raster = w .raster; weights-limits = weight-limits (s .args .t) (s .args .weights .now) (s .pre .pair-weights) }
+total-variation-requires : tie.Need-total-variation-requires
+total-variation-requires c κs = let h = c .before in rw (h .shape-of .ensures .0) (limits h .raster, own-weights _ _ _ (allowed h))
 
--- the three sums
-data-term : (c : tie.After-misfit) → let s = c .before .before .before .before in
-    let p = grid (s .args .t) (s .args .samples .now) (s .args .weights .now) in
-    pos (c .misfit .result) ≡ misfit p (image p (at (s .args .flow .now)))
+-- ---- the data term
+
+data-term : (c : tie.After-misfit) → let h = c .before in pos (c .misfit .result) ≡ misfit (problem h) (x h)
 data-term c =
-    let k = c .before .before in
-    let s = k .before .before in
-    sized _ (c .misfit .ensures) (image-size _ _ _ (allowed k) (s .args .flow .now) (s .pre .flow-length) (s .pre .feasible) (s .pre .image))
+    let h = c .before in
+    let s = entry h in
+    sized _ (c .misfit .ensures) (limits h .raster .image-length)
     ∙ misfit-is (s .args .t) (s .args .samples .now) (s .args .weights .now) (s .args .flow .now) (s .pre .image)
 
-sum-of-falls : (c : tie.After-total-variation-grid) → let s = c .before .before .before .before .before in
-    let p = grid (s .args .t) (s .args .samples .now) (s .args .weights .now) in
-    pos (c .total-variation-grid .result) ≡ variation (s .args .t) (s .args .samples .now) (s .args .weights .now) (image p (at (s .args .flow .now)))
-sum-of-falls c =
-    let s = c .before .before .before .before .before in
-    c .total-variation-grid .ensures ∙ variation-is (s .args .t) (s .args .samples .now) (s .args .weights .now) (s .args .flow .now) (s .pre .image) (weightAt (pos 1) (s .args .weights .now))
+-- ---- the variation
 
-priced : (c : tie.After-total-variation-grid) → let s = c .before .before .before .before .before in
-    c .before .misfit .result + 2 * (scaleOf (s .args .t .weight) (s .args .weights .now) * c .total-variation-grid .result) ≤ largest
-priced c =
-    let k = c .before .before .before in
-    let s = k .before .before in
-    let p = grid (s .args .t) (s .args .samples .now) (s .args .weights .now) in
-    price-fits (s .args .t) (s .args .samples .now) (s .args .weights .now) (s .pre .pair-weights) (image p (at (s .args .flow .now))) (data-term (c .before)) (sum-of-falls c) (allowed k)
-    (image-inside (s .args .t) (s .args .samples .now) (s .args .weights .now) (allowed k) (at (s .args .flow .now)))
+module _ (c : tie.After-total-variation) where
+  abbrev shaped : tie.After-shape-of
+  shaped = c .before .before
+
+  -- data term and variation, as the price has them
+  abbrev together : ℕ
+  together = c .before .misfit .result + 2 * (scaleOf (entry shaped .args .t .weight) (entry shaped .args .weights .now) * c .total-variation .result)
+
+  sum-of-falls : pos (c .total-variation .result) ≡ variation (entry shaped .args .t) (entry shaped .args .samples .now) (entry shaped .args .weights .now) (x shaped)
+  sum-of-falls =
+      let s = entry shaped in
+      rw (shaped .shape-of .ensures .0) at (c .total-variation .ensures)
+      ∙ variation-is (s .args .t) (s .args .samples .now) (s .args .weights .now) (s .args .flow .now) (s .pre .image) (weightAt (pos 1) (s .args .weights .now))
+
+  priced : together ≤ largest
+  priced =
+      let s = entry shaped in
+      price-fits (s .args .t) (s .args .samples .now) (s .args .weights .now) (s .pre .pair-weights) (x shaped) (data-term (c .before)) sum-of-falls (allowed shaped)
+      (image-inside (s .args .t) (s .args .samples .now) (s .args .weights .now) (allowed shaped) (f shaped))
 
 objective-requires : tie.Need-objective-requires
 objective-requires c κs = rw (c .scale .ensures) (omega (arith, largest-fits, priced (c .before)))
 
-total-work-grid-requires : tie.Need-total-work-grid-requires
-total-work-grid-requires c κs =
-    let k = c .before .before .before .before .before in
-    let s = k .before .before in
-    work-limits _ _ _ (allowed k) (s .args .flow .now) (s .pre .flow-length) (s .pre .feasible) (s .pre .image)
+-- ---- the price
 
-work : (c : tie.After-total-work-grid) → let s = c .before .before .before .before .before .before .before .before in
-    let p = grid (s .args .t) (s .args .samples .now) (s .args .weights .now) in
-    toZ w64 (ofZ w64 (c .total-work-grid .result)) ≡ total (pairCount p) (λ j. at (s .args .flow .now) j *ℤ fall p (image p (at (s .args .flow .now))) j)
-work c =
-    let s = c .before .before .before .before .before .before .before .before in
-    read w64 (c .total-work-grid .ok)
-    ∙ sized _ (c .total-work-grid .ensures) (s .pre .flow-length)
-    ∙ work-is (s .args .t) (s .args .samples .now) (s .args .weights .now) (s .args .flow .now) (s .pre .image)
+module _ (c : tie.After-objective) where
+  abbrev varied : tie.After-total-variation
+  varied = c .before .before
+
+  objective-is : c .objective .result ≡ together varied
+  objective-is = c .objective .ensures ∙ ap (λ (k : ℕ). varied .before .misfit .result + 2 * (k * varied .total-variation .result)) (c .before .scale .ensures)
+
+  primal : let h = shaped varied in pos (c .objective .result) ≡ price (problem h) (x h)
+  primal =
+      let h = shaped varied in
+      let s = entry h in
+      ap pos objective-is
+      ∙ price-is (s .args .t) (s .args .samples .now) (s .args .weights .now) (s .pre .pair-weights) (x h) (data-term (varied .before)) (sum-of-falls varied)
+
+total-product-requires : tie.Need-total-product-requires
+total-product-requires c κs = let h = shaped (varied c) in rw (h .shape-of .ensures .0) (limits h)
+
+-- ---- the inner product, and the floor
+
+product : (c : tie.After-total-product) → let h = shaped (varied (c .before)) in
+    toZ w64 (ofZ w64 (c .total-product .result)) ≡ total (pairCount (problem h)) (λ j. f h j *ℤ fall (problem h) (x h) j)
+product c =
+    let h = shaped (varied (c .before)) in
+    let s = entry h in
+    read w64 (c .total-product .ok)
+    ∙ sized _ (rw (h .shape-of .ensures .0) at (c .total-product .ensures)) (s .pre .flow-length)
+    ∙ product-is (s .args .t) (s .args .samples .now) (s .args .weights .now) (s .args .flow .now) (s .pre .image)
 
 dual-requires : tie.Need-dual-requires
 dual-requires c κs =
-    let v = c .before .before .before in
-    let k = v .before .before .before in
-    let s = k .before .before in
-    omega (arith, largest-fits, priced v, floor-fits (s .args .t) (s .args .samples .now) (s .args .weights .now) (at (s .args .flow .now)) (data-term (v .before)) (work c) (allowed k) (s .pre .feasible) (omega (arith, priced v)))
+    let v = varied (c .before) in
+    let h = shaped v in
+    let s = entry h in
+    omega (arith, largest-fits, priced v, floor-fits (s .args .t) (s .args .samples .now) (s .args .weights .now) (f h) (data-term (v .before)) (product c) (allowed h) (s .pre .feasible) (omega (arith, priced v)))
 
--- price and floor
-primal : (c : tie.After-objective) → let s = c .before .before .before .before .before .before .before in
-    let p = grid (s .args .t) (s .args .samples .now) (s .args .weights .now) in
-    pos (c .objective .result) ≡ price p (image p (at (s .args .flow .now)))
-primal c =
-    let v = c .before .before in
-    let s = v .before .before .before .before .before in
-    let p = grid (s .args .t) (s .args .samples .now) (s .args .weights .now) in
-    ap pos (c .objective .ensures ∙ ap (λ (k : ℕ). v .before .misfit .result + 2 * (k * v .total-variation-grid .result)) (c .before .scale .ensures))
-    ∙ price-is (s .args .t) (s .args .samples .now) (s .args .weights .now) (s .pre .pair-weights) (image p (at (s .args .flow .now))) (data-term (v .before)) (sum-of-falls v)
-
-dual : (c : tie.After-dual) → let s = c .before .before .before .before .before .before .before .before .before in
-    toZ w64 (ofZ w64 (c .dual .result)) ≡ floor (grid (s .args .t) (s .args .samples .now) (s .args .weights .now)) (at (s .args .flow .now))
+dual : (c : tie.After-dual) → let h = shaped (varied (c .before .before)) in toZ w64 (ofZ w64 (c .dual .result)) ≡ floor (problem h) (f h)
 dual c =
-    let s = c .before .before .before .before .before .before .before .before .before in
+    let v = varied (c .before .before) in
+    let s = entry (shaped v) in
     read w64 (c .dual .ok)
     ∙ c .dual .ensures
-    ∙ floor-is (s .args .t) (s .args .samples .now) (s .args .weights .now) (at (s .args .flow .now)) (data-term (c .before .before .before .before .before)) (work (c .before))
+    ∙ floor-is (s .args .t) (s .args .samples .now) (s .args .weights .now) (f (shaped v)) (data-term (v .before)) (product (c .before))
 
 gap-requires : tie.Need-gap-requires
 gap-requires c κs =
     let o = c .before .before in
-    let v = o .before .before in
-    let k = o .before .before .before .before .before in
-    let s = k .before .before in
-    let ok = allowed k in
-    let p = grid (s .args .t) (s .args .samples .now) (s .args .weights .now) in
-    let f = at (s .args .flow .now) in
+    let v = varied o in
+    let h = shaped v in
+    let s = entry h in
+    let ok = allowed h in
     rw (dual c) (
-      omega (arith, largest-fits, o .objective .ensures ∙ ap (λ (n : ℕ). v .before .misfit .result + 2 * (n * v .total-variation-grid .result)) (o .before .scale .ensures), priced v, floor-bound (s .args .t) (s .args .samples .now) (s .args .weights .now) ok f (s .pre .feasible)),
-      rw (primal o) (floor-below p (grid-sound (s .args .t) (s .args .samples .now) (s .args .weights .now) (ok .terms .box)) f (s .pre .feasible) (image p f) (image-inside (s .args .t) (s .args .samples .now) (s .args .weights .now) ok f)),
+      omega (arith, largest-fits, objective-is o, priced v, floor-bound (s .args .t) (s .args .samples .now) (s .args .weights .now) ok (f h) (s .pre .feasible)),
+      rw (primal o) (floor-below (problem h) (grid-sound (s .args .t) (s .args .samples .now) (s .args .weights .now) (ok .terms .box)) (f h) (s .pre .feasible) (x h) (image-inside (s .args .t) (s .args .samples .now) (s .args .weights .now) ok (f h))),
     )
 
 returns : tie.Need-returns
@@ -136,13 +159,12 @@ pub of-flow-spec : {M : Type 1} → statement M
 of-flow-spec =
     tie.close
     (tie.spec
-    (λ c. search needs)
-    (λ c. search needs)
+    (λ c κs. search needs)
     misfit-requires
-    total-variation-grid-requires
+    total-variation-requires
     (λ c κs. search needs)
     objective-requires
-    total-work-grid-requires
+    total-product-requires
     dual-requires
     gap-requires
     returns)

@@ -4,7 +4,7 @@ use borrow.Author.Needs.{needs}
 use lib.IntN.{ℤ}
 use mir.Syntax.{w32}
 use mir.ValLaws.{toZ-ofZ}
-use Rattle.runs.specs.Ends.{firstOutsideRange}
+use Rattle.passes.specs.Ends.{firstOutsideRange}
 use Rattle.row_judges.proofs.Rows.{found-at}
 use Rattle.row_judges.proofs.judge_image.Statement.{statement}
 use Rattle.row_judges.proofs.judge_image.Tie as tie

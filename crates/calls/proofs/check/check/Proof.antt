@@ -13,7 +13,7 @@ use Rattle.model.proofs.Answers.{check-answer, check-image}
 use Rattle.model.proofs.Accepted.{told, check-feasible, check-accepted, check-number}
 use Rattle.model.proofs.Pairs.{grid-count}
 use Rattle.certificate.proofs.Grid.{check-demand}
-use Rattle.raster.proofs.Model.{image-is}
+use Rattle.image.proofs.Model.{image-is}
 use Rattle.figures.proofs.Jobs.{flow-most}
 use Rattle.figures.proofs.Objectives.{figured}
 use Rattle.calls.proofs.check.check.Statement.{statement}
@@ -51,34 +51,35 @@ feasible c =
 
 fill-image-requires : tie.Need-fill-image-requires
 fill-image-requires c κs =
-    let e = c .before .before .before .before .before in
+    let e = c .before .before .before .before in
     let s = e .before .before .before .before in
     let a = facts e in
     let t = s .args .t in
-    record {
+    rw (c .before .before .before .shape-of .ensures .0)
+    (record {
       width-least = a .terms .width-least;
       height-least = a .terms .height-least;
       image-count = a .image-length;
       sample-count = a .samples-length;
       flow-count = a .flow-length ∙ grid-count (t .width) (t .height);
       flow-most = flow-most t (s .args .samples .now) (s .args .weights .now) (s .args .flow .now) (a .flow-length) (a .pair-weights) (a .terms .weight-most) (feasible e);
-    }
+    })
 
 -- the image is the flow's
-filled : (c : tie.After-fill-image) → let s = c .before .before .before .before .before .before .before .before .before .before in
+filled : (c : tie.After-fill-image) → let s = c .before .before .before .before .before .before .before .before .before in
     c .fill-image .last .0 ≡ imageOf (s .args .t) (s .args .samples .now) (s .args .flow .now)
 filled c =
     let high = c .before .before in
     let low = high .before in
-    let s = low .before .before .before .before .before .before .before in
-    c .fill-image .ensures
+    let s = low .before .before .before .before .before .before in
+    rw (low .before .shape-of .ensures .0) at (c .fill-image .ensures)
     ∙ image-is (s .args .t) (s .args .samples .now) (s .args .flow .now)
     (record { low-is = read w32 (low .low-end .ok) ∙ low .low-end .ensures; high-is = read w32 (high .high-end .ok) ∙ high .high-end .ensures })
 
 of-flow-requires : tie.Need-of-flow-requires
 of-flow-requires c κs =
     let i = c .before .before in
-    let e = i .before .before .before .before .before .before in
+    let e = i .before .before .before .before .before in
     let a = facts e in
     record {
       terms = a .terms;
@@ -93,7 +94,7 @@ returns-2 : tie.Need-returns-2
 returns-2 c =
     let r = c .before in
     let i = r .before .before .before in
-    let e = i .before .before .before .before .before .before in
+    let e = i .before .before .before .before .before in
     let s = e .before .before .before .before in
     let t = s .args .t in
     let b = s .args .samples .now in
@@ -115,8 +116,7 @@ check-spec =
     (λ c. search needs)
     returns
     (λ c. search needs)
-    (λ c. search needs)
-    (λ c. search needs)
+    (λ c κs. search needs)
     (λ c κs. search needs)
     (λ c κs. search needs)
     fill-image-requires

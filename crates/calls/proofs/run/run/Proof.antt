@@ -22,10 +22,10 @@ use Rattle.model.proofs.Answers.{run-answer, run-flow, run-image, run-work}
 use Rattle.model.proofs.Accepted.{told, run-accepted, run-number}
 use Rattle.model.specs.Demand.{RunDemand}
 use Rattle.certificate.proofs.Grid.{run-demand, ending-flow}
-use Rattle.runs.specs.Ends.{BoxEnds}
-use Rattle.runs.specs.Limits.{Within}
+use Rattle.passes.specs.Ends.{BoxEnds}
+use Rattle.passes.specs.Limits.{Within}
 use Rattle.model.proofs.Sizes.{iterate-size}
-use Rattle.quick.proofs.Kept.{iterate-within}
+use Rattle.solver.proofs.Kept.{iterate-within}
 use Rattle.figures.proofs.Objectives.{figured}
 use Rattle.calls.proofs.run.run.Statement.{statement}
 use Rattle.calls.proofs.run.run.Tie as tie

@@ -1,2 +1,0 @@
--- A quick round's pass in buffers.
-pub mod Ahead

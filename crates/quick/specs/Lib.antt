@@ -1,5 +1,0 @@
--- What the inner contracts cite beside the model's definitions.
---     Ready   what quick rounds ask
---     Left    what quick rounds leave in the buffers
-pub mod Ready
-pub mod Left

@@ -1,2 +1,0 @@
-// Passes over all pairs of a raster.
-pub mod grid;

@@ -1,3 +1,0 @@
--- What the rounds' inner contracts cite beside the model's definitions.
---     Ready   what every round asks
-pub mod Ready

@@ -1,3 +1,0 @@
--- Laws of steady rounds.
---     Rests   steady rounds in buffers, one after another
-pub mod Rests
