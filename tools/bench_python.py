@@ -29,8 +29,8 @@ sys.path[:0] = [str(TOP / "examples"), str(TOP / "python")]
 import pgm  # noqa: E402
 import relief  # noqa: E402
 from relief import boundary  # noqa: E402
+from relief.formatting import format_bound  # noqa: E402
 from relief.result import distance_bound  # noqa: E402
-from relief.wording import rounded_up  # noqa: E402
 
 try:
     import skimage
@@ -73,7 +73,7 @@ def print_load():
 def print_overhead(codes):
     """What the package adds to the calls of the library, whose buffers are made and touched beforehand."""
     weight = WEIGHTS[-1]
-    terms, pairs = boundary.Terms(SIZE, SIZE, weight, *BOX), boundary.pairs(SIZE, SIZE)
+    terms, pairs = boundary.Terms(SIZE, SIZE, weight, *BOX), boundary.pair_count(SIZE, SIZE)
     image, flow, work = (np.ones(count, np.int32) for count in (SIZE * SIZE, pairs, 2 * pairs))
     none, cleaned = np.zeros(0, np.int32), relief.clean(codes, weight, BOX, quick=10, steady=0)
     given_flow, given_image = cleaned.flow.flat, cleaned.image
@@ -202,14 +202,14 @@ def print_beside(codes):
         floor = max(result.floor for result in (judged, *long))
         found = price_over_time(codes, weight)
         least = min(price for points in found.values() for _, price in points.values())
-        own = rounded_up(distance_bound(relief.price(codes, near, weight, BOX) - floor, codes.size), 4)
+        own = format_bound(distance_bound(relief.price(codes, near, weight, BOX) - floor, codes.size), 4)
         print(f"weight {weight}: floor {floor}, least price {least}, {100 * above(least, floor):.5f} % above it;")
         print(f"  found: beside the reference, itself within {own} of the best image; all in levels, root mean square")
         for name, result in ("reference, rounded", judged), *((f"{run.job.quick} + 4000 rounds", run) for run in long):
             apart = np.sqrt(((result.image - near).astype(np.int64)**2).mean()) / 256
             print(f"  {name:18} {result.outcome} {result.moved}, price {100 * above(result.price, floor):.4f} % above it,"
                   f" own floor {100 * above(floor, result.floor):.4f} % below it;",
-                  f"bound {rounded_up(result.rms_bound, 4)}, found {apart:.4f}")
+                  f"bound {format_bound(result.rms_bound, 4)}, found {apart:.4f}")
         print(f"  {'':42}", *(f"{f'within {100 * within:g} %':>34}" for within in THRESHOLDS))
         for name, points in found.items():
             print(f"  {name:42}", *(f"{reached(points, floor, within):>34}" for within in THRESHOLDS))
@@ -260,7 +260,7 @@ def print_rounds(rasters):
     for name, codes in rasters.items():
         for weight in (256, 640, 1024, 4096):
             results = (relief.clean(codes, weight, BOX, *rounds) for rounds in tried)
-            shown = (rounded_up(result.rms_bound, 4) + f"{f' {result.moved}' if result.outcome == 'settled' else '':6}"
+            shown = (format_bound(result.rms_bound, 4) + f"{f' {result.moved}' if result.outcome == 'settled' else '':6}"
                      for result in results)
             print(f"{name:8}{weight:7}", *(f"{cell:>12}" for cell in shown))
 

@@ -14,9 +14,9 @@ import numpy as np
 from matplotlib.figure import Figure
 
 import relief
+from relief.formatting import format_bound
 from relief.pictures import read_picture
 from relief.result import distance_bound
-from relief.wording import rounded_up
 
 TOP = pathlib.Path(__file__).resolve().parent.parent
 WEIGHT, BOX = 640, (0, 255)
@@ -74,7 +74,7 @@ def two_flows(codes, path):
         axes.set_axis_off()
     shown = panels[2].imshow(difference, cmap="RdBu_r", vmin=-0.5, vmax=0.5, interpolation="nearest")
     panels[2].set_title(f"apart: {(difference ** 2).mean() ** 0.5:.3f} levels root mean square,"
-                        f" at most {rounded_up(bound, 3)}", fontsize=10)
+                        f" at most {format_bound(bound, 3)}", fontsize=10)
     panels[2].set_axis_off()
     figure.colorbar(shown, ax=panels[2], label="levels", extend="both", fraction=0.04)
     figure.savefig(path, dpi=110)

@@ -17,20 +17,20 @@ import numpy as np
 
 from .version import __version__
 
-_SOMEWHERE = np.zeros(1, np.int64)  # what a buffer of length 0 points to: never null, aligned for every type
+_PLACEHOLDER = np.zeros(1, np.int64)  # what a buffer of length 0 points to: never null, aligned for every type
 
 _BUFFER = [c_void_p, c_size_t]
 _TERMS = [c_uint32, c_uint32, c_uint32, c_uint8, c_uint8]
 _ROUNDS = [c_uint32, c_uint16]
-_FIGURES = [POINTER(number) for number in (c_uint64, c_uint32, c_uint32, c_uint64, c_int64, c_uint64)]
-_READ = [POINTER(number) for number in
-         (c_uint64, c_uint32, c_uint32, c_uint32, c_uint8, c_uint8, c_uint32, c_uint16, c_uint32, c_uint32)]
+_FIGURES_OUTPUTS = [POINTER(number) for number in (c_uint64, c_uint32, c_uint32, c_uint64, c_int64, c_uint64)]
+_READ_OUTPUTS = [POINTER(number) for number in
+                 (c_uint64, c_uint32, c_uint32, c_uint32, c_uint8, c_uint8, c_uint32, c_uint16, c_uint32, c_uint32)]
 
 _FUNCTIONS = {
-    "relief_call_price": (c_uint32, [*_TERMS, *3 * _BUFFER, *_FIGURES]),
-    "relief_call_check": (c_uint32, [*_TERMS, *4 * _BUFFER, *_FIGURES]),
-    "relief_call_run": (c_uint32, [*_TERMS, *_ROUNDS, *5 * _BUFFER, *_FIGURES]),
-    "relief_call_read": (c_uint32, [*4 * _BUFFER, *_READ]),
+    "relief_call_price": (c_uint32, [*_TERMS, *3 * _BUFFER, *_FIGURES_OUTPUTS]),
+    "relief_call_check": (c_uint32, [*_TERMS, *4 * _BUFFER, *_FIGURES_OUTPUTS]),
+    "relief_call_run": (c_uint32, [*_TERMS, *_ROUNDS, *5 * _BUFFER, *_FIGURES_OUTPUTS]),
+    "relief_call_read": (c_uint32, [*4 * _BUFFER, *_READ_OUTPUTS]),
     "relief_call_write": (c_uint32, [*_TERMS, *_ROUNDS, *4 * _BUFFER, POINTER(c_uint64), POINTER(c_uint64)]),
     "relief_boundary_version": (c_char_p, []),
     "relief_boundary_text": (c_char_p, [c_uint32]),
@@ -49,9 +49,9 @@ def _load() -> ctypes.CDLL:
         raise ImportError(f"there is no {path}: `bash tools/python.sh`, at the top of the repository, makes it")
     try:
         library = ctypes.CDLL(str(path))
-        for name, (answer, arguments) in _FUNCTIONS.items():
+        for name, (restype, argtypes) in _FUNCTIONS.items():
             function = getattr(library, name)
-            function.restype, function.argtypes = answer, arguments
+            function.restype, function.argtypes = restype, argtypes
     except (OSError, AttributeError) as error:
         raise ImportError(f"{path} is not the library of this package: {error}") from None
     version = library.relief_boundary_version().decode()
@@ -83,7 +83,7 @@ class Figures(NamedTuple):
     slack: int
 
 
-class Read(NamedTuple):
+class ReadAnswer(NamedTuple):
     """The numbers that read hands out."""
 
     terms: Terms
@@ -93,13 +93,13 @@ class Read(NamedTuple):
     flowed: bool
 
 
-def _lent(*buffers: np.ndarray) -> list:
+def _buffer_arguments(*buffers: np.ndarray) -> list:
     """Address and length of each buffer: contiguous, aligned, of the type that the call takes."""
     return [word for buffer in buffers
-            for word in ((buffer if buffer.size else _SOMEWHERE).ctypes.data, buffer.size)]
+            for word in ((buffer if buffer.size else _PLACEHOLDER).ctypes.data, buffer.size)]
 
 
-def _judged(function, *arguments) -> Tuple[int, int, Figures]:
+def _call(function, *arguments) -> Tuple[int, int, Figures]:
     """Refusal, place and figures of price, check or run."""
     place, numbers = c_uint64(), (c_uint32(), c_uint32(), c_uint64(), c_int64(), c_uint64())
     refusal = function(*arguments, byref(place), *map(byref, numbers))
@@ -108,34 +108,37 @@ def _judged(function, *arguments) -> Tuple[int, int, Figures]:
 
 def price(terms: Terms, samples: np.ndarray, weights: np.ndarray, image: np.ndarray) -> Tuple[int, int, Figures]:
     """Judges a given image."""
-    return _judged(_library.relief_call_price, *terms, *_lent(samples, weights, image))
+    return _call(_library.relief_call_price, *terms, *_buffer_arguments(samples, weights, image))
 
 
 def check(terms: Terms, samples: np.ndarray, weights: np.ndarray, flow: np.ndarray,
           image: np.ndarray) -> Tuple[int, int, Figures]:
     """Judges a given flow and fills the image."""
-    return _judged(_library.relief_call_check, *terms, *_lent(samples, weights, flow, image))
+    return _call(_library.relief_call_check, *terms, *_buffer_arguments(samples, weights, flow, image))
 
 
 def run(terms: Terms, quick: int, steady: int, samples: np.ndarray, weights: np.ndarray, flow: np.ndarray,
         image: np.ndarray, work: np.ndarray) -> Tuple[int, int, Figures]:
     """Does the rounds and fills flow and image."""
-    return _judged(_library.relief_call_run, *terms, quick, steady, *_lent(samples, weights, flow, image, work))
+    buffers = _buffer_arguments(samples, weights, flow, image, work)
+    return _call(_library.relief_call_run, *terms, quick, steady, *buffers)
 
 
-def read(tape: np.ndarray, samples: np.ndarray, weights: np.ndarray, flow: np.ndarray) -> Tuple[int, int, Read]:
+def read(tape: np.ndarray, samples: np.ndarray, weights: np.ndarray, flow: np.ndarray) -> Tuple[int, int, ReadAnswer]:
     """Reads a tape into the fronts of the buffers."""
-    place, numbers = c_uint64(), [pointer._type_() for pointer in _READ[1:]]
-    refusal = _library.relief_call_read(*_lent(tape, samples, weights, flow), byref(place), *map(byref, numbers))
+    place, numbers = c_uint64(), [pointer._type_() for pointer in _READ_OUTPUTS[1:]]
+    buffers = _buffer_arguments(tape, samples, weights, flow)
+    refusal = _library.relief_call_read(*buffers, byref(place), *map(byref, numbers))
     width, height, weight, low, high, quick, steady, weighted, flowed = (number.value for number in numbers)
-    return refusal, place.value, Read(Terms(width, height, weight, low, high), quick, steady, bool(weighted), bool(flowed))
+    terms = Terms(width, height, weight, low, high)
+    return refusal, place.value, ReadAnswer(terms, quick, steady, bool(weighted), bool(flowed))
 
 
 def write(terms: Terms, quick: int, steady: int, samples: np.ndarray, weights: np.ndarray, flow: np.ndarray,
           output: np.ndarray) -> Tuple[int, int, int]:
     """Writes a tape into the front of the output, and gives the number of its bytes."""
     place, count = c_uint64(), c_uint64()
-    buffers = _lent(samples, weights, flow, output)
+    buffers = _buffer_arguments(samples, weights, flow, output)
     refusal = _library.relief_call_write(*terms, quick, steady, *buffers, byref(place), byref(count))
     return refusal, place.value, count.value
 
@@ -150,12 +153,12 @@ def max_weight() -> int:
     return _library.relief_boundary_max_weight()
 
 
-def pixels(width: int, height: int) -> int:
+def pixel_count(width: int, height: int) -> int:
     """The number of pixels; 0 for a size that is not allowed."""
     return _library.relief_boundary_pixels(width, height)
 
 
-def pairs(width: int, height: int) -> int:
+def pair_count(width: int, height: int) -> int:
     """The number of pairs; 0 where there are none and for a size that is not allowed."""
     return _library.relief_boundary_pairs(width, height)
 

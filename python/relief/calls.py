@@ -7,9 +7,9 @@ from typing import Any, Tuple
 import numpy as np
 
 from . import boundary
-from .arrays import frozen, room, whole_numbers
+from .arrays import as_int32_array, empty_int32, read_only_view
 from .job import QUICK, STEADY, Job
-from .pairs import Pairs, lent
+from .pairs import Pairs, flat_or_empty
 from .result import Result
 
 _OUTCOMES = {1: "checked", 2: "settled", 3: "spent"}
@@ -71,8 +71,8 @@ def price(codes: Any, image: Any, weight: int, box: Tuple[int, int], weights: An
     131080
     """
     job = Job(codes, weight, box, 0, 0, weights)
-    values = whole_numbers("image", image, job.shape)
-    refusal, place, figures = boundary.price(job.terms, job.codes, lent(job.weights), values)
+    values = as_int32_array("image", image, job.shape)
+    refusal, place, figures = boundary.price(job.terms, job.codes, flat_or_empty(job.weights), values)
     if refusal:
         raise job.refused(refusal, place)
     return figures.price
@@ -80,10 +80,10 @@ def price(codes: Any, image: Any, weight: int, box: Tuple[int, int], weights: An
 
 def clean_job(job: Job) -> Result:
     """Does the rounds of a job; a flow that it has is left aside."""
-    pairs = boundary.pairs(*job.terms[:2])
-    image, flow, work = room(*job.shape), room(pairs), room(2 * pairs)
-    refusal, place, figures = boundary.run(job.terms, job.quick, job.steady, job.codes, lent(job.weights), flow, image,
-                                           work)
+    pairs = boundary.pair_count(*job.terms[:2])
+    image, flow, work = empty_int32(*job.shape), empty_int32(pairs), empty_int32(2 * pairs)
+    refusal, place, figures = boundary.run(job.terms, job.quick, job.steady, job.codes, flat_or_empty(job.weights), flow,
+                                           image, work)
     if refusal:
         raise job.refused(refusal, place)
     return _result(job, image, Pairs.from_flat(flow, job.shape), figures)
@@ -94,7 +94,7 @@ def check_job(job: Job) -> Result:
     if job.flow is None:
         raise ValueError("the job has no flow to check")
     image = np.empty(job.shape, np.int32)
-    refusal, place, figures = boundary.check(job.terms, job.codes, lent(job.weights), job.flow.flat, image)
+    refusal, place, figures = boundary.check(job.terms, job.codes, flat_or_empty(job.weights), job.flow.flat, image)
     if refusal:
         raise job.refused(refusal, place)
     return _result(job, image, job.flow, figures)
@@ -102,4 +102,4 @@ def check_job(job: Job) -> Result:
 
 def _result(job: Job, image: np.ndarray, flow: Pairs, figures: boundary.Figures) -> Result:
     outcome, *numbers = figures
-    return Result(job, frozen(image), flow, _OUTCOMES[outcome], *numbers)
+    return Result(job, read_only_view(image), flow, _OUTCOMES[outcome], *numbers)

@@ -1,4 +1,4 @@
-"""Files that are whole or are not there."""
+"""Files that are written atomically: they are whole or are not there."""
 
 from __future__ import annotations
 
@@ -9,10 +9,10 @@ import shutil
 import stat
 from typing import Any, Iterator, List, Mapping, Tuple
 
-_numbers = itertools.count()
+_part_numbers = itertools.count()
 
 
-def replace(outputs: Mapping[Any, Any]) -> None:
+def write_atomically(outputs: Mapping[Any, Any]) -> None:
     """Writes files, given as paths with their bytes. Each takes its place only when all of them are written whole.
 
     If this fails or is interrupted, each path holds all of its new bytes or what it held before, and nothing else is left.
@@ -23,9 +23,9 @@ def replace(outputs: Mapping[Any, Any]) -> None:
     parts: List[Tuple[str, str, Any]] = []
     try:
         for path, data in outputs.items():
-            _write_part(parts, path, data)
+            _write_temporary(parts, path, data)
         while parts:
-            _put_in_place(*parts[-1])
+            _move_into_place(*parts[-1])
             parts.pop()
     finally:
         for part, _, _ in parts:
@@ -33,29 +33,29 @@ def replace(outputs: Mapping[Any, Any]) -> None:
                 os.unlink(part)
 
 
-def _write_part(parts: List[Tuple[str, str, Any]], path: Any, data: Any) -> None:
+def _write_temporary(parts: List[Tuple[str, str, Any]], path: Any, data: Any) -> None:
     """Writes the bytes into a new file beside the one that the path leads to, and notes it: part, target and path."""
     target = os.path.realpath(path)
-    part = os.path.join(os.path.dirname(target), f".relief-{os.getpid()}-{next(_numbers)}.part")
-    with _naming(path):
-        there = os.path.exists(target)
-        if there:
-            _ask_to_write(target)
+    part = os.path.join(os.path.dirname(target), f".relief-{os.getpid()}-{next(_part_numbers)}.part")
+    with _errors_naming(path):
+        exists = os.path.exists(target)
+        if exists:
+            _require_writable(target)
         parts.append((part, target, path))
         with open(part, "xb") as file:
             file.write(data)
             file.flush()
             os.fsync(file.fileno())
-        if there:
+        if exists:
             shutil.copymode(target, part)
 
 
-def _put_in_place(part: str, target: str, path: Any) -> None:
-    with _naming(path):
+def _move_into_place(part: str, target: str, path: Any) -> None:
+    with _errors_naming(path):
         os.replace(part, target)
 
 
-def _ask_to_write(target: str) -> None:
+def _require_writable(target: str) -> None:
     """An OSError of what is there and may not be written, or is no file."""
     if not stat.S_ISREG(os.stat(target).st_mode) and not os.path.isdir(target):
         raise OSError(None, "not a regular file")
@@ -63,7 +63,7 @@ def _ask_to_write(target: str) -> None:
 
 
 @contextlib.contextmanager
-def _naming(path: Any) -> Iterator[None]:
+def _errors_naming(path: Any) -> Iterator[None]:
     """Lets an OSError inside be of the path that the caller knows."""
     try:
         yield

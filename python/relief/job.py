@@ -8,8 +8,8 @@ from typing import Any, Optional, Tuple
 import numpy as np
 
 from . import boundary
-from .arrays import Shape, box_ends, frozen, raster, whole_number
-from .pairs import Pairs, pairs_of
+from .arrays import Shape, as_box, as_integer, as_raster, read_only_view
+from .pairs import Pairs, as_pairs
 from .refused import Refused
 
 QUICK = 200
@@ -43,16 +43,16 @@ class Job:
     flow: Optional[Pairs] = None
 
     def __post_init__(self) -> None:
-        codes = raster("codes", self.codes)
-        kept = dict(codes=frozen(codes), box=box_ends(self.box),
-                    weight=whole_number("weight", self.weight, 2**32 - 1, boundary.max_weight()),
-                    quick=whole_number("quick", self.quick, 2**32 - 1, 4096),
-                    steady=whole_number("steady", self.steady, 2**16 - 1, 65535))
+        codes = as_raster("codes", self.codes)
+        fields = dict(codes=read_only_view(codes), box=as_box(self.box),
+                      weight=as_integer("weight", self.weight, 2**32 - 1, boundary.max_weight()),
+                      quick=as_integer("quick", self.quick, 2**32 - 1, 4096),
+                      steady=as_integer("steady", self.steady, 2**16 - 1, 65535))
         height, width = codes.shape
         for name in "weights", "flow":
             value: Any = getattr(self, name)
-            kept[name] = None if value is None else pairs_of(name, value, (height, width))
-        for name, value in kept.items():
+            fields[name] = None if value is None else as_pairs(name, value, (height, width))
+        for name, value in fields.items():
             object.__setattr__(self, name, value)
 
     @property

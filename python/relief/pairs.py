@@ -7,10 +7,10 @@ from typing import Any, Optional
 import numpy as np
 
 from . import boundary
-from .arrays import Shape, ask_size, frozen, given, raster, whole_number, whole_numbers
+from .arrays import Shape, as_array, as_int32_array, as_integer, as_raster, read_only_view, require_allowed_size
 
 
-_NONE = np.zeros(0, np.int32)
+_EMPTY = np.zeros(0, np.int32)
 
 
 class Pairs:
@@ -29,22 +29,22 @@ class Pairs:
     shape: Shape
 
     def __init__(self, down: Any, right: Any) -> None:
-        below, beside = given("down", down), given("right", right)
+        below, beside = as_array("down", down), as_array("right", right)
         if below.ndim != 2 or beside.ndim != 2:
             raise ValueError(f"down and right have shapes {below.shape} and {beside.shape}: (h - 1, w) and (h, w - 1)"
                              " are needed for a raster of h rows and w columns")
         height, width = max(beside.shape[0], 1), max(below.shape[1], 1)
-        ask_size(height, width)
-        below = whole_numbers("down", below, (height - 1, width))
-        beside = whole_numbers("right", beside, (height, width - 1))
-        self._hold(np.concatenate([below.ravel(), beside.ravel()]), (height, width))
+        require_allowed_size(height, width)
+        below = as_int32_array("down", below, (height - 1, width))
+        beside = as_int32_array("right", beside, (height, width - 1))
+        self._initialize(np.concatenate([below.ravel(), beside.ravel()]), (height, width))
 
     @classmethod
     def from_flat(cls, flat: Any, shape: Shape) -> "Pairs":
         """The numbers in the library's order, of a raster of this shape; not copied where they are int32 already."""
         height, width = shape
-        ask_size(height, width)
-        return _named("flat", flat, (height, width))
+        require_allowed_size(height, width)
+        return _from_flat("flat", flat, (height, width))
 
     @property
     def down(self) -> np.ndarray:
@@ -65,8 +65,8 @@ class Pairs:
         row, column = divmod(index, width) if index < below else divmod(index - below, width - 1)
         return f"{'down' if index < below else 'right'}[{row}, {column}]"
 
-    def _hold(self, flat: np.ndarray, shape: Shape) -> None:
-        object.__setattr__(self, "flat", frozen(flat))
+    def _initialize(self, flat: np.ndarray, shape: Shape) -> None:
+        object.__setattr__(self, "flat", read_only_view(flat))
         object.__setattr__(self, "shape", shape)
 
     def __setattr__(self, name: str, value: Any) -> None:
@@ -79,7 +79,7 @@ class Pairs:
         return f"Pairs({self.flat.size} numbers, raster of shape {self.shape})"
 
 
-def pairs_of(name: str, value: Any, shape: Shape) -> Pairs:
+def as_pairs(name: str, value: Any, shape: Shape) -> Pairs:
     """Pairs of a raster of this shape from what is given: Pairs, two arrays (down, right), or the flat order."""
     if isinstance(value, tuple) and len(value) != 2:
         raise ValueError(f"{name} is a tuple of {len(value)}: (down, right) is meant, or one array in the flat order")
@@ -89,16 +89,16 @@ def pairs_of(name: str, value: Any, shape: Shape) -> Pairs:
         if value.shape != shape:
             raise ValueError(f"{name} is of a raster of shape {value.shape}, the scan's is {shape}")
         return value
-    array = given(name, value)
+    array = as_array(name, value)
     if array.ndim != 1:
-        raise ValueError(f"{name} has shape {array.shape}: a tuple (down, right), or one array of {_count(shape)} numbers"
+        raise ValueError(f"{name} has shape {array.shape}: a tuple (down, right), or one array of {_pair_count(shape)} numbers"
                          " in the flat order, is needed")
-    return _named(name, array, shape)
+    return _from_flat(name, array, shape)
 
 
-def lent(pairs: Optional[Pairs]) -> np.ndarray:
+def flat_or_empty(pairs: Optional[Pairs]) -> np.ndarray:
     """The numbers as the library takes them: none of them, length 0, where there are no such pairs."""
-    return _NONE if pairs is None else pairs.flat
+    return _EMPTY if pairs is None else pairs.flat
 
 
 def weights_from_picture(strengths: Any, weight: int, maxval: int = 255) -> Pairs:
@@ -111,22 +111,22 @@ def weights_from_picture(strengths: Any, weight: int, maxval: int = 255) -> Pair
         weight: the whole weight, in sub-units.
         maxval: the value that stands for the whole weight.
     """
-    grey = raster("strengths", strengths).astype(np.int64)
-    whole = whole_number("weight", weight, 2**32 - 1, boundary.max_weight())
-    white = whole_number("maxval", maxval, 255, 255)
+    grey = as_raster("strengths", strengths).astype(np.int64)
+    whole = as_integer("weight", weight, 2**32 - 1, boundary.max_weight())
+    white = as_integer("maxval", maxval, 255, 255)
     if not white or grey.max(initial=0) > white:
         raise ValueError(f"strengths go from 0 to maxval, which is {white}: the largest is {grey.max(initial=0)}")
     down, right = np.minimum(grey[:-1], grey[1:]), np.minimum(grey[:, :-1], grey[:, 1:])
     return Pairs(whole * down // white, whole * right // white)
 
 
-def _count(shape: Shape) -> int:
+def _pair_count(shape: Shape) -> int:
     height, width = shape
-    return boundary.pairs(width, height)
+    return boundary.pair_count(width, height)
 
 
-def _named(name: str, flat: Any, shape: Shape) -> Pairs:
+def _from_flat(name: str, flat: Any, shape: Shape) -> Pairs:
     """Pairs from the flat order, by the name that a message gives it."""
     pairs = Pairs.__new__(Pairs)
-    pairs._hold(whole_numbers(name, flat, (_count(shape),)), shape)
+    pairs._initialize(as_int32_array(name, flat, (_pair_count(shape),)), shape)
     return pairs

@@ -10,14 +10,14 @@ from typing import TYPE_CHECKING, Any
 
 import numpy as np
 
-from .arrays import frozen, given, whole_number
+from .arrays import as_array, as_integer, read_only_view
 from .job import Job
 from .pairs import Pairs
 
 if TYPE_CHECKING:
     from matplotlib.figure import Figure
 
-SUB_UNITS = 256  # to a level
+SUB_UNITS_PER_LEVEL = 256
 
 
 @dataclass(frozen=True, eq=False)
@@ -55,15 +55,15 @@ class Result:
     @cached_property
     def levels(self) -> np.ndarray:
         """The image as depths in levels: a float array. A code s is read at s + 0.5."""
-        return frozen(self.image / SUB_UNITS)
+        return read_only_view(self.image / SUB_UNITS_PER_LEVEL)
 
     def codes(self, maxval: int = 255) -> np.ndarray:
         """The image as codes, uint8: each value's own level, or the one of maxval + 1 equal levels.
 
         A code is a level wide; the figures and bounds are those of the image, not of its codes.
         """
-        levels = whole_number("maxval", maxval, 255, 255) + 1
-        return (self.image * levels // (256 * SUB_UNITS)).astype(np.uint8)
+        levels = as_integer("maxval", maxval, 255, 255) + 1
+        return (self.image * levels // (256 * SUB_UNITS_PER_LEVEL)).astype(np.uint8)
 
     @property
     def rms_bound(self) -> float:
@@ -81,7 +81,7 @@ class Result:
         Args:
             mask: array of bools of the image's shape, True where a pixel counts.
         """
-        pixels = given("mask", mask)
+        pixels = as_array("mask", mask)
         if pixels.dtype != np.bool_:
             raise TypeError(f"mask has dtype {pixels.dtype}: True and False, dtype bool, are needed")
         if pixels.shape != self.image.shape:
@@ -104,7 +104,7 @@ class Result:
 
 def distance_bound(slack: int, pixels: int) -> float:
     """sqrt(slack / pixels) sub-units in levels, rounded up: the least float whose square is not below."""
-    square = Fraction(slack, pixels * SUB_UNITS**2)
+    square = Fraction(slack, pixels * SUB_UNITS_PER_LEVEL**2)
     bound = math.sqrt(square)
     while Fraction(bound)**2 < square:
         bound = math.nextafter(bound, math.inf)

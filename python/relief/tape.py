@@ -10,13 +10,13 @@ from typing import Any, BinaryIO, List, Tuple, Union
 import numpy as np
 
 from . import boundary
-from .files import replace
+from .files import write_atomically
 from .job import Job
-from .pairs import Pairs, lent
+from .pairs import Pairs, flat_or_empty
 from .refused import Refused
 
-_MOST = boundary.read_lengths(sys.maxsize)  # samples, and weights or flow numbers, of any tape
-_LONGEST = boundary.tape_bytes(_MOST[0], _MOST[1], _MOST[1])
+_MAX_LENGTHS = boundary.read_lengths(sys.maxsize)  # samples, and weights or flow numbers, of any tape
+_MAX_TAPE_BYTES = boundary.tape_bytes(_MAX_LENGTHS[0], _MAX_LENGTHS[1], _MAX_LENGTHS[1])
 
 
 def read_tape(source: Union[str, "os.PathLike[str]", BinaryIO, bytes, bytearray, memoryview]) -> Job:
@@ -33,12 +33,12 @@ def read_tape(source: Union[str, "os.PathLike[str]", BinaryIO, bytes, bytearray,
         data: Any = source
     elif isinstance(source, (str, os.PathLike)):
         with open(source, "rb") as file:
-            data = file.read(_LONGEST + 1)  # of a longer file this is enough: it is refused
+            data = file.read(_MAX_TAPE_BYTES + 1)  # of a longer file this is enough: it is refused
     elif hasattr(source, "read"):
         data = source.read()
     else:
         raise TypeError(f"a tape is read from a name, a file or bytes, not from {type(source).__name__}")
-    return _job(np.frombuffer(data, np.uint8) if len(data) else np.zeros(0, np.uint8))
+    return _decode(np.frombuffer(data, np.uint8) if len(data) else np.zeros(0, np.uint8))
 
 
 def write_tape(target: Union[str, "os.PathLike[str]", BinaryIO], job: Job) -> None:
@@ -52,16 +52,16 @@ def write_tape(target: Union[str, "os.PathLike[str]", BinaryIO], job: Job) -> No
         OSError: of a file that cannot be written.
         Refused: of a job that is not allowed.
     """
-    named = isinstance(target, (str, os.PathLike))
-    if not named and not hasattr(target, "write"):
+    is_path = isinstance(target, (str, os.PathLike))
+    if not is_path and not hasattr(target, "write"):
         raise TypeError(f"a tape is written to a name or a file, not to {type(target).__name__}")
-    weights, flow = lent(job.weights), lent(job.flow)
+    weights, flow = flat_or_empty(job.weights), flat_or_empty(job.flow)
     tape = np.empty(boundary.tape_bytes(job.codes.size, weights.size, flow.size), np.uint8)
     refusal, place, count = boundary.write(job.terms, job.quick, job.steady, job.codes, weights, flow, tape)
     if refusal:
         raise job.refused(refusal, place)
-    if named:
-        replace({target: tape[:count].data})
+    if is_path:
+        write_atomically({target: tape[:count].data})
     else:
         _write_all(target, tape[:count].data)
 
@@ -76,21 +76,21 @@ def _write_all(file: Any, data: memoryview) -> None:
         written = file.write(data)
 
 
-def _job(tape: np.ndarray) -> Job:
-    refusal, place, read, buffers = _read(tape, *boundary.read_lengths(tape.size))
+def _decode(tape: np.ndarray) -> Job:
+    refusal, place, answer, buffers = _read(tape, *boundary.read_lengths(tape.size))
     if refusal == 16:  # its size asks for more samples than its bytes can hold: with the longest buffers we are told why
-        refusal, place, read, buffers = _read(tape, *_MOST)
+        refusal, place, answer, buffers = _read(tape, *_MAX_LENGTHS)
     if refusal:
         raise Refused(refusal, place)
     codes, weights, flow = buffers
-    width, height, weight, low, high = read.terms
-    shape, count = (height, width), boundary.pairs(width, height)
-    return Job(codes[:width * height].reshape(shape), weight, (low, high), read.quick, read.steady,
-               Pairs.from_flat(weights[:count], shape) if read.weighted else None,
-               Pairs.from_flat(flow[:count], shape) if read.flowed else None)
+    width, height, weight, low, high = answer.terms
+    shape, count = (height, width), boundary.pair_count(width, height)
+    return Job(codes[:width * height].reshape(shape), weight, (low, high), answer.quick, answer.steady,
+               Pairs.from_flat(weights[:count], shape) if answer.weighted else None,
+               Pairs.from_flat(flow[:count], shape) if answer.flowed else None)
 
 
-def _read(tape: np.ndarray, samples: int, pairs: int) -> Tuple[int, int, boundary.Read, List[np.ndarray]]:
+def _read(tape: np.ndarray, samples: int, pairs: int) -> Tuple[int, int, boundary.ReadAnswer, List[np.ndarray]]:
     """Refusal, place, numbers and the buffers, of these lengths: codes, weights and flow."""
     buffers: List[np.ndarray] = [np.empty(samples, np.uint8), np.empty(pairs, np.int32), np.empty(pairs, np.int32)]
     return (*boundary.read(tape, *buffers), buffers)

@@ -66,7 +66,7 @@ def random_flow(rng, weights, count):
     return flow
 
 
-def treated(job):
+def check_or_clean(job):
     """What the cleaning program does with a job: checks its flow, or else runs it."""
     return clean_job(job) if job.flow is None else check_job(job)
 
@@ -87,21 +87,21 @@ def figures_of(result):
 def limited_memory(more=2**28):
     """The process may take no more bytes than it has and these."""
     before = resource.getrlimit(resource.RLIMIT_AS)
-    most = int(Path("/proc/self/statm").read_text().split()[0]) * resource.getpagesize() + more
+    limit = int(Path("/proc/self/statm").read_text().split()[0]) * resource.getpagesize() + more
     if before[0] != resource.RLIM_INFINITY:
-        most = min(most, before[0])
-    resource.setrlimit(resource.RLIMIT_AS, (most, before[1]))
+        limit = min(limit, before[0])
+    resource.setrlimit(resource.RLIMIT_AS, (limit, before[1]))
     try:
         yield
     finally:
         resource.setrlimit(resource.RLIMIT_AS, before)
 
 
-def run_program(test, path, data, *words):
+def run_program(test, path, data, *arguments):
     """What a program writes for these bytes. A program that is not there is a failure of the test."""
     if not path.is_file():
-        test.fail(f"there is no {path}: {_MAKERS[path]}")
-    done = subprocess.run([str(path), *words], input=data, capture_output=True)
+        test.fail(f"there is no {path}: {_BUILD_HINTS[path]}")
+    done = subprocess.run([str(path), *arguments], input=data, capture_output=True)
     test.assertEqual((done.returncode, done.stderr), (0, b""))
     return done.stdout
 
@@ -115,13 +115,13 @@ def clean_tape(test, tape):
     return lines[1], np.array([line.split() for line in lines[2:]], np.int32)
 
 
-def reference_answer(test, tape, *words):
+def reference_answer(test, tape, *arguments):
     """The second implementation's words for a tape, and the numbers behind them: image, then flow."""
-    line, _, numbers = run_program(test, REFERENCE, tape, *words).partition(b"\n")
+    line, _, numbers = run_program(test, REFERENCE, tape, *arguments).partition(b"\n")
     return line.decode(), np.frombuffer(numbers, "<i4")
 
 
-_MAKERS = {
+_BUILD_HINTS = {
     PROGRAM: "`rt check relief` makes it, and RELIEF_BIN may name another",
     REFERENCE: "`cargo build --release --offline -p relief-reference` in rust/ makes it, and RELIEF_REFERENCE_BIN may name"
                " the folder of another",

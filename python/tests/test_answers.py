@@ -6,8 +6,8 @@ import unittest
 import numpy as np
 
 import relief
-from jobs import (MAX_WEIGHT, TOP, clean_tape, figures_of, random_flow, random_job, random_weights, reference_answer,
-                  tape_of, treated)
+from jobs import (MAX_WEIGHT, TOP, check_or_clean, clean_tape, figures_of, random_flow, random_job, random_weights,
+                  reference_answer, tape_of)
 
 EXAMPLES = "two-by-one", "two-by-one-flow", "facade", "facade-joints"
 
@@ -15,15 +15,15 @@ EXAMPLES = "two-by-one", "two-by-one-flow", "facade", "facade-joints"
 class Program(unittest.TestCase):
     """What the cleaning program takes: up to 4,096 pixels and 65,536 bytes."""
 
-    def compare(self, job):
+    def assert_same_answer(self, job):
         """The same figures and image from the program, for the job and for its tape read back; gives the result."""
         tape = tape_of(job)
         words, image = clean_tape(self, tape)
-        result = treated(job)
+        result = check_or_clean(job)
         self.assertEqual(figures_of(result), words)
         self.assertEqual((result.image.shape, result.image.dtype), (job.shape, np.int32))
         np.testing.assert_array_equal(result.image, image)
-        again = treated(relief.read_tape(tape))
+        again = check_or_clean(relief.read_tape(tape))
         self.assertEqual(figures_of(again), words)
         np.testing.assert_array_equal(again.image, image)
         np.testing.assert_array_equal(again.flow.flat, result.flow.flat)
@@ -34,7 +34,7 @@ class Program(unittest.TestCase):
         shown = (TOP / "README.md").read_text().splitlines()
         for name in EXAMPLES:
             with self.subTest(name):
-                result = self.compare(relief.read_tape(TOP / f"examples/{name}.tape"))
+                result = self.assert_same_answer(relief.read_tape(TOP / f"examples/{name}.tape"))
                 self.assertIn(f"    {figures_of(result)}", shown)
 
     def test_random(self):
@@ -45,7 +45,7 @@ class Program(unittest.TestCase):
             for _ in range(2):
                 job = random_job(rng, shape, weighted, flowing)
                 with self.subTest(job=job):
-                    outcomes.add(self.compare(job).outcome)
+                    outcomes.add(self.assert_same_answer(job).outcome)
         self.assertEqual(outcomes, {"settled", "spent", "checked"})
 
     def test_every_weight_and_box(self):
@@ -54,7 +54,7 @@ class Program(unittest.TestCase):
             for box in (0, 255), (0, 0), (255, 255), (100, 100), (100, 101), (10, 240):
                 job = random_job(rng, (6, 5), weight=weight, box=box, rounds=(3, 5))
                 with self.subTest(weight=weight, box=box):
-                    result = self.compare(job)
+                    result = self.assert_same_answer(job)
                     self.assertTrue(256 * box[0] <= result.image.min() <= result.image.max() <= 256 * box[1] + 255)
 
     def test_largest(self):
@@ -64,16 +64,16 @@ class Program(unittest.TestCase):
             for weighted, flowing in (False, False), (True, False), (False, True):
                 job = random_job(rng, shape, weighted, flowing, weight=900, rounds=(10, 10))
                 with self.subTest(job=job):
-                    self.compare(job)
-        self.compare(random_job(rng, (37, 100), True, True))
+                    self.assert_same_answer(job)
+        self.assert_same_answer(random_job(rng, (37, 100), True, True))
 
     def test_many_rounds(self):
         """A run that settles by itself, and one that uses up its allowance."""
         rng = np.random.default_rng(4)
         job = random_job(rng, (20, 30), True, weight=256, box=(0, 255), rounds=(100, 5000))
-        self.assertEqual(self.compare(job).outcome, "settled")
+        self.assertEqual(self.assert_same_answer(job).outcome, "settled")
         job = random_job(rng, (20, 30), weight=MAX_WEIGHT, box=(0, 255), rounds=(0, 300))
-        result = self.compare(job)
+        result = self.assert_same_answer(job)
         self.assertEqual((result.outcome, result.moved), ("spent", 300))
 
     def test_clean_and_check(self):
@@ -103,7 +103,7 @@ class Program(unittest.TestCase):
 class DamagedTapes(unittest.TestCase):
     """What the program refuses is Refused by the same number at the same place."""
 
-    def compare(self, tape):
+    def assert_same_answer(self, tape):
         """The same words; gives them. Where the program's tables are too short, the second implementation's count."""
         words, image = clean_tape(self, tape)
         if words == "refused 16 at 0":
@@ -111,7 +111,7 @@ class DamagedTapes(unittest.TestCase):
             self.assertGreater(width * height, 4096)
             words, _ = reference_answer(self, tape)
         try:
-            result = treated(relief.read_tape(tape))
+            result = check_or_clean(relief.read_tape(tape))
         except relief.Refused as refused:
             self.assertEqual(f"refused {refused.number} at {refused.place}", words)
             self.assertTrue(str(refused).startswith(words + ": "))
@@ -123,7 +123,7 @@ class DamagedTapes(unittest.TestCase):
 
     def numbers(self, tapes):
         """The numbers of the refusals met, 0 for an accepted tape."""
-        words = [self.compare(tape).split() for tape in tapes]
+        words = [self.assert_same_answer(tape).split() for tape in tapes]
         return {int(word[1]) if word[0] == "refused" else 0 for word in words}
 
     def test_cut(self):
@@ -149,18 +149,18 @@ class DamagedTapes(unittest.TestCase):
 
     def test_random_bytes(self):
         rng = np.random.default_rng(9)
-        self.assertEqual(self.compare(b""), "refused 18 at 0")
+        self.assertEqual(self.assert_same_answer(b""), "refused 18 at 0")
         for _ in range(20):
-            self.compare(rng.integers(0, 7, rng.integers(1, 40), np.uint8).tobytes())
+            self.assert_same_answer(rng.integers(0, 7, rng.integers(1, 40), np.uint8).tobytes())
 
 
 class Reference(unittest.TestCase):
     """Rasters of any size that the library takes, beside the second implementation."""
 
-    def compare(self, job, *words):
+    def assert_same_answer(self, job, *words):
         """The same figures, image and flow; gives the result."""
         line, numbers = reference_answer(self, tape_of(job), *words)
-        result = treated(job)
+        result = check_or_clean(job)
         self.assertEqual(figures_of(result), line)
         np.testing.assert_array_equal(numbers[:result.image.size], result.image.ravel())
         np.testing.assert_array_equal(numbers[result.image.size:], result.flow.flat)
@@ -171,21 +171,21 @@ class Reference(unittest.TestCase):
         for weighted in False, True:
             job = random_job(rng, (1024, 1024), weighted, weight=1024, box=(30, 200), rounds=(12, 12))
             with self.subTest(weighted=weighted):
-                self.assertEqual(self.compare(job).moved, 12)
+                self.assertEqual(self.assert_same_answer(job).moved, 12)
 
     def test_longest_sides(self):
         rng = np.random.default_rng(11)
         for shape in (256, 4096), (4096, 256), (1, 4096), (4096, 1):
             job = random_job(rng, shape, bool(rng.integers(2)), weight=700, rounds=(6, 6))
             with self.subTest(job=job):
-                self.compare(job)
+                self.assert_same_answer(job)
 
     def test_checks(self):
         rng = np.random.default_rng(12)
         for shape, weighted in ((1024, 1024), True), ((4096, 256), False), ((301, 997), True), ((1, 4096), True):
             job = random_job(rng, shape, weighted, True, weight=MAX_WEIGHT, box=(1, 250))
             with self.subTest(job=job):
-                self.compare(job)
+                self.assert_same_answer(job)
 
     def test_check_of_a_run(self):
         """The flow that a run leaves, checked, has the run's image and figures."""
@@ -193,7 +193,7 @@ class Reference(unittest.TestCase):
         codes = rng.integers(0, 256, (700, 900), np.uint8)
         weights = random_weights(rng, 2 * 700 * 900 - 1600)
         result = relief.clean(codes, 1, (20, 220), quick=5, steady=5, weights=weights)
-        checked = self.compare(relief.Job(codes, 1, (20, 220), weights=weights, flow=result.flow))
+        checked = self.assert_same_answer(relief.Job(codes, 1, (20, 220), weights=weights, flow=result.flow))
         np.testing.assert_array_equal(checked.image, result.image)
         self.assertEqual((checked.price, checked.floor, checked.slack), (result.price, result.floor, result.slack))
 
@@ -202,13 +202,13 @@ class Reference(unittest.TestCase):
         for weighted, flowing in (False, False), (True, False), (True, True):
             job = random_job(rng, (200, 300), weighted, flowing, weight=800, box=(10, 245), rounds=(8, 8))
             with self.subTest(weighted=weighted, flowing=flowing):
-                self.compare(job, "definitions")
+                self.assert_same_answer(job, "definitions")
 
     def test_settled(self):
         """A run that settles by itself, on more pixels than the program takes."""
         rng = np.random.default_rng(15)
         codes = (rng.choice([90, 140], (120, 3)).repeat(40, axis=1) + rng.integers(-2, 3, (120, 120))).astype(np.uint8)
-        result = self.compare(relief.Job(codes, 64, (0, 255), 60, 5000))
+        result = self.assert_same_answer(relief.Job(codes, 64, (0, 255), 60, 5000))
         self.assertEqual(result.outcome, "settled")
 
     def test_refusals(self):

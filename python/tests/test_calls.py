@@ -35,7 +35,7 @@ class Refusals(unittest.TestCase):
 
     TEXTS = header_texts()
 
-    def refused(self, number, place, where, call, *arguments, **more):
+    def assert_refused(self, number, place, where, call, *arguments, **more):
         """The call is refused so, with the header's text and an advice."""
         with self.assertRaises(relief.Refused) as caught:
             call(*arguments, **more)
@@ -55,19 +55,19 @@ class Refusals(unittest.TestCase):
             codes = np.broadcast_to(one, shape)
             where = f"{shape[1]} x {shape[0]} pixels"
             with self.subTest(shape), limited_memory():
-                self.refused(1, 0, where, relief.clean, codes, 1024, BOX)
-                self.refused(1, 0, where, relief.check, codes, FLOW, 1024, BOX)
-                self.refused(1, 0, where, relief.price, codes, np.zeros((2, 3), np.int32), 1024, BOX)
-                self.refused(1, 0, where, relief.Job, codes, 1024, BOX)
-                self.refused(1, 0, where, relief.weights_from_picture, codes, 1024)
-                self.refused(1, 0, where, relief.Pairs.from_flat, np.zeros(0, np.int32), shape)
+                self.assert_refused(1, 0, where, relief.clean, codes, 1024, BOX)
+                self.assert_refused(1, 0, where, relief.check, codes, FLOW, 1024, BOX)
+                self.assert_refused(1, 0, where, relief.price, codes, np.zeros((2, 3), np.int32), 1024, BOX)
+                self.assert_refused(1, 0, where, relief.Job, codes, 1024, BOX)
+                self.assert_refused(1, 0, where, relief.weights_from_picture, codes, 1024)
+                self.assert_refused(1, 0, where, relief.Pairs.from_flat, np.zeros(0, np.int32), shape)
         with limited_memory():
             huge = np.broadcast_to(np.int8(0), (10**6, 10**6))
-            self.refused(1, 0, "1000000 x 1000000 pixels", relief.Pairs, huge[1:], huge[:, 1:])
+            self.assert_refused(1, 0, "1000000 x 1000000 pixels", relief.Pairs, huge[1:], huge[:, 1:])
         codes = np.asfortranarray(np.zeros((2000, 2000), np.uint8))  # a copy would be needed to lend it
         tracemalloc.start()
         self.addCleanup(tracemalloc.stop)
-        self.refused(1, 0, "2000 x 2000 pixels", relief.clean, codes, 1024, BOX)
+        self.assert_refused(1, 0, "2000 x 2000 pixels", relief.clean, codes, 1024, BOX)
         self.assertLess(tracemalloc.get_traced_memory()[1], 2**18)
 
     def test_largest_sizes(self):
@@ -79,9 +79,9 @@ class Refusals(unittest.TestCase):
         """2, of the weight: also where each pair has one of its own."""
         for weight in 65281, 2**32 - 1:
             for weights in None, FLOW:
-                self.refused(2, 0, "", relief.clean, CODES, weight, BOX, weights=weights)
-                self.refused(2, 0, "", relief.check, CODES, FLOW, weight, BOX, weights)
-                self.refused(2, 0, "", relief.price, CODES, CODES, weight, BOX, weights)
+                self.assert_refused(2, 0, "", relief.clean, CODES, weight, BOX, weights=weights)
+                self.assert_refused(2, 0, "", relief.check, CODES, FLOW, weight, BOX, weights)
+                self.assert_refused(2, 0, "", relief.price, CODES, CODES, weight, BOX, weights)
         self.assertEqual(relief.clean(CODES, 65280, BOX, 0, 1).moved, 1)
 
     def test_weight_of_a_pair(self):
@@ -91,18 +91,18 @@ class Refusals(unittest.TestCase):
                 weights = FLOW.copy()
                 weights[index] = weights[6] = value
                 words = "weights." + where
-                self.refused(2, index, words, relief.clean, CODES, 5, BOX, weights=weights)
-                self.refused(2, index, words, relief.check, CODES, FLOW, 5, BOX, weights)
-                self.refused(2, index, words, relief.price, CODES, 256 * CODES.astype(int), 5, BOX, weights)
-                self.refused(2, index, words, tape_of, relief.Job(CODES, 5, BOX, weights=weights))
+                self.assert_refused(2, index, words, relief.clean, CODES, 5, BOX, weights=weights)
+                self.assert_refused(2, index, words, relief.check, CODES, FLOW, 5, BOX, weights)
+                self.assert_refused(2, index, words, relief.price, CODES, 256 * CODES.astype(int), 5, BOX, weights)
+                self.assert_refused(2, index, words, tape_of, relief.Job(CODES, 5, BOX, weights=weights))
 
     def test_box(self):
         """3."""
         for box in (255, 0), (9, 8):
-            self.refused(3, 0, "", relief.clean, CODES, 5, box)
-            self.refused(3, 0, "", relief.check, CODES, FLOW, 5, box)
-            self.refused(3, 0, "", relief.price, CODES, CODES, 5, box)
-            self.refused(3, 0, "", tape_of, relief.Job(CODES, 5, box))
+            self.assert_refused(3, 0, "", relief.clean, CODES, 5, box)
+            self.assert_refused(3, 0, "", relief.check, CODES, FLOW, 5, box)
+            self.assert_refused(3, 0, "", relief.price, CODES, CODES, 5, box)
+            self.assert_refused(3, 0, "", tape_of, relief.Job(CODES, 5, box))
 
     def test_flow_value(self):
         """8: the first index, in down or in right, by the one weight and by the pairs' own."""
@@ -110,11 +110,11 @@ class Refusals(unittest.TestCase):
             for value in 6, -6, 2**31 - 1, -2**31:
                 flow = FLOW.copy()
                 flow[index] = flow[6] = value
-                self.refused(8, index, "flow." + where, relief.check, CODES, flow, 5, BOX)
-                self.refused(8, index, "flow." + where, tape_of, relief.Job(CODES, 5, BOX, flow=flow))
-                self.refused(8, index, "flow." + where, relief.check, CODES, flow, 9999, BOX, FLOW + 5)
+                self.assert_refused(8, index, "flow." + where, relief.check, CODES, flow, 5, BOX)
+                self.assert_refused(8, index, "flow." + where, tape_of, relief.Job(CODES, 5, BOX, flow=flow))
+                self.assert_refused(8, index, "flow." + where, relief.check, CODES, flow, 9999, BOX, FLOW + 5)
         tall = np.zeros((3, 1), np.uint8)
-        self.refused(8, 1, "flow.down[1, 0]", relief.check, tall, np.array([0, 9]), 5, BOX)
+        self.assert_refused(8, 1, "flow.down[1, 0]", relief.check, tall, np.array([0, 9]), 5, BOX)
         self.assertEqual(relief.check(CODES, FLOW + 5, 5, BOX).moved, 0)
 
     def test_image_value(self):
@@ -123,15 +123,15 @@ class Refusals(unittest.TestCase):
             for value in 255, 768, -1, 2**31 - 1:
                 image = np.full((2, 3), 300)
                 image.flat[index] = image.flat[5] = value
-                self.refused(9, index, where, relief.price, CODES, image, 5, (1, 2))
+                self.assert_refused(9, index, where, relief.price, CODES, image, 5, (1, 2))
         self.assertTrue(relief.price(CODES, np.full((2, 3), 256), 5, (1, 2)))
         self.assertTrue(relief.price(CODES, np.full((2, 3), 767), 5, (1, 2)))
 
     def test_quick_rounds(self):
         """10."""
         for quick in 4097, 2**32 - 1:
-            self.refused(10, 0, "", relief.clean, CODES, 5, BOX, quick)
-            self.refused(10, 0, "", tape_of, relief.Job(CODES, 5, BOX, quick))
+            self.assert_refused(10, 0, "", relief.clean, CODES, 5, BOX, quick)
+            self.assert_refused(10, 0, "", tape_of, relief.Job(CODES, 5, BOX, quick))
         self.assertEqual(relief.clean(CODES, 5, BOX, 4096, 65535).outcome, "settled")
 
     def test_tapes(self):
@@ -153,7 +153,7 @@ class Refusals(unittest.TestCase):
             (18, 0, b""),
         ]:
             with self.subTest(number=number, place=place):
-                self.refused(number, place, "", relief.read_tape, data)
+                self.assert_refused(number, place, "", relief.read_tape, data)
 
     def test_lengths(self):
         """4 to 7, 16 and 19: the package lends exact lengths, so only the boundary meets them. No buffer is changed."""
@@ -209,7 +209,7 @@ class Refusals(unittest.TestCase):
 class WrongArguments(unittest.TestCase):
     """What is no job at all: a TypeError or a ValueError that names the argument."""
 
-    def wrong(self, kind, message, call, *arguments, **more):
+    def assert_error(self, kind, message, call, *arguments, **more):
         """Nothing that is given is changed by it."""
         arrays = [(array, array.tobytes()) for array in [*arguments, *more.values()] if isinstance(array, np.ndarray)]
         with self.assertRaisesRegex(kind, message):
@@ -233,9 +233,9 @@ class WrongArguments(unittest.TestCase):
             (np.ma.masked_equal(CODES, 2), TypeError, "codes is a masked array"),
         ]:
             with self.subTest(codes=codes):
-                self.wrong(kind, message, relief.clean, codes, 5, BOX)
-                self.wrong(kind, message, relief.check, codes, FLOW, 5, BOX)
-                self.wrong(kind, message, relief.price, codes, CODES, 5, BOX)
+                self.assert_error(kind, message, relief.clean, codes, 5, BOX)
+                self.assert_error(kind, message, relief.check, codes, FLOW, 5, BOX)
+                self.assert_error(kind, message, relief.price, codes, CODES, 5, BOX)
 
     def test_numbers(self):
         for name, most in ("weight", "65,280"), ("quick", "4,096"), ("steady", "65,535"):
@@ -251,8 +251,8 @@ class WrongArguments(unittest.TestCase):
                 terms = dict(weight=5, box=BOX, quick=1, steady=1)
                 terms[name] = value
                 with self.subTest(name=name, value=value):
-                    self.wrong(kind, message, relief.clean, CODES, **terms)
-        self.wrong(ValueError, "steady is 65536: it must be 0 to 65,535", relief.clean, CODES, 5, BOX, 0, 65536)
+                    self.assert_error(kind, message, relief.clean, CODES, **terms)
+        self.assert_error(ValueError, "steady is 65536: it must be 0 to 65,535", relief.clean, CODES, 5, BOX, 0, 65536)
         result = relief.clean(CODES, np.uint16(5), np.array(BOX), np.int64(1), np.uint8(1))
         self.assertEqual((result.job.weight, result.job.box, result.job.quick, result.job.steady), (5, BOX, 1, 1))
 
@@ -268,9 +268,9 @@ class WrongArguments(unittest.TestCase):
             ("ab", TypeError, "the low end of box is a whole number"),
         ]:
             with self.subTest(box=box):
-                self.wrong(kind, message, relief.clean, CODES, 5, box)
-                self.wrong(kind, message, relief.check, CODES, FLOW, 5, box)
-                self.wrong(kind, message, relief.price, CODES, CODES, 5, box)
+                self.assert_error(kind, message, relief.clean, CODES, 5, box)
+                self.assert_error(kind, message, relief.check, CODES, FLOW, 5, box)
+                self.assert_error(kind, message, relief.price, CODES, CODES, 5, box)
 
     def test_pairs(self):
         """A flow and the pairs' weights alike."""
@@ -305,14 +305,14 @@ class WrongArguments(unittest.TestCase):
             ([down.tolist(), right.tolist()], ValueError, "NAME is no array"),
         ]:
             with self.subTest(value=value):
-                self.wrong(kind, message.replace("NAME", "flow"), relief.check, CODES, value, 5, BOX)
-                self.wrong(kind, message.replace("NAME", "weights"), relief.clean, CODES, 5, BOX, weights=value)
-                self.wrong(kind, message.replace("NAME", "weights"), relief.price, CODES, CODES, 5, BOX, weights=value)
+                self.assert_error(kind, message.replace("NAME", "flow"), relief.check, CODES, value, 5, BOX)
+                self.assert_error(kind, message.replace("NAME", "weights"), relief.clean, CODES, 5, BOX, weights=value)
+                self.assert_error(kind, message.replace("NAME", "weights"), relief.price, CODES, CODES, 5, BOX, weights=value)
         for both in (down, right), [down, right]:
             self.assertEqual(relief.check(CODES, both, 5, BOX).flow.flat.tolist(), 7 * [0])
-        self.wrong(TypeError, "flow is None: a number for each pair is needed", relief.check, CODES, None, 5, BOX)
-        self.wrong(ValueError, "the job has no flow to check", check_job, relief.Job(CODES, 5, BOX))
-        self.wrong(ValueError, r"flat has shape \(7,\): \(4,\) is needed", relief.Pairs.from_flat, FLOW, (2, 2))
+        self.assert_error(TypeError, "flow is None: a number for each pair is needed", relief.check, CODES, None, 5, BOX)
+        self.assert_error(ValueError, "the job has no flow to check", check_job, relief.Job(CODES, 5, BOX))
+        self.assert_error(ValueError, r"flat has shape \(7,\): \(4,\) is needed", relief.Pairs.from_flat, FLOW, (2, 2))
 
     def test_image(self):
         image = np.full((2, 3), 300)
@@ -328,7 +328,7 @@ class WrongArguments(unittest.TestCase):
             (None, TypeError, "image has dtype object"),
         ]:
             with self.subTest(value=value):
-                self.wrong(kind, message, relief.price, CODES, value, 5, BOX)
+                self.assert_error(kind, message, relief.price, CODES, value, 5, BOX)
         self.assertEqual(relief.price(CODES, image.tolist(), 5, BOX), relief.price(CODES, image, 5, BOX))
 
     def test_weight_picture(self):
@@ -342,10 +342,10 @@ class WrongArguments(unittest.TestCase):
             (CODES, 5, 256, ValueError, "maxval is 256: it must be 0 to 255"),
         ]:
             with self.subTest(message):
-                self.wrong(kind, message, relief.weights_from_picture, strengths, weight, maxval)
+                self.assert_error(kind, message, relief.weights_from_picture, strengths, weight, maxval)
 
 
-def swapped(array):
+def byte_swapped(array):
     """The same numbers, highest byte first."""
     return array.astype(array.dtype.newbyteorder(">"))
 
@@ -378,10 +378,10 @@ def read_only(array):
     return array
 
 
-FORMS = {"as it is": np.copy, "Fortran order": np.asfortranarray, "strided": strided, "reversed": reversed_twice,
-         "read-only": read_only, "unaligned": unaligned, "big-endian": swapped,
-         "64 bits": lambda array: array.astype(np.int64) if array.dtype == np.int32 else array.copy(),
-         "memory of a subclass": lambda array: array.copy().view(np.recarray)}
+LAYOUTS = {"as it is": np.copy, "Fortran order": np.asfortranarray, "strided": strided, "reversed": reversed_twice,
+           "read-only": read_only, "unaligned": unaligned, "big-endian": byte_swapped,
+           "64 bits": lambda array: array.astype(np.int64) if array.dtype == np.int32 else array.copy(),
+           "memory of a subclass": lambda array: array.copy().view(np.recarray)}
 
 
 class Arrays(unittest.TestCase):
@@ -394,14 +394,14 @@ class Arrays(unittest.TestCase):
         self.flow = random_flow(rng, self.weights, 110)
         self.image = rng.integers(256 * 40, 256 * 200, (9, 7), np.int32)
 
-    def test_forms(self):
+    def test_layouts(self):
         box = 40, 200
         expected = [figures_of(relief.clean(self.codes, 900, box, 5, 5, self.weights)),
                     figures_of(relief.check(self.codes, self.flow, 900, box, self.weights)),
                     relief.price(self.codes, self.image, 900, box, self.weights)]
-        for name, form in FORMS.items():
+        for name, layout in LAYOUTS.items():
             with self.subTest(name):
-                codes, weights, flow, image = arrays = [form(array) for array in
+                codes, weights, flow, image = arrays = [layout(array) for array in
                                                         (self.codes, self.weights, self.flow, self.image)]
                 before = [(array.tobytes(), array.dtype, array.strides, array.flags.writeable) for array in arrays]
                 answers = [figures_of(relief.clean(codes, 900, box, 5, 5, weights)),
@@ -409,7 +409,7 @@ class Arrays(unittest.TestCase):
                            relief.price(codes, image, 900, box, weights)]
                 self.assertEqual(answers, expected)
                 two = relief.Pairs.from_flat(self.flow, (9, 7))
-                down, right = form(two.down), form(two.right)
+                down, right = layout(two.down), layout(two.right)
                 result = relief.check(codes, (down, right), 900, box, weights)
                 self.assertEqual(figures_of(result), expected[1])
                 np.testing.assert_array_equal(result.flow.flat, self.flow)
@@ -423,25 +423,25 @@ class Arrays(unittest.TestCase):
                 after = [(array.tobytes(), array.dtype, array.strides, array.flags.writeable) for array in arrays]
                 self.assertEqual(after, before)
 
-    def test_forms_are_what_they_say(self):
+    def test_layouts_are_what_they_say(self):
         for array in self.codes, self.flow, self.image:
-            for form in FORMS.values():
-                np.testing.assert_array_equal(form(array), array)
+            for layout in LAYOUTS.values():
+                np.testing.assert_array_equal(layout(array), array)
             self.assertFalse(strided(array).flags.c_contiguous)
             self.assertFalse(reversed_twice(array).flags.c_contiguous)
         self.assertFalse(unaligned(self.flow).flags.aligned)
-        self.assertFalse(swapped(self.flow).dtype.isnative)
+        self.assertFalse(byte_swapped(self.flow).dtype.isnative)
 
     def test_nothing_is_copied(self):
         """What the library can be lent is kept as it is: no copy of codes, weights or flow."""
         flow, weights = relief.Pairs.from_flat(self.flow, (9, 7)), relief.Pairs.from_flat(self.weights, (9, 7))
         self.assertTrue(np.shares_memory(flow.flat, self.flow))
-        for lent_flow, lent_weights in (self.flow, self.weights), (flow, weights):
-            result = relief.check(self.codes, lent_flow, 900, BOX, lent_weights)
+        for passed_flow, passed_weights in (self.flow, self.weights), (flow, weights):
+            result = relief.check(self.codes, passed_flow, 900, BOX, passed_weights)
             self.assertTrue(np.shares_memory(result.job.codes, self.codes))
             self.assertTrue(np.shares_memory(result.flow.flat, self.flow))
             self.assertTrue(np.shares_memory(result.job.weights.flat, self.weights))
-            result = relief.clean(self.codes, 900, BOX, 1, 1, lent_weights)
+            result = relief.clean(self.codes, 900, BOX, 1, 1, passed_weights)
             self.assertTrue(np.shares_memory(result.job.codes, self.codes))
             self.assertTrue(np.shares_memory(result.job.weights.flat, self.weights))
         for name in "down", "right":

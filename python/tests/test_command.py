@@ -29,8 +29,8 @@ import relief
 from relief import files
 from relief.command import main, progress
 from relief.command.report import COLUMNS
+from relief.formatting import format_bounds, format_figures
 from relief.pictures import read_picture
-from relief.wording import bounds, figures
 
 TOP = Path(__file__).resolve().parents[2]
 GREY = np.random.default_rng(1).integers(60, 190, (24, 32), dtype=np.uint8)
@@ -46,15 +46,15 @@ def cleaned(codes, **more):
     return relief.clean(codes, 640, (70, 180), 7, 9, **more)
 
 
-def binary(samples, maxval=255):
+def pgm_bytes(samples, maxval=255):
     """A PGM picture."""
     height, width = samples.shape
     return b"P5\n%d %d\n%d\n" % (width, height, maxval) + samples.astype(np.uint8).tobytes()
 
 
-def said_of(name, result):
+def result_line(name, result):
     """What the command says of a result."""
-    return f"{name}: {figures(result)}; {bounds(result)}\n"
+    return f"{name}: {format_figures(result)}; {format_bounds(result)}\n"
 
 
 class Command(unittest.TestCase):
@@ -74,7 +74,7 @@ class Command(unittest.TestCase):
         return name
 
     def scan(self, name="a.pgm", samples=GREY):
-        return self.write(name, binary(samples))
+        return self.write(name, pgm_bytes(samples))
 
     def main(self, *words):
         """Status, standard output and standard error of the command, in this process."""
@@ -91,7 +91,7 @@ class Command(unittest.TestCase):
         env = {**os.environ, "PYTHONPATH": str(TOP / "python"), "PYTHONUNBUFFERED": "", **more.pop("env", {})}
         return subprocess.Popen([sys.executable, "-B", "-m", "relief", *words], env=env, **more)
 
-    def run_apart(self, *words, **more):
+    def run_process(self, *words, **more):
         """Status, standard output and standard error of a process of the command."""
         with self.start(*words, stdout=subprocess.PIPE, stderr=subprocess.PIPE, **more) as process:
             said = process.communicate()
@@ -111,7 +111,7 @@ class Command(unittest.TestCase):
         """Every file with its bytes."""
         return {path: path.read_bytes() for path in sorted(self.folder.rglob("*")) if path.is_file()}
 
-    def fails(self, message, *words, status=1, summary=""):
+    def assert_fails(self, message, *words, status=1, summary=""):
         """One line of a fault, and nothing written."""
         before = self.tree()
         self.assertEqual(self.main(*words), (status, "", f"relief-raster: {message}\n{summary}"))
@@ -119,13 +119,13 @@ class Command(unittest.TestCase):
 
 
 class Clean(Command):
-    def test_forms(self):
+    def test_formats(self):
         """Each form comes out as the library's image; its flow is accepted, and its price is the one that was told."""
         image = Image.fromarray(GREY)
         image.save("b.png", dpi=(300, 300))
         image.save("c.tif", compression="tiff_lzw", dpi=(96, 96))
         self.scan()
-        self.write("d.pgm", binary(GREY // 4, 63))
+        self.write("d.pgm", pgm_bytes(GREY // 4, 63))
         scans = ["a.pgm", "b.png", "c.tif", "d.pgm"]
         status, out, err = self.main("clean", *scans, "-o", "new/out", *TERMS, *ROUNDS, "--save-flow")
         self.assertEqual(self.names("new/out"), sorted(scans + [f"{name[0]}.flow.npy" for name in scans]))
@@ -135,9 +135,9 @@ class Clean(Command):
         for name, line in zip(scans, lines, strict=True):
             before, after = read_picture(name), read_picture(f"new/out/{name}")
             result = cleaned(before.codes)
-            self.assertEqual(line, said_of(name, result))
+            self.assertEqual(line, result_line(name, result))
             self.assertEqual(after.samples.tolist(), result.codes(before.maxval).tolist())
-            self.assertEqual((after.form, after.maxval, after.kept), (before.form, before.maxval, before.kept))
+            self.assertEqual((after.format, after.maxval, after.metadata), (before.format, before.maxval, before.metadata))
             flow = f"new/out/{name[0]}.flow.npy"
             saved = np.load(flow)
             self.assertEqual((saved.tolist(), saved.dtype), (result.flow.flat.tolist(), np.int32))
@@ -153,7 +153,7 @@ class Clean(Command):
         """The rounds of the library's own defaults; one scan needs no summary."""
         result = relief.clean(GREY, 640, (70, 180))
         words = ["clean", self.scan(), "-o", "out", *TERMS, "--report", "report.csv"]
-        self.assertEqual(self.main(*words), (0, said_of("a.pgm", result), ""))
+        self.assertEqual(self.main(*words), (0, result_line("a.pgm", result), ""))
         self.assertEqual([(row["quick"], row["steady"]) for row in self.rows()], [(str(relief.QUICK), str(relief.STEADY))])
         self.assertEqual(self.names("out"), ["a.pgm"])
 
@@ -162,12 +162,12 @@ class Clean(Command):
         strengths = np.full(GREY.shape, 63, np.uint8)
         strengths[:, 9] = 0
         strengths[5] = 50
-        self.write("w.pgm", binary(strengths, 63))
+        self.write("w.pgm", pgm_bytes(strengths, 63))
         weights = relief.weights_from_picture(strengths, 640, 63)
         result = cleaned(GREY, weights=weights)
         words = [*TERMS, "--weights", "w.pgm"]
         status, out, err = self.main("clean", self.scan(), "-o", "out", *words, *ROUNDS, "--save-flow", "--report", "r.csv")
-        self.assertEqual((status, out, err), (0, said_of("a.pgm", result), ""))
+        self.assertEqual((status, out, err), (0, result_line("a.pgm", result), ""))
         self.assertNotEqual(result.price, cleaned(GREY).price)
         self.assertEqual(self.rows("r.csv")[0]["weights"], "w.pgm")
         status, out, _ = self.main("check", "a.pgm", "--flow", "out/a.flow.npy", *words)
@@ -180,16 +180,16 @@ class Clean(Command):
         """A weight picture that is none ends the command; one of another size is a fault of each scan."""
         self.scan()
         self.write("w.pgm", b"P2 1 1 255\n256\n")
-        self.fails("w.pgm: a sample is not a number from 0 to 255", "clean", "a.pgm", "-o", "out", *TERMS,
-                   "--weights", "w.pgm")
+        self.assert_fails("w.pgm: a sample is not a number from 0 to 255", "clean", "a.pgm", "-o", "out", *TERMS,
+                          "--weights", "w.pgm")
         self.assertFalse(os.path.exists("out"))
         self.write("w.pgm", b"P2 1 2 255\n5 6\n")
         wrong = "the weight picture has 1 x 2 pixels, but the scan has 32 x 24"
-        self.fails(f"a.pgm: {wrong}", "clean", "a.pgm", "-o", "out", *TERMS, "--weights", "w.pgm",
-                   summary="relief-raster: 0 of 1 scans cleaned, 1 at fault\n")
+        self.assert_fails(f"a.pgm: {wrong}", "clean", "a.pgm", "-o", "out", *TERMS, "--weights", "w.pgm",
+                          summary="relief-raster: 0 of 1 scans cleaned, 1 at fault\n")
         np.save("image.npy", np.zeros(GREY.shape, int))
         for words in ["price", "a.pgm", "image.npy"], ["check", "a.pgm", "--flow", "image.npy"]:
-            self.fails(f"w.pgm: {wrong}", *words, *TERMS, "--weights", "w.pgm")
+            self.assert_fails(f"w.pgm: {wrong}", *words, *TERMS, "--weights", "w.pgm")
 
     def test_report(self):
         """A row for each scan: figures as in Python, bounds that are never below, and what is wrong."""
@@ -234,7 +234,8 @@ class Clean(Command):
                 self.assertGreater(len(image.convert("RGB").getcolors(2**24)), 50)
         result = cleaned(GREY)
         words = " ".join(" ".join(text.get_text() for text in result.plot().findobj(Text)).split())
-        for part in figures(result), bounds(result), "weight 640, box 70 to 180", "scan", "cleaned", "cleaned − scan":
+        for part in (format_figures(result), format_bounds(result), "weight 640, box 70 to 180", "scan", "cleaned",
+                     "cleaned − scan"):
             self.assertIn(part, words)
 
     def test_replaced(self):
@@ -246,7 +247,7 @@ class Clean(Command):
         os.symlink("kept.csv", "report.csv")
         status, _, err = self.main("clean", "a.pgm", "-o", "out", *TERMS, *ROUNDS, "--save-flow", "--report", "report.csv")
         self.assertEqual((status, err), (0, ""))
-        self.assertEqual(Path("out/a.pgm").read_bytes(), binary(cleaned(GREY).codes()))
+        self.assertEqual(Path("out/a.pgm").read_bytes(), pgm_bytes(cleaned(GREY).codes()))
         self.assertEqual(np.load("out/a.flow.npy").tolist(), cleaned(GREY).flow.flat.tolist())
         self.assertEqual(len(self.rows("kept.csv")), 1)
         self.assertTrue(os.path.islink("report.csv"))
@@ -262,14 +263,15 @@ class Clean(Command):
         self.scan("b.pgm")
         summary = "relief-raster: 0 of 1 scans cleaned, 1 at fault\n"
         read = "would replace a picture that is read: name another folder"
-        self.fails(f"a.pgm: not cleaned, for ./a.pgm {read}", "clean", "a.pgm", "-o", ".", *TERMS, summary=summary)
-        self.fails(f"a.pgm: not cleaned, for out/../a.pgm {read}", "clean", "a.pgm", "-o", "out/..", *TERMS, summary=summary)
-        self.fails(f"b.pgm: not cleaned, for ./b.pgm {read}", "clean", "b.pgm", "-o", ".", *TERMS, "--weights", "a.pgm",
-                   summary=summary)
-        self.fails("a.pgm: the report would replace a picture that is read", "clean", "a.pgm", "-o", "out", *TERMS,
-                   "--report", "a.pgm")
+        self.assert_fails(f"a.pgm: not cleaned, for ./a.pgm {read}", "clean", "a.pgm", "-o", ".", *TERMS, summary=summary)
+        self.assert_fails(f"a.pgm: not cleaned, for out/../a.pgm {read}", "clean", "a.pgm", "-o", "out/..", *TERMS,
+                          summary=summary)
+        self.assert_fails(f"b.pgm: not cleaned, for ./b.pgm {read}", "clean", "b.pgm", "-o", ".", *TERMS, "--weights", "a.pgm",
+                          summary=summary)
+        self.assert_fails("a.pgm: the report would replace a picture that is read", "clean", "a.pgm", "-o", "out", *TERMS,
+                          "--report", "a.pgm")
         status, out, err = self.main("clean", "a.pgm", "b.pgm", "-o", "out", *TERMS, *ROUNDS)
-        self.assertEqual((status, out), (1, said_of("a.pgm", cleaned(GREY))))
+        self.assertEqual((status, out), (1, result_line("a.pgm", cleaned(GREY))))
         self.assertEqual(err, f"relief-raster: b.pgm: not cleaned, for out/b.pgm {read}\n"
                               "relief-raster: 1 of 2 scans cleaned, 1 at fault\n")
 
@@ -280,11 +282,11 @@ class Clean(Command):
         Image.fromarray(255 - GREY).save("y/a.tif")
         self.write("x/r.pgm", b"P5 cut")
         status, out, err = self.main("clean", "x/r.pgm", "y/r.pgm", "-o", "first", *TERMS, *ROUNDS)
-        self.assertEqual((status, out), (1, said_of("y/r.pgm", cleaned(GREY))))  # a faulty one takes no name
+        self.assertEqual((status, out), (1, result_line("y/r.pgm", cleaned(GREY))))  # a faulty one takes no name
         other = "is the report or another scan's: clean it into another folder"
         status, out, err = self.main("clean", "x/a.pgm", "y/a.pgm", "y/a.tif", "y/r.pgm", "-o", "out", *TERMS, *ROUNDS,
                                      "--save-flow", "--report", "out/r.pgm")
-        self.assertEqual((status, out), (1, said_of("x/a.pgm", cleaned(GREY))))
+        self.assertEqual((status, out), (1, result_line("x/a.pgm", cleaned(GREY))))
         self.assertEqual(err.splitlines(), [f"relief-raster: y/a.pgm: not cleaned, for out/a.pgm {other}",
                                             f"relief-raster: y/a.tif: not cleaned, for out/a.flow.npy {other}",
                                             f"relief-raster: y/r.pgm: not cleaned, for out/r.pgm {other}",
@@ -297,17 +299,17 @@ class Clean(Command):
         self.scan()
         self.write("file", b"")
         os.mkdir("there")
-        self.fails("file: File exists", "clean", "a.pgm", "-o", "file", *TERMS)
-        self.fails("file/out: Not a directory", "clean", "a.pgm", "-o", "file/out", *TERMS)
-        self.fails("no/r.csv: No such file or directory", "clean", "a.pgm", "-o", "out", *TERMS, "--report", "no/r.csv")
-        self.fails("there: Is a directory", "clean", "a.pgm", "-o", "out", *TERMS, "--report", "there")
-        self.fails("/dev/null: not a regular file", "clean", "a.pgm", "-o", "out", *TERMS, "--report", "/dev/null")
+        self.assert_fails("file: File exists", "clean", "a.pgm", "-o", "file", *TERMS)
+        self.assert_fails("file/out: Not a directory", "clean", "a.pgm", "-o", "file/out", *TERMS)
+        self.assert_fails("no/r.csv: No such file or directory", "clean", "a.pgm", "-o", "out", *TERMS, "--report", "no/r.csv")
+        self.assert_fails("there: Is a directory", "clean", "a.pgm", "-o", "out", *TERMS, "--report", "there")
+        self.assert_fails("/dev/null: not a regular file", "clean", "a.pgm", "-o", "out", *TERMS, "--report", "/dev/null")
         os.mkdir("out/a.pgm")
-        self.fails("a.pgm: out/a.pgm: Is a directory", "clean", "a.pgm", "-o", "out", *TERMS, *ROUNDS,
-                   summary="relief-raster: 0 of 1 scans cleaned, 1 at fault\n")
+        self.assert_fails("a.pgm: out/a.pgm: Is a directory", "clean", "a.pgm", "-o", "out", *TERMS, *ROUNDS,
+                          summary="relief-raster: 0 of 1 scans cleaned, 1 at fault\n")
         name = self.scan(250 * "x" + ".pgm")
-        self.fails(f"{name}: out/{name[:-4]}.flow.npy: File name too long", "clean", name, "-o", "out", *TERMS,
-                   *ROUNDS, "--save-flow", summary="relief-raster: 0 of 1 scans cleaned, 1 at fault\n")
+        self.assert_fails(f"{name}: out/{name[:-4]}.flow.npy: File name too long", "clean", name, "-o", "out", *TERMS,
+                          *ROUNDS, "--save-flow", summary="relief-raster: 0 of 1 scans cleaned, 1 at fault\n")
 
     def test_report_lost(self):
         """A report that can no longer be written is told once, and the scans are cleaned all the same."""
@@ -320,9 +322,9 @@ class Clean(Command):
                 os.rmdir("reports")
             return GREY
 
-        with mock.patch("relief.command.clean.ask_same_size", lose):
+        with mock.patch("relief.command.clean.require_same_size", lose):
             status, out, err = self.main("clean", *names, "-o", "out", *TERMS, *ROUNDS, "--report", "reports/r.csv")
-        self.assertEqual((status, out), (1, "".join(said_of(name, cleaned(GREY)) for name in names)))
+        self.assertEqual((status, out), (1, "".join(result_line(name, cleaned(GREY)) for name in names)))
         self.assertEqual(err, "relief-raster: reports/r.csv: No such file or directory\n"
                               "relief-raster: 3 of 3 scans cleaned\n")
         self.assertEqual(self.names("out"), names)
@@ -387,7 +389,7 @@ class Faults(Command):
                 status, out, err = self.main("check", "a.pgm", "--flow", name, *TERMS)
                 self.assertEqual((status, out, err.count("\n")), (1, "", 1))
                 self.assertTrue(err.startswith(f"relief-raster: {name}: {message}"), err)
-        self.write("scaled.pgm", binary(GREY // 2, 127))
+        self.write("scaled.pgm", pgm_bytes(GREY // 2, 127))
         self.assertIn("scaled.pgm: maxval 127: samples scaled", self.main("price", "a.pgm", "scaled.pgm", *TERMS)[2])
         for scan, name, message in [
             ("a.pgm", "high.npy", "high.npy: refused 9 at 0 (image[0, 0]): "),
@@ -435,7 +437,7 @@ class Faults(Command):
         Image.fromarray(GREY.astype(np.uint16)).save("deep.tif")
         self.write("cut.png", Path("whole.png").read_bytes()[:-20])
         self.write("cut.tif", Path("whole.tif").read_bytes()[:-20])
-        self.write("cut.pgm", binary(GREY)[:-1])
+        self.write("cut.pgm", pgm_bytes(GREY)[:-1])
         self.write("text\n.pgm", b"some text\n")
         self.write(os.fsdecode(b"empty\xff.png"), b"")
         self.write("large.pgm", b"P5 1025 1024 255\n")
@@ -452,16 +454,16 @@ class Faults(Command):
                "missing.pgm": "No such file or directory", "folder": "Is a directory", "locked.pgm": "Permission denied",
                "large.pgm": f"refused 1 at 0 (1025 x 1024 pixels): {ADVICE}"}
         scans = good[:3] + list(bad) + good[3:]
-        status, out, err = self.run_apart("clean", "-o", "out", *TERMS, *ROUNDS, "--report", "report.csv", "--", *scans,
-                                          preexec_fn=without_rights)
+        status, out, err = self.run_process("clean", "-o", "out", *TERMS, *ROUNDS, "--report", "report.csv", "--", *scans,
+                                            preexec_fn=without_rights)
         shown = {name: name.replace("\n", "\\n").replace("\udcff", "\\udcff").replace("\udcfe", "\\udcfe") for name in scans}
-        self.assertEqual(out, "".join(said_of(shown[name], cleaned(GREY)) for name in good))
+        self.assertEqual(out, "".join(result_line(shown[name], cleaned(GREY)) for name in good))
         self.assertEqual(err.splitlines(), [f"relief-raster: {shown[name]}: {fault}" for name, fault in bad.items()]
                          + ["relief-raster: 6 of 19 scans cleaned, 13 at fault"])
         self.assertEqual(status, 1)
         self.assertEqual(self.names("out"), sorted(good))
         for name in good:
-            self.assertEqual(Path("out", name).read_bytes(), binary(cleaned(GREY).codes()))
+            self.assertEqual(Path("out", name).read_bytes(), pgm_bytes(cleaned(GREY).codes()))
         rows = self.rows()
         self.assertEqual([row["file"] for row in rows], scans)
         self.assertEqual([row["fault"] for row in rows], [bad.get(name, "") for name in scans])
@@ -479,7 +481,7 @@ class Faults(Command):
                 "closed", f"a.pgm: closed/a.pgm: Permission denied\n{summary}"), (
                 "kept", f"a.pgm: kept/a.pgm: Permission denied\n{summary}"):
             words = ["clean", "a.pgm", "-o", folder, *TERMS, *ROUNDS]
-            self.assertEqual(self.run_apart(*words, preexec_fn=without_rights), (1, "", f"relief-raster: {fault}"))
+            self.assertEqual(self.run_process(*words, preexec_fn=without_rights), (1, "", f"relief-raster: {fault}"))
         self.assertEqual(self.tree(), before)
 
     def test_disk_full(self):
@@ -493,9 +495,9 @@ class Faults(Command):
             signal.signal(signal.SIGXFSZ, signal.SIG_IGN)
             resource.setrlimit(resource.RLIMIT_FSIZE, (500, 500))
 
-        status, out, err = self.run_apart("clean", "a.pgm", "small.pgm", "b.pgm", "-o", "out", *TERMS, *ROUNDS,
-                                          "--report", "report.csv", preexec_fn=limit)
-        self.assertEqual((status, out), (1, said_of("small.pgm", cleaned(GREY[:3, :3]))))
+        status, out, err = self.run_process("clean", "a.pgm", "small.pgm", "b.pgm", "-o", "out", *TERMS, *ROUNDS,
+                                            "--report", "report.csv", preexec_fn=limit)
+        self.assertEqual((status, out), (1, result_line("small.pgm", cleaned(GREY[:3, :3]))))
         self.assertEqual(err.splitlines(), ["relief-raster: a.pgm: out/a.pgm: File too large",
                                             "relief-raster: b.pgm: out/b.pgm: File too large",
                                             "relief-raster: 1 of 3 scans cleaned, 2 at fault"])
@@ -517,29 +519,29 @@ class Signals(Command):
     def setUp(self):
         super().setUp()
         for number in signal.SIGINT, signal.SIGTERM, signal.SIGHUP:  # whoever runs the tests may ignore one, as nohup does
-            former = signal.signal(number, signal.SIG_DFL)
-            self.addCleanup(signal.signal, number, former)
+            previous = signal.signal(number, signal.SIG_DFL)
+            self.addCleanup(signal.signal, number, previous)
         self.scan("small.pgm")
         self.scan("other.pgm")
-        self.write("large.pgm", binary(np.random.default_rng(2).integers(0, 256, (1024, 1024), dtype=np.uint8)))
+        self.write("large.pgm", pgm_bytes(np.random.default_rng(2).integers(0, 256, (1024, 1024), dtype=np.uint8)))
 
     def long_run(self):
         """A batch whose second scan takes minutes, while that one is cleaned."""
         words = ["clean", "small.pgm", "large.pgm", "other.pgm", "-o", "out", *TERMS, "--quick", "4096", "--steady", "65535",
                  "--report", "report.csv", "--save-flow"]
         process = self.start(*words, stdout=subprocess.PIPE, stderr=subprocess.PIPE)
-        self.addCleanup(self.end, process)
+        self.addCleanup(self.kill_process, process)
         self.assertTrue(process.stdout.readline().startswith(b"small.pgm: "))
         time.sleep(0.2)
         self.assertIsNone(process.poll())
         return process
 
-    def end(self, process):
+    def kill_process(self, process):
         if process.poll() is None:
             process.kill()
         process.communicate()
 
-    def ends(self, process, number):
+    def assert_dies_by_signal(self, process, number):
         """Sends the signal, of which the process dies within a second; what it still says."""
         start = time.perf_counter()
         process.send_signal(number)
@@ -552,7 +554,7 @@ class Signals(Command):
         due = cleaned(GREY)
         for number in signal.SIGINT, signal.SIGTERM, signal.SIGHUP, signal.SIGKILL:
             with self.subTest(number):
-                out, err = self.ends(self.long_run(), number)
+                out, err = self.assert_dies_by_signal(self.long_run(), number)
                 killed = number == signal.SIGKILL
                 self.assertEqual(out, "")
                 self.assertEqual(err, "" if killed else "relief-raster: interrupted; 1 of 3 scans are cleaned, and what is"
@@ -571,17 +573,17 @@ class Signals(Command):
             out = f"out{lines}"
             process = self.start("clean", *names, "-o", out, *TERMS, *ROUNDS, "--report", "report.csv",
                                  stdout=subprocess.PIPE, stderr=subprocess.PIPE)
-            self.addCleanup(self.end, process)
+            self.addCleanup(self.kill_process, process)
             told = [process.stdout.readline().decode() for _ in range(lines)]
-            text, err = self.ends(process, number)
+            text, err = self.assert_dies_by_signal(process, number)
             told += text.splitlines(keepends=True)
             done = self.names(out)
-            self.assertEqual(told, [said_of(name, cleaned(GREY)) for name in names[:len(told)]])
+            self.assertEqual(told, [result_line(name, cleaned(GREY)) for name in names[:len(told)]])
             self.assertIn(len(done) - len(told), (0, 1))
             self.assertEqual(set(done), set(names[:len(done)]))
             self.assertLess(len(done), 2000)
             for name in done:
-                self.assertEqual(Path(out, name).read_bytes(), binary(cleaned(GREY).codes()))
+                self.assertEqual(Path(out, name).read_bytes(), pgm_bytes(cleaned(GREY).codes()))
             rows = self.rows()
             self.assertEqual([row["file"] for row in rows], names[:len(rows)])
             self.assertIn(len(rows), (len(told), len(done)))
@@ -600,11 +602,11 @@ class Signals(Command):
 
     def interrupted(self, *words):
         """Runs a batch here, in which a signal comes; its figures are in the report, and the command dies of it."""
-        former = {number: signal.getsignal(number) for number in (signal.SIGINT, signal.SIGTERM, signal.SIGHUP)}
-        with mock.patch("relief.command.die_of") as die_of:
+        previous = {number: signal.getsignal(number) for number in (signal.SIGINT, signal.SIGTERM, signal.SIGHUP)}
+        with mock.patch("relief.command.die_by_signal") as die_by_signal:
             _, _, err = self.main("clean", "small.pgm", "other.pgm", "-o", "out", *words, "--report", "report.csv")
-        die_of.assert_called_once_with(signal.SIGTERM)
-        for number, handler in former.items():
+        die_by_signal.assert_called_once_with(signal.SIGTERM)
+        for number, handler in previous.items():
             self.assertEqual(signal.signal(number, handler), signal.SIG_IGN)  # until it has died
         names = [row["file"] for row in self.rows()]
         self.assertEqual(self.names("out"), sorted(names))
@@ -617,9 +619,9 @@ class Signals(Command):
             with contextlib.suppress(BaseException):
                 signal.raise_signal(signal.SIGTERM)
 
-        with mock.patch("relief.command.clean.ask_same_size", lose):
+        with mock.patch("relief.command.clean.require_same_size", lose):
             self.assertEqual(self.interrupted(*TERMS, "--quick", "4096", "--steady", "65535"), [])
-        with mock.patch("relief.command.clean.tell", lambda text: lose() if "other" in text else None):
+        with mock.patch("relief.command.clean.print_result", lambda text: lose() if "other" in text else None):
             self.assertEqual(self.interrupted(*TERMS, *ROUNDS), ["small.pgm", "other.pgm"])
 
     def test_killed_while_writing(self):
@@ -628,7 +630,7 @@ class Signals(Command):
         child = os.fork()
         if not child:
             os.fsync = lambda _: len(os.listdir("out")) == 3 and os.kill(os.getpid(), signal.SIGKILL)
-            files.replace({"out/one": b"new one", "out/two": b"new two"})
+            files.write_atomically({"out/one": b"new one", "out/two": b"new two"})
             os._exit(0)
         self.assertEqual(os.waitpid(child, 0)[1], signal.SIGKILL)
         names = self.names("out")
@@ -639,13 +641,13 @@ class Signals(Command):
         """A signal while the report is written: it has the row of the scan that was cleaned, and of no other."""
         calls = []
 
-        def replace(outputs):
+        def write_and_interrupt(outputs):
             calls.append(outputs)
             if len(calls) == 2:
                 signal.raise_signal(signal.SIGTERM)
-            files.replace(outputs)
+            files.write_atomically(outputs)
 
-        with mock.patch("relief.command.report.replace", replace):
+        with mock.patch("relief.command.report.write_atomically", write_and_interrupt):
             self.assertEqual(self.interrupted(*TERMS, *ROUNDS), ["small.pgm"])
 
     def test_every_moment(self):
@@ -670,7 +672,7 @@ class Signals(Command):
 
             sys.settrace(trace)
             try:
-                files.replace(outputs)
+                files.write_atomically(outputs)
             except Stop:
                 return True
             finally:
@@ -724,8 +726,8 @@ class Streams(Command):
         name = "a long name " * 3 + ".pgm"
         self.scan("small.pgm")
         samples = np.random.default_rng(2).integers(0, 256, (1024, 1024), dtype=np.uint8)
-        self.write(name, binary(samples))
-        rounds = min(int(1000 * 2.2 / progress.estimated_seconds(samples, 1000, 0)), 4096)  # some two seconds
+        self.write(name, pgm_bytes(samples))
+        rounds = min(int(1000 * 2.2 / progress.estimate_seconds(samples, 1000, 0)), 4096)  # some two seconds
         out, shown = self.on_terminal("clean", "small.pgm", name, "-o", "out", *TERMS, "--quick", str(rounds),
                                       "--steady", "0")
         self.assertEqual([line.split(":")[0] for line in out.splitlines()], ["small.pgm", name])
@@ -744,15 +746,15 @@ class Streams(Command):
     def test_short_on_terminal(self):
         self.scan()
         self.assertEqual(self.on_terminal("clean", "a.pgm", "-o", "out", *TERMS, *ROUNDS),
-                         (said_of("a.pgm", cleaned(GREY)), ""))
+                         (result_line("a.pgm", cleaned(GREY)), ""))
 
     def test_share(self):
         """Never all of it before the end, and no division by an estimate of nothing."""
-        self.assertEqual(progress.share(0.5, 2), "25 % of at most about 2.0 s")
-        self.assertEqual(progress.share(9, 2), "99 % of at most about 2.0 s")
-        self.assertEqual(progress.share(9, 0), "99 % of at most about 0.1 s")
-        self.assertGreater(progress.estimated_seconds(GREY[:1, :1], 4096, 65535), 0)
-        self.assertEqual(progress.estimated_seconds(GREY, 0, 0), 0)
+        self.assertEqual(progress.format_share(0.5, 2), "25 % of at most about 2.0 s")
+        self.assertEqual(progress.format_share(9, 2), "99 % of at most about 2.0 s")
+        self.assertEqual(progress.format_share(9, 0), "99 % of at most about 0.1 s")
+        self.assertGreater(progress.estimate_seconds(GREY[:1, :1], 4096, 65535), 0)
+        self.assertEqual(progress.estimate_seconds(GREY, 0, 0), 0)
 
     def test_nobody_reads(self):
         """A pipe that is closed, a full disk behind standard output, and closed streams: no traceback."""
@@ -792,7 +794,7 @@ class Streams(Command):
     def test_version(self):
         header = (TOP / "include/relief.h").read_text()
         version = re.search(r'RELIEF_VERSION_STRING "(.*)"', header)[1]
-        self.assertEqual(self.run_apart("--version"), (0, f"relief-raster {version}\n", ""))
+        self.assertEqual(self.run_process("--version"), (0, f"relief-raster {version}\n", ""))
 
 
 def set_columns(terminal, columns):

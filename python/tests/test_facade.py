@@ -14,8 +14,8 @@ import numpy as np
 from PIL import Image
 
 import relief
+from relief.formatting import format_bounds, format_figures
 from relief.pictures import read_picture
-from relief.wording import bounds, figures
 
 TOP = Path(__file__).resolve().parents[2]
 
@@ -31,13 +31,13 @@ class Facade(unittest.TestCase):
                      "--picture", "--save-flow"]
             done = subprocess.run([sys.executable, "-B", "-m", "relief", *words], cwd=folder, capture_output=True, text=True,
                                   env={**os.environ, "PYTHONPATH": str(TOP / "python")})
-            self.compare(Path(folder), read_picture(scan), done)
+            self.assert_same_answer(Path(folder), read_picture(scan), done)
 
-    def compare(self, folder, scan, done):
+    def assert_same_answer(self, folder, scan, done):
         """What the command says and writes is what Python gives; a long run says nothing more in a pipe."""
         result = relief.clean(scan.codes, weight=640, box=(0, 255))
         self.assertEqual((done.returncode, done.stderr), (0, ""))
-        self.assertEqual(done.stdout, f"facade.pgm: {figures(result)}; {bounds(result)}\n")
+        self.assertEqual(done.stdout, f"facade.pgm: {format_figures(result)}; {format_bounds(result)}\n")
         self.assertEqual(sorted(os.listdir(folder / "out")), ["facade.flow.npy", "facade.pgm", "facade.picture.png"])
         after = read_picture(folder / "out/facade.pgm")
         self.assertTrue(np.array_equal(after.samples, result.codes()))

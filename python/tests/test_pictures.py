@@ -26,15 +26,15 @@ import pgm2tape  # noqa: E402
 GREY = np.random.default_rng(1).integers(0, 256, (13, 11), dtype=np.uint8)
 DEEP = np.arange(12, dtype=np.uint16).reshape(3, 4)
 COMPRESSIONS = "raw", "packbits", "tiff_lzw", "tiff_adobe_deflate"
-PASSES = (0, 0, 8, 8), (0, 4, 8, 8), (4, 0, 8, 4), (0, 2, 4, 4), (2, 0, 4, 2), (0, 1, 2, 2), (1, 0, 2, 1)
+ADAM7_PASSES = (0, 0, 8, 8), (0, 4, 8, 8), (4, 0, 8, 4), (0, 2, 4, 4), (2, 0, 4, 2), (0, 1, 2, 2), (1, 0, 2, 1)
 
 
-def saved(picture, form, **options):
+def pillow_bytes(picture, format_name, **options):
     """The bytes of a picture as Pillow saves it."""
     if isinstance(picture, np.ndarray):
         picture = Image.fromarray(picture)
     file = io.BytesIO()
-    picture.save(file, form, **options)
+    picture.save(file, format_name, **options)
     return file.getvalue()
 
 
@@ -43,15 +43,15 @@ def chunk(kind, body):
     return struct.pack(">I", len(body)) + kind + body + struct.pack(">I", zlib.crc32(kind + body))
 
 
-def png(samples=GREY, *chunks, heading=None, rows=None, interlaced=False):
+def png(samples=GREY, *chunks, header=None, rows=None, interlaced=False):
     """A PNG picture made by hand: with chunks before its data, another heading, or other rows."""
     height, width = samples.shape
-    if heading is None:
-        heading = struct.pack(">IIBBBBB", width, height, 8, 0, 0, 0, interlaced)
+    if header is None:
+        header = struct.pack(">IIBBBBB", width, height, 8, 0, 0, 0, interlaced)
     if rows is None:
-        parts = [samples[top::down, left::right] for top, left, down, right in PASSES] if interlaced else [samples]
+        parts = [samples[top::down, left::right] for top, left, down, right in ADAM7_PASSES] if interlaced else [samples]
         rows = b"".join(b"\0" + row.tobytes() for part in parts if part.size for row in part)
-    return b"".join([b"\x89PNG\r\n\x1a\n", chunk(b"IHDR", heading), *chunks, chunk(b"IDAT", zlib.compress(rows)),
+    return b"".join([b"\x89PNG\r\n\x1a\n", chunk(b"IHDR", header), *chunks, chunk(b"IDAT", zlib.compress(rows)),
                      chunk(b"IEND", b"")])
 
 
@@ -112,15 +112,15 @@ class Pictures(unittest.TestCase):
         folder = tempfile.TemporaryDirectory()
         self.addCleanup(folder.cleanup)
         self.folder, self.files = folder.name, 0
-        self.said, self.former = tempfile.TemporaryFile(), os.dup(2)
-        self.addCleanup(self.hear)
+        self.stderr, self.saved_stderr = tempfile.TemporaryFile(), os.dup(2)
+        self.addCleanup(self.assert_stderr_empty)
 
-    def hear(self):
+    def assert_stderr_empty(self):
         """Nothing has come to standard error."""
-        os.close(self.former)
-        with self.said:
-            self.said.seek(0)
-            self.assertEqual(self.said.read(), b"")
+        os.close(self.saved_stderr)
+        with self.stderr:
+            self.stderr.seek(0)
+            self.assertEqual(self.stderr.read(), b"")
 
     def read(self, data):
         self.files += 1
@@ -128,34 +128,34 @@ class Pictures(unittest.TestCase):
         with open(path, "wb") as file:
             file.write(data)
         sys.stderr.flush()
-        os.dup2(self.said.fileno(), 2)
+        os.dup2(self.stderr.fileno(), 2)
         try:
             return read_picture(path)
         finally:
             sys.stderr.flush()
-            os.dup2(self.former, 2)
+            os.dup2(self.saved_stderr, 2)
             os.unlink(path)
 
-    def fails(self, data, words, error=ValueError):
+    def assert_fails(self, data, words, error=ValueError):
         with self.assertRaises(error) as raised:
             self.read(data)
         self.assertIs(type(raised.exception), error)
         self.assertIn(words, str(raised.exception))
         self.assertNotIn("\n", str(raised.exception))
 
-    def comes_back(self, data, samples=GREY, form=None):
+    def assert_round_trip(self, data, samples=GREY, format_name=None):
         """The picture, which has these samples, and again when it is written with them and others; and those bytes."""
         picture = self.read(data)
         self.assertEqual((picture.samples.tolist(), picture.samples.dtype), (samples.tolist(), np.uint8))
-        self.assertEqual(picture.form, form or picture.form)
+        self.assertEqual(picture.format, format_name or picture.format)
         other = picture.maxval - samples
-        written = picture.encoded(other)
+        written = picture.encode(other)
         again = self.read(written)
         self.assertEqual(again.samples.tolist(), other.tolist())
-        self.assertEqual((again.form, again.maxval, again.kept), (picture.form, picture.maxval, picture.kept))
+        self.assertEqual((again.format, again.maxval, again.metadata), (picture.format, picture.maxval, picture.metadata))
         return picture, written
 
-    def fault_or_same(self, data, samples=GREY):
+    def assert_refused_or_same(self, data, samples=GREY):
         """A damaged picture is a fault that is told, or its samples are the same."""
         try:
             found = self.read(data).samples
@@ -167,14 +167,14 @@ class Pictures(unittest.TestCase):
 
 
 class Pgm(Pictures):
-    def test_forms(self):
+    def test_formats(self):
         plain = b"P2 # a\n#b\n2 # c\r\n1#d\n\n255 # e\n7 # f\n9\n# g"
-        picture, written = self.comes_back(plain, np.array([[7, 9]], np.uint8), "PGM")
+        picture, written = self.assert_round_trip(plain, np.array([[7, 9]], np.uint8), "PGM")
         self.assertEqual(written, b"P2\n2 1\n255\n248 246\n")
         binary = b"P5\n# made by hand\n2 1\n# once more\n255\n##"
-        picture, written = self.comes_back(binary, np.array([[35, 35]], np.uint8), "PGM")
+        picture, written = self.assert_round_trip(binary, np.array([[35, 35]], np.uint8), "PGM")
         self.assertEqual(written, b"P5\n2 1\n255\n\xdc\xdc")
-        self.comes_back(b"P5 11 13 255 " + GREY.tobytes())
+        self.assert_round_trip(b"P5 11 13 255 " + GREY.tobytes())
 
     def test_scaled_as_the_scripts_do(self):
         """Codes as pgm2tape.py has them, and samples of an image as answer2pgm.py."""
@@ -183,12 +183,12 @@ class Pgm(Pictures):
             values = np.arange(2 * (maxval + 1)).reshape(2, -1) * 65535 // (2 * maxval + 1)
             text = pgm.text(samples.tolist(), maxval).encode()
             for data in text, b"P5 %d 2 %d\n" % (maxval + 1, maxval) + samples.tobytes():
-                picture, _ = self.comes_back(data, samples)
+                picture, _ = self.assert_round_trip(data, samples)
                 self.assertEqual(picture.maxval, maxval)
                 self.assertEqual((picture.codes.tolist(), picture.maxval), pgm2tape.read(data))
                 self.assertEqual(picture.codes.dtype, np.uint8)
                 due = [[answer2pgm.sample(int(value), maxval) for value in row] for row in values]
-                found = self.read(picture.encoded((values * (maxval + 1) // 65536).astype(np.uint8)))
+                found = self.read(picture.encode((values * (maxval + 1) // 65536).astype(np.uint8)))
                 self.assertEqual(found.samples.tolist(), due)
 
     def test_faults(self):
@@ -215,102 +215,103 @@ class Pgm(Pictures):
             (b"P2 1 1 65535\n0", "maxval 65535: samples of 16 bits are not taken"),
         ]:
             with self.subTest(data[:20]):
-                self.fails(data, words)
+                self.assert_fails(data, words)
 
     def test_sizes(self):
         """By the heading alone."""
         for size in "0 5", "5 0", "4097 1", "1 4097", "1025 1024", "999999999 999999999":
             for kind in "P2", "P5":
-                self.fails(f"{kind} {size} 255\n".encode(), f"refused 1 at 0 ({size.replace(' ', ' x ')} pixels)", Refused)
+                self.assert_fails(f"{kind} {size} 255\n".encode(), f"refused 1 at 0 ({size.replace(' ', ' x ')} pixels)",
+                                  Refused)
 
     def test_cut(self):
         samples = GREY[:5]
         binary = b"P5\n# a\n11 5\n255\n" + samples.tobytes()
         for length in range(len(binary)):
-            self.assertFalse(self.fault_or_same(binary[:length], samples))
+            self.assertFalse(self.assert_refused_or_same(binary[:length], samples))
         plain = pgm.text((100 + samples % 100).tolist()).encode()  # what is left of a number shows that it was cut
         for length in range(len(plain) - 4):
-            self.assertFalse(self.fault_or_same(plain[:length], samples))
+            self.assertFalse(self.assert_refused_or_same(plain[:length], samples))
 
 
 class Png(Pictures):
     def test_resolution(self):
         for unit in 0, 1:
             body = struct.pack(">IIB", 11811, 2**31 - 1, unit)
-            _, written = self.comes_back(png(GREY, chunk(b"pHYs", body)), form="PNG")
+            _, written = self.assert_round_trip(png(GREY, chunk(b"pHYs", body)), format_name="PNG")
             self.assertEqual(written.count(chunk(b"pHYs", body)), 1)
-        for data in png(), saved(GREY, "PNG"):
-            self.assertNotIn(b"pHYs", self.comes_back(data)[1])
-        data = saved(GREY, "PNG", dpi=(300, 300.3))
-        with Image.open(io.BytesIO(self.comes_back(data)[1])) as image:
+        for data in png(), pillow_bytes(GREY, "PNG"):
+            self.assertNotIn(b"pHYs", self.assert_round_trip(data)[1])
+        data = pillow_bytes(GREY, "PNG", dpi=(300, 300.3))
+        with Image.open(io.BytesIO(self.assert_round_trip(data)[1])) as image:
             self.assertEqual(image.info["dpi"], Image.open(io.BytesIO(data)).info["dpi"])
 
-    def test_forms(self):
+    def test_formats(self):
         """Interlaced, of every small size; in several pieces; with words beside it."""
         for height in range(1, 10):
             for width in range(1, 10):
                 samples = GREY[:height, :width]
                 self.assertEqual(self.read(png(samples, interlaced=True)).samples.tolist(), samples.tolist())
-        self.comes_back(png(interlaced=True))
+        self.assert_round_trip(png(interlaced=True))
         large = np.random.default_rng(2).integers(0, 256, (300, 400), dtype=np.uint8)
-        self.assertGreater(saved(large, "PNG").count(b"IDAT"), 1)
-        self.comes_back(saved(large, "PNG"), large)
+        self.assertGreater(pillow_bytes(large, "PNG").count(b"IDAT"), 1)
+        self.assert_round_trip(pillow_bytes(large, "PNG"), large)
         words = chunk(b"zTXt", b"long\0\0" + zlib.compress(bytes(2000000)))
-        self.comes_back(png(GREY, chunk(b"gAMA", struct.pack(">I", 45455)), words))
+        self.assert_round_trip(png(GREY, chunk(b"gAMA", struct.pack(">I", 45455)), words))
 
     def test_faults(self):
         still = Image.fromarray(GREY)
         for data, words in [
-            (saved(DEEP, "PNG"), "has 16 bits for a sample: save it with 8"),
-            (saved(still.convert("1"), "PNG"), "has 1 bits"),
-            (png(heading=struct.pack(">IIBBBBB", 11, 13, 2, 0, 0, 0, 0)), "has 2 bits"),
-            (png(heading=struct.pack(">IIBBBBB", 11, 13, 4, 0, 0, 0, 0)), "has 4 bits"),
-            (saved(still.convert("P"), "PNG"), "has a palette: save it as a grey picture"),
-            (saved(still.convert("RGB"), "PNG"), "has colour: save it as a grey picture"),
-            (saved(still.convert("LA"), "PNG"), "has transparency: save it as a grey picture"),
-            (saved(still.convert("RGBA"), "PNG"), "has colour and transparency: save it as a grey picture"),
-            (png(heading=struct.pack(">IIBBBBB", 11, 13, 8, 7, 0, 0, 0)), "has an unknown kind of colour"),
-            (saved(GREY, "PNG", transparency=7), "has a transparent value"),
-            (saved(still, "PNG", save_all=True, append_images=[Image.fromarray(255 - GREY)]), "is animated"),
-            (png(heading=b"short"), "cut off or damaged, not a whole PNG picture"),
-            (png(heading=struct.pack(">IIBBBBB", 11, 13, 8, 0, 9, 9, 9)), "cut off or damaged"),
+            (pillow_bytes(DEEP, "PNG"), "has 16 bits for a sample: save it with 8"),
+            (pillow_bytes(still.convert("1"), "PNG"), "has 1 bits"),
+            (png(header=struct.pack(">IIBBBBB", 11, 13, 2, 0, 0, 0, 0)), "has 2 bits"),
+            (png(header=struct.pack(">IIBBBBB", 11, 13, 4, 0, 0, 0, 0)), "has 4 bits"),
+            (pillow_bytes(still.convert("P"), "PNG"), "has a palette: save it as a grey picture"),
+            (pillow_bytes(still.convert("RGB"), "PNG"), "has colour: save it as a grey picture"),
+            (pillow_bytes(still.convert("LA"), "PNG"), "has transparency: save it as a grey picture"),
+            (pillow_bytes(still.convert("RGBA"), "PNG"), "has colour and transparency: save it as a grey picture"),
+            (png(header=struct.pack(">IIBBBBB", 11, 13, 8, 7, 0, 0, 0)), "has an unknown kind of colour"),
+            (pillow_bytes(GREY, "PNG", transparency=7), "has a transparent value"),
+            (pillow_bytes(still, "PNG", save_all=True, append_images=[Image.fromarray(255 - GREY)]), "is animated"),
+            (png(header=b"short"), "cut off or damaged, not a whole PNG picture"),
+            (png(header=struct.pack(">IIBBBBB", 11, 13, 8, 0, 9, 9, 9)), "cut off or damaged"),
             (png(rows=b"\0" + GREY[0].tobytes()), "cut off or damaged"),
             (png(rows=(b"\0" + GREY[0].tobytes()) * 14), "cut off or damaged"),
             (png(rows=(b"\7" + GREY[0].tobytes()) * 13), "cut off or damaged"),
             (png(GREY, chunk(b"IHDR", struct.pack(">IIBBBBB", 7, 7, 8, 0, 0, 0, 0))), "cut off or damaged"),
             (png(GREY, chunk(b"IEND", b"")), "cut off or damaged"),
-            (saved(GREY, "JPEG"), "not a PGM (P2 or P5), PNG or TIFF picture"),
-            (saved(GREY, "GIF"), "not a PGM (P2 or P5), PNG or TIFF picture"),
+            (pillow_bytes(GREY, "JPEG"), "not a PGM (P2 or P5), PNG or TIFF picture"),
+            (pillow_bytes(GREY, "GIF"), "not a PGM (P2 or P5), PNG or TIFF picture"),
         ]:
             with self.subTest(words):
-                self.fails(data, words)
+                self.assert_fails(data, words)
 
     def test_sizes(self):
         """By the heading alone, without the memory that such a picture needs."""
         for size in (0, 5), (5, 0), (4097, 1), (1025, 1024), (60000, 60000), (2**32 - 1, 2**32 - 1):
-            heading = struct.pack(">IIBBBBB", *size, 8, 0, 0, 0, 0)
-            self.fails(png(heading=heading), "refused 1 at 0 ({} x {} pixels)".format(*size), Refused)
+            header = struct.pack(">IIBBBBB", *size, 8, 0, 0, 0, 0)
+            self.assert_fails(png(header=header), "refused 1 at 0 ({} x {} pixels)".format(*size), Refused)
 
     def test_cut(self):
-        for data in png(GREY, chunk(b"pHYs", bytes(9))), saved(GREY, "PNG"):
+        for data in png(GREY, chunk(b"pHYs", bytes(9))), pillow_bytes(GREY, "PNG"):
             for length in range(len(data)):
-                self.assertFalse(self.fault_or_same(data[:length]))
+                self.assertFalse(self.assert_refused_or_same(data[:length]))
 
     def test_flipped(self):
         """A bit that is not as it was, at any place, does not go unseen."""
-        data = saved(GREY, "PNG", dpi=(300, 300))
+        data = pillow_bytes(GREY, "PNG", dpi=(300, 300))
         for place in range(len(data)):
             with self.subTest(place):
                 flipped = bytearray(data)
                 flipped[place] ^= 1 << place % 8
-                self.assertFalse(self.fault_or_same(flipped))
+                self.assertFalse(self.assert_refused_or_same(flipped))
 
 
 class Tiff(Pictures):
-    def test_forms(self):
+    def test_formats(self):
         for compression in COMPRESSIONS:
-            data = saved(GREY, "TIFF", compression=compression)
-            picture, written = self.comes_back(data, form="TIFF")
+            data = pillow_bytes(GREY, "TIFF", compression=compression)
+            picture, written = self.assert_round_trip(data, format_name="TIFF")
             with Image.open(io.BytesIO(written)) as image:
                 self.assertEqual(image.info["compression"], compression)
             self.assertEqual(resolution(written), {})
@@ -318,17 +319,17 @@ class Tiff(Pictures):
             for layout in {}, {"rows": 5}, {"rows": 1, "gap": b"?"}, {"tile": 16}, {"tile": 16, "gap": b"??"}:
                 for packed in False, True:
                     with self.subTest(order=order, packed=packed, **layout):
-                        self.comes_back(tiff(order=order, packed=packed, **layout))
+                        self.assert_round_trip(tiff(order=order, packed=packed, **layout))
         large = np.random.default_rng(3).integers(0, 256, (300, 400), dtype=np.uint8)
         for compression in COMPRESSIONS:
-            self.comes_back(saved(large, "TIFF", compression=compression), large)
-        self.comes_back(tiff(large, ">", tile=64), large)
+            self.assert_round_trip(pillow_bytes(large, "TIFF", compression=compression), large)
+        self.assert_round_trip(tiff(large, ">", tile=64), large)
         differences = TiffImagePlugin.ImageFileDirectory_v2()
         differences[317] = 2
-        self.comes_back(saved(large, "TIFF", compression="tiff_lzw", tiffinfo=differences), large)
-        data = saved(large, "TIFF", compression="jpeg")
+        self.assert_round_trip(pillow_bytes(large, "TIFF", compression="tiff_lzw", tiffinfo=differences), large)
+        data = pillow_bytes(large, "TIFF", compression="jpeg")
         with Image.open(io.BytesIO(data)) as image:
-            self.comes_back(data, np.array(image))
+            self.assert_round_trip(data, np.array(image))
 
     def test_resolution(self):
         """As it stands in the file, whatever its unit and compression."""
@@ -336,39 +337,39 @@ class Tiff(Pictures):
         for order in "<", ">":
             for unit in 1, 2, 3, None:
                 fields = {"_282": ("R", due[282]), "_283": ("R", due[283]), "_296": unit and ("H", [unit])}
-                _, written = self.comes_back(tiff(order=order, **fields))
+                _, written = self.assert_round_trip(tiff(order=order, **fields))
                 kept = {tag: value for tag, value in {**due, 296: unit}.items() if value is not None}
                 self.assertEqual(resolution(written), kept)
         tags = TiffImagePlugin.ImageFileDirectory_v2()
         for tag, value in due.items():
             tags[tag] = value if tag == 296 else TiffImagePlugin.IFDRational(*value)
         for compression in COMPRESSIONS[1:]:
-            data = saved(GREY, "TIFF", compression=compression, tiffinfo=tags)
-            _, written = self.comes_back(data)
+            data = pillow_bytes(GREY, "TIFF", compression=compression, tiffinfo=tags)
+            _, written = self.assert_round_trip(data)
             self.assertEqual(resolution(written), resolution(data))
             picture = self.read(tiff(_282=("R", due[282]), _283=("R", due[283]), _296=("H", [3])))
-            picture.kept["compression"] = compression
-            self.assertEqual(resolution(picture.encoded(GREY)), due)
+            picture.metadata["compression"] = compression
+            self.assertEqual(resolution(picture.encode(GREY)), due)
         for odd in (0, 0), (5, 0), (0, 7), (2**32 - 1, 1), (600, 2):
-            picture, _ = self.comes_back(tiff(_282=("R", odd)))
-            self.assertEqual(picture.kept["resolution"], {282: odd})
+            picture, _ = self.assert_round_trip(tiff(_282=("R", odd)))
+            self.assertEqual(picture.metadata["resolution"], {282: odd})
 
     def test_faults(self):
         still = Image.fromarray(GREY)
         cut = "cut off or damaged, not a whole TIFF picture"
         for data, words in [
-            (saved(DEEP, "TIFF"), "has 16 bits for a sample: save it with 8"),
-            (saved(still.convert("1"), "TIFF"), "has 1 bits for a sample: save it with 8"),
-            (saved(GREY.astype(np.float32), "TIFF"), "has 32 bits for a sample: save it with 8"),
-            (saved(GREY.astype(np.int32), "TIFF"), "has 32 bits for a sample: save it with 8"),
+            (pillow_bytes(DEEP, "TIFF"), "has 16 bits for a sample: save it with 8"),
+            (pillow_bytes(still.convert("1"), "TIFF"), "has 1 bits for a sample: save it with 8"),
+            (pillow_bytes(GREY.astype(np.float32), "TIFF"), "has 32 bits for a sample: save it with 8"),
+            (pillow_bytes(GREY.astype(np.int32), "TIFF"), "has 32 bits for a sample: save it with 8"),
             (tiff(_339=("H", [2])), "has signed samples"),
             (tiff(_339=("H", [3])), "has signed samples, or of an unknown kind"),
-            (saved(still.convert("P"), "TIFF"), "has colour: save it as a grey picture"),
-            (saved(still.convert("RGB"), "TIFF"), "has colour: save it as a grey picture"),
-            (saved(still.convert("LA"), "TIFF"), "has transparency or several values for a pixel"),
+            (pillow_bytes(still.convert("P"), "TIFF"), "has colour: save it as a grey picture"),
+            (pillow_bytes(still.convert("RGB"), "TIFF"), "has colour: save it as a grey picture"),
+            (pillow_bytes(still.convert("LA"), "TIFF"), "has transparency or several values for a pixel"),
             (tiff(_262=("H", [0])), "is stored with 0 for white"),
             (tiff(_274=("H", [3])), "is stored turned or mirrored"),
-            (saved(still, "TIFF", save_all=True, append_images=[still]), "has more than one picture: save one of them"),
+            (pillow_bytes(still, "TIFF", save_all=True, append_images=[still]), "has more than one picture: save one of them"),
             (tiff(_262=None), cut),
             (tiff(_256=None), cut),
             (tiff(_273=None), cut),
@@ -387,25 +388,25 @@ class Tiff(Pictures):
             (b"II+\0" + bytes(100), "not a PGM (P2 or P5), PNG or TIFF picture"),
         ]:
             with self.subTest(words, data=data[-200:]):
-                self.fails(data, words)
+                self.assert_fails(data, words)
 
     def test_sizes(self):
         """By the directory alone."""
         for size in (0, 5), (5, 0), (4097, 1), (1025, 1024), (60000, 60000), (2**32 - 1, 2**32 - 1):
             data = tiff(_256=("L", size[:1]), _257=("L", size[1:]))
-            self.fails(data, "refused 1 at 0 ({} x {} pixels)".format(*size), Refused)
+            self.assert_fails(data, "refused 1 at 0 ({} x {} pixels)".format(*size), Refused)
 
     def test_cut(self):
         """With the directory in front and at the end; nothing of the resolution is lost without a word either."""
-        for data in [*(saved(GREY, "TIFF", compression=compression, dpi=(300, 300)) for compression in COMPRESSIONS),
+        for data in [*(pillow_bytes(GREY, "TIFF", compression=compression, dpi=(300, 300)) for compression in COMPRESSIONS),
                      tiff(rows=5, _282=("R", (300, 1))), tiff(order=">", tile=16), tiff(_305=("s", b"made by hand"))]:
             for length in range(len(data)):
-                self.assertFalse(self.fault_or_same(data[:length]))
+                self.assertFalse(self.assert_refused_or_same(data[:length]))
 
     def test_damaged(self):
         """Bytes that are not as they were: a fault that is told or other samples, and no word of libtiff's."""
         source = random.Random(4)
-        for data in [saved(GREY, "TIFF", compression=compression, dpi=(300, 300)) for compression in COMPRESSIONS]:
+        for data in [pillow_bytes(GREY, "TIFF", compression=compression, dpi=(300, 300)) for compression in COMPRESSIONS]:
             faults = 0
             for place in range(len(data)):
                 damaged = bytearray(data)
@@ -427,12 +428,12 @@ class Files(Pictures):
         """Pictures are decoded all the same."""
         path = os.path.join(self.folder, "in.tif")
         with open(path, "wb") as file:
-            file.write(saved(GREY, "TIFF", compression="tiff_lzw"))
+            file.write(pillow_bytes(GREY, "TIFF", compression="tiff_lzw"))
         os.close(2)
         try:
             found = read_picture(path).samples
         finally:
-            os.dup2(self.former, 2)
+            os.dup2(self.saved_stderr, 2)
         self.assertEqual(found.tolist(), GREY.tolist())
 
 

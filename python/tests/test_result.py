@@ -15,11 +15,11 @@ from pathlib import Path
 import numpy as np
 
 import relief
-from jobs import MAX_WEIGHT, TOP, random_codes, random_flow, random_job, treated
+from jobs import MAX_WEIGHT, TOP, check_or_clean, random_codes, random_flow, random_job
 from relief.calls import check_job
+from relief.formatting import format_bound
 from relief.plots import block_means
 from relief.result import distance_bound
-from relief.wording import rounded_up
 
 import answer2pgm  # of examples/, which jobs has put on the path
 import pgm
@@ -31,7 +31,7 @@ def random_results(seed, count, **more):
     rng = np.random.default_rng(seed)
     for number in range(count):
         shape = tuple(int(side) for side in rng.integers(1, 14, 2))
-        yield rng, treated(random_job(rng, shape, number % 2 == 0, number % 4 < 2, **more))
+        yield rng, check_or_clean(random_job(rng, shape, number % 2 == 0, number % 4 < 2, **more))
 
 
 class Image(unittest.TestCase):
@@ -74,7 +74,7 @@ class Image(unittest.TestCase):
 class Figures(unittest.TestCase):
     """Image and figures worked out again from the flow, by the formulas of the README."""
 
-    def again(self, result):
+    def recompute(self, result):
         """Image, price, floor and slack."""
         b, (low, high), (h, w) = result.job.codes, result.job.box, result.job.shape
         f = result.flow.flat.astype(np.int64)
@@ -96,7 +96,7 @@ class Figures(unittest.TestCase):
         met = set()
         for _, result in random_results(32, 120):
             with self.subTest(job=result.job):
-                image, *figures = self.again(result)
+                image, *figures = self.recompute(result)
                 np.testing.assert_array_equal(result.image, image)
                 self.assertEqual([result.price, result.floor, result.slack], figures)
                 self.assertTrue(all(type(figure) is int for figure in (result.price, result.floor, result.slack)))
@@ -107,8 +107,8 @@ class Figures(unittest.TestCase):
     def test_large(self):
         rng = np.random.default_rng(33)
         for weighted in False, True:
-            result = treated(random_job(rng, (600, 500), weighted, weight=MAX_WEIGHT, box=(5, 250), rounds=(3, 3)))
-            image, *figures = self.again(result)
+            result = check_or_clean(random_job(rng, (600, 500), weighted, weight=MAX_WEIGHT, box=(5, 250), rounds=(3, 3)))
+            image, *figures = self.recompute(result)
             np.testing.assert_array_equal(result.image, image)
             self.assertEqual([result.price, result.floor, result.slack], figures)
 
@@ -188,7 +188,7 @@ class PairsOfNeighbours(unittest.TestCase):
 class Bounds(unittest.TestCase):
     """The least floats that are not below the true bounds."""
 
-    def least(self, bound, slack, pixels):
+    def assert_least_bound(self, bound, slack, pixels):
         """Whether it is the least float that is at least sqrt(slack / pixels) / 256, by exact arithmetic."""
         square = Fraction(slack, pixels * 65536)
         self.assertIs(type(bound), float)
@@ -204,7 +204,7 @@ class Bounds(unittest.TestCase):
         slacks += [int(slack) for slack in rng.integers(0, 2**63, 150)] + [number**2 for number in range(1, 40)]
         for slack in slacks:
             for pixels in 1, 2, 3, 100, 3072, 1048575, 1048576, int(rng.integers(1, 2**20)):
-                self.least(distance_bound(slack, pixels), slack, pixels)
+                self.assert_least_bound(distance_bound(slack, pixels), slack, pixels)
 
     def test_exact(self):
         """Where the true bound is a float, it is that one."""
@@ -216,12 +216,12 @@ class Bounds(unittest.TestCase):
         result = relief.clean(np.array([[0, 2]], np.uint8), 256, (0, 255), 0, 100)
         self.assertEqual((result.slack, result.pixel_bound), (16, 4 / 256))
         for rng, result in random_results(37, 20):
-            self.least(result.rms_bound, result.slack, result.image.size)
-            self.least(result.pixel_bound, result.slack, 1)
+            self.assert_least_bound(result.rms_bound, result.slack, result.image.size)
+            self.assert_least_bound(result.pixel_bound, result.slack, 1)
             mask = rng.random(result.image.shape) < 0.5
             mask.flat[0] = True
             for given in mask, mask.tolist(), np.asfortranarray(mask):
-                self.least(result.mean_bound(given), result.slack, int(mask.sum()))
+                self.assert_least_bound(result.mean_bound(given), result.slack, int(mask.sum()))
             self.assertEqual(result.mean_bound(np.ones_like(mask)), result.rms_bound)
             one = np.zeros_like(mask)
             one.flat[-1] = True
@@ -232,9 +232,9 @@ class Bounds(unittest.TestCase):
         result = relief.clean(np.zeros((3, 1), np.uint8), 0, (0, 255))
         for slack in 2**64 - 1, 2**60 + 1, 0:
             result = dataclasses.replace(result, slack=slack)
-            self.least(result.rms_bound, slack, 3)
-            self.least(result.pixel_bound, slack, 1)
-            self.least(result.mean_bound(np.array([[True], [False], [True]])), slack, 2)
+            self.assert_least_bound(result.rms_bound, slack, 3)
+            self.assert_least_bound(result.pixel_bound, slack, 1)
+            self.assert_least_bound(result.mean_bound(np.array([[True], [False], [True]])), slack, 2)
 
     def test_faulty_masks(self):
         result = relief.clean(np.zeros((2, 3), np.uint8), 5, (0, 255))
@@ -252,11 +252,11 @@ class Bounds(unittest.TestCase):
     def test_facade(self):
         """The README's table, whose bounds are rounded up."""
         tape = relief.read_tape(TOP / "examples/facade.tape")
-        result = treated(tape)
-        self.assertEqual([rounded_up(result.rms_bound, 2), rounded_up(result.pixel_bound, 1)], ["0.32", "17.3"])
+        result = check_or_clean(tape)
+        self.assertEqual([format_bound(result.rms_bound, 2), format_bound(result.pixel_bound, 1)], ["0.32", "17.3"])
         mask = np.zeros(tape.shape, bool)
         mask[3:13, 5:15] = True
-        self.assertEqual(rounded_up(result.mean_bound(mask), 1), "1.8")
+        self.assertEqual(format_bound(result.mean_bound(mask), 1), "1.8")
 
 
 class Guarantee(unittest.TestCase):
@@ -295,7 +295,7 @@ class Guarantee(unittest.TestCase):
             job = random_job(rng, tuple(int(side) for side in rng.integers(1, 12, 2)), weighted, rounds=(20, 50))
             weights = job.weight if job.weights is None else job.weights.flat
             count = 2 * job.codes.size - sum(job.shape)
-            flows = [treated(job).flow.flat] + [random_flow(rng, weights, count) for _ in range(2)]
+            flows = [check_or_clean(job).flow.flat] + [random_flow(rng, weights, count) for _ in range(2)]
             flows.append(np.clip(flows[0] + rng.integers(-2, 3, count), -np.asarray(weights), weights).astype(np.int32))
             results = [check_job(dataclasses.replace(job, flow=flow)) for flow in flows]
             for one in results:
@@ -320,7 +320,7 @@ class Plots(unittest.TestCase):
         rng = np.random.default_rng(41)
         for shape, weighted in ((30, 40), False), ((3, 40), True), ((1, 1), False):
             with self.subTest(shape):
-                result = treated(random_job(rng, shape, weighted, weight=900, box=(3, 250)))
+                result = check_or_clean(random_job(rng, shape, weighted, weight=900, box=(3, 250)))
                 figure = result.plot()
                 panels = [axes for axes in figure.axes if axes.get_title()]
                 self.assertEqual([panel.get_title() for panel in panels], ["scan", "cleaned", "cleaned − scan"])

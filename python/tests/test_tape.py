@@ -17,7 +17,7 @@ from unittest import mock
 import numpy as np
 
 import relief
-from jobs import MAX_WEIGHT, TOP, figures_of, limited_memory, random_job, tape_of, treated
+from jobs import MAX_WEIGHT, TOP, check_or_clean, figures_of, limited_memory, random_job, tape_of
 from relief.calls import check_job
 
 import pgm2tape  # of examples/, which jobs has put on the path
@@ -39,7 +39,7 @@ class Tapes(unittest.TestCase):
         """The bytes of each file in the folder."""
         return {path.name: path.read_bytes() for path in self.folder.iterdir() if path.is_file()}
 
-    def same(self, job, other):
+    def assert_same_job(self, job, other):
         """Two jobs are alike in every field."""
         np.testing.assert_array_equal(job.codes, other.codes)
         self.assertEqual((job.shape, job.weight, job.box, job.quick, job.steady),
@@ -51,7 +51,7 @@ class Tapes(unittest.TestCase):
 
 
 class Bytes(Tapes):
-    def test_back(self):
+    def test_round_trip(self):
         """A job written and read is that job, and its tape written again has its bytes."""
         rng = np.random.default_rng(50)
         for shape in (1, 2), (2, 1), (1, 7), (6, 1), (2, 2), (5, 8), (33, 31):
@@ -60,20 +60,20 @@ class Bytes(Tapes):
                 with self.subTest(job=job):
                     tape = tape_of(job)
                     again = relief.read_tape(tape)
-                    self.same(again, job)
+                    self.assert_same_job(again, job)
                     self.assertEqual(tape_of(again), tape)
 
     def test_ends_of_the_ranges(self):
         for terms in (0, (0, 0), 0, 0), (MAX_WEIGHT, (255, 255), 4096, 65535), (258, (1, 254), 772, 1286):
             job = relief.Job(CODES, *terms, FLOW + MAX_WEIGHT, FLOW - MAX_WEIGHT)
-            self.same(relief.read_tape(tape_of(job)), job)
+            self.assert_same_job(relief.read_tape(tape_of(job)), job)
 
     def test_one_pixel(self):
         """Without pairs there are no records of them: weights and flow of no pair read back as none."""
         codes, none = np.array([[9]], np.uint8), np.zeros(0, np.int32)
         tape = tape_of(relief.Job(codes, 5, (0, 255), 1, 2, none, none))
         self.assertEqual(tape, b"\1\1\0\1\0" b"\2\5\0\0\xff" b"\3\1\0\2\0" b"\4\x09" b"\0")
-        self.same(relief.read_tape(tape), relief.Job(codes, 5, (0, 255), 1, 2))
+        self.assert_same_job(relief.read_tape(tape), relief.Job(codes, 5, (0, 255), 1, 2))
 
     def test_layout(self):
         """The README's table of records, by examples/pgm2tape.py and by hand."""
@@ -111,7 +111,7 @@ class Bytes(Tapes):
         job = relief.read_tape(tape_of(dataclasses.replace(result.job, flow=result.flow)))
         self.assertEqual(job.quick, 3)
         self.assertEqual(figures_of(check_job(job)).split()[2:], figures_of(result).split()[2:])
-        np.testing.assert_array_equal(treated(job).image, result.image)
+        np.testing.assert_array_equal(check_or_clean(job).image, result.image)
 
     def test_larger_than_its_bytes(self):
         """A tape that names more pixels than its bytes can hold is cut or unfinished, 13 or 18; 16 is never met."""
@@ -140,14 +140,14 @@ class Sources(Tapes):
         path = self.folder / "a.tape"
         path.write_bytes(tape)
         for source in str(path), path, tape, bytearray(tape), memoryview(tape), io.BytesIO(tape):
-            self.same(relief.read_tape(source), JOB)
+            self.assert_same_job(relief.read_tape(source), JOB)
         for buffering in 0, -1:
             with open(path, "rb", buffering=buffering) as file:
-                self.same(relief.read_tape(file), JOB)
+                self.assert_same_job(relief.read_tape(file), JOB)
         data = bytearray(tape)
         job = relief.read_tape(data)
         data[:] = bytes(len(data))  # the job keeps nothing of the bytes
-        self.same(job, JOB)
+        self.assert_same_job(job, JOB)
 
     def test_longer_file(self):
         """Of a file that is far longer than any tape, no more is read than is needed to refuse it."""
@@ -190,10 +190,10 @@ class Sources(Tapes):
 
 
 @contextlib.contextmanager
-def file_limit(most):
+def file_limit(limit):
     """No file grows beyond so many bytes: the writing ends half way, as on a full disk. (Python ignores SIGXFSZ.)"""
     before = resource.getrlimit(resource.RLIMIT_FSIZE)
-    resource.setrlimit(resource.RLIMIT_FSIZE, (most, before[1]))
+    resource.setrlimit(resource.RLIMIT_FSIZE, (limit, before[1]))
     try:
         yield
     finally:
@@ -201,7 +201,7 @@ def file_limit(most):
 
 
 class Files(Tapes):
-    def fails(self, kind, name, job=JOB, message=""):
+    def assert_fails(self, kind, name, job=JOB, message=""):
         """An OSError that names the path as it was given; every file is as it was, and there is none more."""
         before = self.contents()
         for path in os.path.join(self.folder, name), self.folder / name:
@@ -222,7 +222,7 @@ class Files(Tapes):
             (10, relief.Job(CODES, 5, (0, 255), 4097)),
         ]:
             for name in "old", "new", "no/such":
-                self.fails(relief.Refused, name, job, f"refused {number} ")
+                self.assert_fails(relief.Refused, name, job, f"refused {number} ")
             file = io.BytesIO()
             self.assertRaises(relief.Refused, relief.write_tape, file, job)
             self.assertEqual(file.getvalue(), b"")
@@ -232,7 +232,7 @@ class Files(Tapes):
         (self.folder / "old").write_bytes(b"kept")
         with file_limit(5):
             for name in "old", "new":
-                self.fails(OSError, name, message="File too large")
+                self.assert_fails(OSError, name, message="File too large")
         relief.write_tape(self.folder / "old", JOB)
         self.assertEqual(self.contents(), {"old": tape_of(JOB)})
 
@@ -262,19 +262,19 @@ class Files(Tapes):
 
     def test_unwritable(self):
         (self.folder / "file").write_bytes(b"kept")
-        self.fails(FileNotFoundError, "no/such", message="No such file or directory")
-        self.fails(NotADirectoryError, "file/such", message="Not a directory")
+        self.assert_fails(FileNotFoundError, "no/such", message="No such file or directory")
+        self.assert_fails(NotADirectoryError, "file/such", message="Not a directory")
         (self.folder / "sub").mkdir()
-        self.fails(IsADirectoryError, "sub", message="Is a directory")
+        self.assert_fails(IsADirectoryError, "sub", message="Is a directory")
         if os.path.exists("/dev/full"):
-            self.fails(OSError, "/dev/full", message="not a regular file")
+            self.assert_fails(OSError, "/dev/full", message="not a regular file")
         self.assertEqual(os.listdir(self.folder / "sub"), [])
 
     @unittest.skipUnless(os.geteuid(), "root may write every file")
     def test_not_permitted(self):
         (self.folder / "old").write_bytes(b"kept")
         (self.folder / "old").chmod(0o444)
-        self.fails(PermissionError, "old")
+        self.assert_fails(PermissionError, "old")
 
     def test_interrupted(self):
         (self.folder / "old").write_bytes(b"kept")

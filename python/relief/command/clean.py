@@ -10,29 +10,29 @@ from typing import Any, Dict, Iterable, Optional, Set, Tuple
 import numpy as np
 
 from ..calls import clean
-from ..files import replace
+from ..files import write_atomically
+from ..formatting import format_bounds, format_figures
 from ..pairs import Pairs
 from ..result import Result
-from ..wording import bounds, figures
-from .interrupt import Interrupted, ask_interrupted, in_background
-from .progress import Progress, estimated_seconds, share
+from .console import describe_error, print_message, print_result
+from .inputs import FILE_ERRORS, read_scan, read_weights, require_same_size
+from .interrupt import Interrupted, raise_if_interrupted, run_in_thread
+from .progress import Progress, estimate_seconds, format_share
 from .report import Report
-from .speech import complain, fault_of, tell
-from .terms import FAULTS, ask_same_size, read_scan, read_weights
 
 
 def clean_files(options: Any) -> int:
     """Cleans each scan; one at fault is named and the others go on."""
     try:
         weights = read_weights(options)
-    except FAULTS as error:
-        complain(f"{options.weights}: {fault_of(error, options.weights)}")
+    except FILE_ERRORS as error:
+        print_message(f"{options.weights}: {describe_error(error, options.weights)}")
         return 1
     try:
         os.makedirs(options.output, exist_ok=True)
         batch = _Batch(options, weights)
     except OSError as error:
-        complain(f"{error.filename}: {error.strerror or error}")
+        print_message(f"{error.filename}: {error.strerror or error}")
         return 1
     return batch.clean_all()
 
@@ -42,78 +42,79 @@ class _Batch:
 
     def __init__(self, options: Any, weights: Optional[Pairs]) -> None:
         self.options, self.weights = options, weights
-        self.read = _places([*options.scans, options.weights])
-        self.written = _places([options.report])
-        if self.read & self.written:
+        self.input_paths = _real_paths([*options.scans, options.weights])
+        self.output_paths = _real_paths([options.report])
+        if self.input_paths & self.output_paths:
             raise OSError(None, "the report would replace a picture that is read", options.report)
         self.report = Report(options.report)
         self.progress = Progress(len(options.scans))
-        self.unsaved = False
+        self.report_unsaved = False
 
     def clean_all(self) -> int:
         """Cleans the scans one by one, and gives the exit status."""
         scans, report = self.options.scans, self.report
         try:
             for number, path in enumerate(scans, 1):
-                self.clean_or_complain(number, path)
-                ask_interrupted()
+                self.clean_and_report(number, path)
+                raise_if_interrupted()
         except Interrupted:
             self.save_report()
-            self.complain(f"interrupted; {report.cleaned} of {len(scans)} scans are cleaned, and what is written is whole")
+            self.print_message(f"interrupted; {report.cleaned_count} of {len(scans)} scans are cleaned, and what is written"
+                               " is whole")
             raise
-        if report.faulty or len(scans) > 1:
-            at_fault = f", {report.faulty} at fault" if report.faulty else ""
-            self.complain(f"{report.cleaned} of {len(scans)} scans cleaned{at_fault}")
-        return 1 if report.faulty or self.unsaved else 0
+        if report.faulty_count or len(scans) > 1:
+            at_fault = f", {report.faulty_count} at fault" if report.faulty_count else ""
+            self.print_message(f"{report.cleaned_count} of {len(scans)} scans cleaned{at_fault}")
+        return 1 if report.faulty_count or self.report_unsaved else 0
 
-    def clean_or_complain(self, number: int, path: str) -> None:
+    def clean_and_report(self, number: int, path: str) -> None:
         """Cleans a scan, or says what is wrong with it; either is told and put into the report."""
         try:
             result, seconds = self.clean_one(number, path)
-        except FAULTS as error:
-            fault = fault_of(error, path)
+        except FILE_ERRORS as error:
+            fault = describe_error(error, path)
             self.report.add(path, self.options, fault=fault)
             self.save_report()
-            self.complain(f"{path}: {fault}")
+            self.print_message(f"{path}: {fault}")
         else:
             self.report.add(path, self.options, result, seconds)
             self.save_report()
             self.progress.clear()
-            tell(f"{path}: {figures(result)}; {bounds(result)}")
+            print_result(f"{path}: {format_figures(result)}; {format_bounds(result)}")
 
     def save_report(self) -> None:
         """Writes the report; where that fails, it is told once, and the scans are cleaned all the same."""
         try:
             self.report.save()
-            self.unsaved = False
+            self.report_unsaved = False
         except OSError as error:
-            if not self.unsaved:
-                self.complain(f"{error.filename}: {error.strerror or error}")
-            self.unsaved = True
+            if not self.report_unsaved:
+                self.print_message(f"{error.filename}: {error.strerror or error}")
+            self.report_unsaved = True
 
     def clean_one(self, number: int, path: str) -> Tuple[Result, float]:
         """Cleans a scan, writes what is asked for, and gives the result with the seconds that the rounds took."""
         self.progress.show(number, path, "reading")
-        scan = read_scan(path, self.complain)
-        ask_same_size(self.weights, scan)
-        outputs = self.claim(path)
+        scan = read_scan(path, self.print_message)
+        require_same_size(self.weights, scan)
+        outputs = self.reserve_outputs(path)
         options, codes = self.options, scan.codes
-        estimate = estimated_seconds(codes, options.quick, options.steady) if self.progress.wanted else 1.0
-        result, seconds = in_background(
+        estimate = estimate_seconds(codes, options.quick, options.steady) if self.progress.enabled else 1.0
+        result, seconds = run_in_thread(
             lambda: clean(codes, options.weight, options.box, options.quick, options.steady, self.weights),
-            lambda so_far: self.progress.show(number, path, share(so_far, estimate)))
+            lambda elapsed: self.progress.show(number, path, format_share(elapsed, estimate)))
         self.progress.show(number, path, "writing")
-        made = {"scan": lambda: scan.encoded(result.codes(scan.maxval)), "flow": lambda: _array(result.flow.flat),
-                "picture": lambda: _picture(result)}
-        replace({output: made[what]() for what, output in outputs.items()})
+        encoders = {"scan": lambda: scan.encode(result.codes(scan.maxval)), "flow": lambda: _npy_bytes(result.flow.flat),
+                    "picture": lambda: _picture_png(result)}
+        write_atomically({output: encoders[kind]() for kind, output in outputs.items()})
         return result, seconds
 
-    def complain(self, text: str) -> None:
+    def print_message(self, text: str) -> None:
         """One line on standard error, in place of the line of progress."""
         self.progress.clear()
-        complain(text)
+        print_message(text)
 
-    def claim(self, path: str) -> Dict[str, str]:
+    def reserve_outputs(self, path: str) -> Dict[str, str]:
         """The files to be written for a scan: none that is read, nor one that is written for another."""
         name = os.path.basename(path)
         stem = os.path.splitext(name)[0]
@@ -122,29 +123,29 @@ class _Batch:
             names["flow"] = f"{stem}.flow.npy"
         if self.options.picture:
             names["picture"] = f"{stem}.picture.png"
-        outputs = {what: os.path.join(self.options.output, name) for what, name in names.items()}
+        outputs = {kind: os.path.join(self.options.output, name) for kind, name in names.items()}
         for output in outputs.values():
-            place = os.path.realpath(output)
-            if place in self.read:
+            real_path = os.path.realpath(output)
+            if real_path in self.input_paths:
                 raise ValueError(f"not cleaned, for {output} would replace a picture that is read: name another folder")
-            if place in self.written:
+            if real_path in self.output_paths:
                 raise ValueError(f"not cleaned, for {output} is the report or another scan's: clean it into another folder")
-        self.written |= _places(outputs.values())
+        self.output_paths |= _real_paths(outputs.values())
         return outputs
 
 
-def _places(paths: Iterable[Optional[str]]) -> Set[str]:
+def _real_paths(paths: Iterable[Optional[str]]) -> Set[str]:
     """Where the files are, by whatever name; None is no file."""
     return {os.path.realpath(path) for path in paths if path is not None}
 
 
-def _picture(result: Result) -> bytes:
+def _picture_png(result: Result) -> bytes:
     logging.getLogger("matplotlib").setLevel(logging.ERROR)  # where it keeps its cache is nothing to tell
-    from ..plots import png_of
-    return png_of(result)
+    from ..plots import render_png
+    return render_png(result)
 
 
-def _array(array: np.ndarray) -> memoryview:
+def _npy_bytes(array: np.ndarray) -> memoryview:
     file = io.BytesIO()
     np.save(file, array)
     return file.getbuffer()

@@ -11,7 +11,7 @@ import time
 from typing import Any, Callable, Iterator, List, Tuple
 
 _SIGNALS = signal.SIGINT, signal.SIGTERM, signal.SIGHUP
-_came: List[int] = []  # the signal that came inside interruptible()
+_received: List[int] = []  # the signal that came inside interruptible()
 
 
 class Interrupted(BaseException):
@@ -25,36 +25,36 @@ class Interrupted(BaseException):
 @contextlib.contextmanager
 def interruptible() -> Iterator[None]:
     """The first signal inside raises Interrupted; those that follow are ignored, for the little that is left to do."""
-    _came.clear()
-    caught = [number for number in _SIGNALS if signal.getsignal(number) != signal.SIG_IGN]
+    _received.clear()
+    handled = [number for number in _SIGNALS if signal.getsignal(number) != signal.SIG_IGN]
 
     def interrupt(number: int, _: Any) -> None:
-        for other in caught:
+        for other in handled:
             signal.signal(other, signal.SIG_IGN)
-        _came.append(number)
+        _received.append(number)
         raise Interrupted(number)
 
-    former = {number: signal.signal(number, interrupt) for number in caught}
+    previous = {number: signal.signal(number, interrupt) for number in handled}
     try:
         yield
     except Interrupted:
         raise
     except BaseException:
-        for number, handler in former.items():
+        for number, handler in previous.items():
             signal.signal(number, handler)
         raise
     else:
-        for number, handler in former.items():
+        for number, handler in previous.items():
             signal.signal(number, handler)
 
 
-def ask_interrupted() -> None:
+def raise_if_interrupted() -> None:
     """Raises Interrupted again after a signal. The first may be lost: what a destructor raises goes nowhere."""
-    if _came:
-        raise Interrupted(_came[0])
+    if _received:
+        raise Interrupted(_received[0])
 
 
-def die_of(number: int) -> int:
+def die_by_signal(number: int) -> int:
     """Ends the process by the signal, as its parent expects; a call of the library that still runs ends with it."""
     with contextlib.suppress(OSError):
         sys.stdout.flush()
@@ -63,27 +63,27 @@ def die_of(number: int) -> int:
     return 128 + number
 
 
-def in_background(call: Callable[[], Any], meanwhile: Callable[[float], None]) -> Tuple[Any, float]:
+def run_in_thread(call: Callable[[], Any], on_progress: Callable[[float], None]) -> Tuple[Any, float]:
     """What a call gives, and its seconds. It runs in a thread of its own, so that a signal is not kept waiting for it;
     ten times a second the seconds so far go to `meanwhile`."""
-    given: List[Any] = []
-    raised: List[BaseException] = []
+    results: List[Any] = []
+    errors: List[BaseException] = []
 
-    def work() -> None:
+    def run() -> None:
         try:
-            given.append(call())
+            results.append(call())
         except BaseException as error:
-            raised.append(error)
+            errors.append(error)
 
     start = time.perf_counter()
-    thread = threading.Thread(target=work, daemon=True)
+    thread = threading.Thread(target=run, daemon=True)
     thread.start()
     while thread.is_alive():
         thread.join(0.1)
-        ask_interrupted()
+        raise_if_interrupted()
         if thread.is_alive():
-            meanwhile(time.perf_counter() - start)
+            on_progress(time.perf_counter() - start)
     seconds = time.perf_counter() - start
-    if raised:
-        raise raised[0]
-    return given[0], seconds
+    if errors:
+        raise errors[0]
+    return results[0], seconds

@@ -8,17 +8,17 @@ from typing import Any, Callable, Iterator, Optional
 import numpy as np
 
 from ..calls import check, price
+from ..formatting import format_bounds, format_figures
 from ..pairs import Pairs
-from ..wording import bounds, figures
-from .speech import complain, fault_of, tell
-from .terms import FAULTS, ask_same_size, read_array, read_scan, read_weights
+from .console import describe_error, print_message, print_result
+from .inputs import FILE_ERRORS, read_array, read_scan, read_weights, require_same_size
 
 
 def check_file(options: Any) -> int:
     """Judges a flow of one's own."""
     def judge(codes: np.ndarray, weights: Optional[Pairs]) -> str:
         result = check(codes, read_array(options.flow), options.weight, options.box, weights)
-        return f"{options.scan}: {figures(result)}; {bounds(result)}"
+        return f"{options.scan}: {format_figures(result)}; {format_bounds(result)}"
 
     return _judge(options, options.flow, judge)
 
@@ -26,43 +26,43 @@ def check_file(options: Any) -> int:
 def price_file(options: Any) -> int:
     """Prices a raster of the box."""
     def judge(codes: np.ndarray, weights: Optional[Pairs]) -> str:
-        return f"{options.cleaned}: price {price(codes, _image(options.cleaned), options.weight, options.box, weights)}"
+        return f"{options.cleaned}: price {price(codes, _read_image(options.cleaned), options.weight, options.box, weights)}"
 
     return _judge(options, options.cleaned, judge)
 
 
-def _image(path: str) -> np.ndarray:
+def _read_image(path: str) -> np.ndarray:
     """An array in sub-units, or a picture's codes at the centres of their levels."""
     if path.endswith(".npy"):
         return read_array(path)
-    return 256 * read_scan(path, complain).codes.astype(np.int32) + 128
+    return 256 * read_scan(path, print_message).codes.astype(np.int32) + 128
 
 
 def _judge(options: Any, path: str, judge: Callable[[np.ndarray, Optional[Pairs]], str]) -> int:
     """Tells what is said of the scan, its weights and the file at the path; gives the exit status."""
     try:
-        with _naming(options.scan):
-            scan = read_scan(options.scan, complain)
-        with _naming(options.weights):
+        with _reporting_errors(options.scan):
+            scan = read_scan(options.scan, print_message)
+        with _reporting_errors(options.weights):
             weights = read_weights(options)
-            ask_same_size(weights, scan)
-        with _naming(path):
-            said = judge(scan.codes, weights)
-    except _Told:
+            require_same_size(weights, scan)
+        with _reporting_errors(path):
+            line = judge(scan.codes, weights)
+    except _AlreadyReported:
         return 1
-    tell(said)
+    print_result(line)
     return 0
 
 
-class _Told(Exception):
+class _AlreadyReported(Exception):
     """A fault that has been told."""
 
 
 @contextlib.contextmanager
-def _naming(path: str) -> Iterator[None]:
+def _reporting_errors(path: str) -> Iterator[None]:
     """Tells what is wrong with a file, in one line."""
     try:
         yield
-    except FAULTS as error:
-        complain(f"{path}: {fault_of(error, path)}")
-        raise _Told from None
+    except FILE_ERRORS as error:
+        print_message(f"{path}: {describe_error(error, path)}")
+        raise _AlreadyReported from None

@@ -6,9 +6,9 @@ import csv
 import io
 from typing import Any, Dict, List, Optional
 
-from ..files import replace
+from ..files import write_atomically
+from ..formatting import format_bound
 from ..result import Result
-from ..wording import rounded_up
 
 COLUMNS = ["file", "width", "height", "weight", "low", "high", "quick", "steady", "weights", "outcome", "moved", "price",
            "floor", "slack", "rms_bound", "pixel_bound", "seconds", "fault"]
@@ -30,19 +30,19 @@ class Report:
         if result is not None:
             height, width = result.image.shape
             row.update(width=width, height=height, outcome=result.outcome, moved=result.moved, price=result.price,
-                       floor=result.floor, slack=result.slack, rms_bound=rounded_up(result.rms_bound),
-                       pixel_bound=rounded_up(result.pixel_bound), seconds=f"{seconds:.3f}")
+                       floor=result.floor, slack=result.slack, rms_bound=format_bound(result.rms_bound),
+                       pixel_bound=format_bound(result.pixel_bound), seconds=f"{seconds:.3f}")
         self.rows.append(row)
 
     @property
-    def faulty(self) -> int:
+    def faulty_count(self) -> int:
         """How many of the rows are of files at fault."""
         return sum(bool(row["fault"]) for row in self.rows)
 
     @property
-    def cleaned(self) -> int:
+    def cleaned_count(self) -> int:
         """How many of the rows are of files that were cleaned."""
-        return len(self.rows) - self.faulty
+        return len(self.rows) - self.faulty_count
 
     def save(self) -> None:
         """Writes the rows so far."""
@@ -52,4 +52,4 @@ class Report:
         writer = csv.DictWriter(text, COLUMNS, lineterminator="\n")
         writer.writeheader()
         writer.writerows(self.rows)
-        replace({self.path: text.getvalue().encode(errors="surrogateescape")})
+        write_atomically({self.path: text.getvalue().encode(errors="surrogateescape")})

@@ -11,21 +11,21 @@ from typing import Any, Dict
 
 import numpy as np
 
-from ..arrays import raster
+from ..arrays import as_raster
 from . import pgm, png, tiff
 
-_FORMS: Dict[str, Any] = {"PGM": pgm, "PNG": png, "TIFF": tiff}
-_HEADING = 65536  # bytes: as far as a PGM's heading may go, with its comments
+_FORMATS: Dict[str, Any] = {"PGM": pgm, "PNG": png, "TIFF": tiff}
+_HEADER_BYTES = 65536  # bytes: as far as a PGM's header may go, with its comments
 
 
 @dataclass(frozen=True, eq=False)
 class Picture:
-    """A grey picture. ``samples`` go from 0 to ``maxval``; ``kept`` is what its form keeps besides."""
+    """A grey picture. ``samples`` go from 0 to ``maxval``; ``metadata`` is what its format keeps besides."""
 
-    form: str
+    format: str
     samples: np.ndarray
     maxval: int = 255
-    kept: Dict[str, Any] = field(default_factory=dict)
+    metadata: Dict[str, Any] = field(default_factory=dict)
 
     @property
     def codes(self) -> np.ndarray:
@@ -34,9 +34,9 @@ class Picture:
             return self.samples
         return ((510 * self.samples.astype(np.int64) + self.maxval) // (2 * self.maxval)).astype(np.uint8)
 
-    def encoded(self, samples: Any) -> bytes:
+    def encode(self, samples: Any) -> bytes:
         """The bytes of a file with other samples, and all else as in this picture."""
-        return _FORMS[self.form].encoded(raster("samples", samples), **self.kept)
+        return _FORMATS[self.format].encode(as_raster("samples", samples), **self.metadata)
 
 
 def read_picture(path: Any) -> Picture:
@@ -48,11 +48,11 @@ def read_picture(path: Any) -> Picture:
         Refused: 1, of a picture that is too large; it is then not decoded.
     """
     with open(path, "rb") as file:
-        heading = file.read(_HEADING)
-        if not heading:
+        header = file.read(_HEADER_BYTES)
+        if not header:
             raise ValueError("empty, not a picture")
-        for name, form in _FORMS.items():
-            if heading.startswith(form.SIGNATURES):
-                samples, kept = form.read(heading, file)
-                return Picture(name, samples, kept.get("maxval", 255), kept)
+        for name, module in _FORMATS.items():
+            if header.startswith(module.SIGNATURES):
+                samples, metadata = module.read(header, file)
+                return Picture(name, samples, metadata.get("maxval", 255), metadata)
     raise ValueError("not a PGM (P2 or P5), PNG or TIFF picture")

@@ -13,13 +13,13 @@ import numpy as np
 from ..arrays import Shape
 
 
-def decoded(data: bytes, form: str, shape: Shape) -> np.ndarray:
+def decode(data: bytes, format_name: str, shape: Shape) -> np.ndarray:
     """The samples of a picture that Pillow decodes, which has this shape."""
     from PIL import Image
     try:
-        with warnings.catch_warnings(), _quiet():
+        with warnings.catch_warnings(), _silenced_stderr():
             warnings.simplefilter("ignore")  # what is wrong is told by an error
-            with Image.open(io.BytesIO(data), formats=[form]) as image:
+            with Image.open(io.BytesIO(data), formats=[format_name]) as image:
                 image.load()
                 samples = np.asarray(image)
     except MemoryError:
@@ -27,31 +27,31 @@ def decoded(data: bytes, form: str, shape: Shape) -> np.ndarray:
     except Exception:  # Pillow raises errors of many kinds on damaged files
         samples = np.zeros(0)
     if samples.dtype != np.uint8 or samples.shape != shape:
-        raise ValueError(f"cut off or damaged, not a whole {form} picture")
+        raise ValueError(f"cut off or damaged, not a whole {format_name} picture")
     return samples
 
 
-def saved(samples: np.ndarray, form: str, **options: Any) -> bytes:
+def encode(samples: np.ndarray, format_name: str, **options: Any) -> bytes:
     """The bytes of a file with these samples."""
     from PIL import Image
     file = io.BytesIO()
-    Image.fromarray(samples).save(file, form, **options)
+    Image.fromarray(samples).save(file, format_name, **options)
     return file.getvalue()
 
 
 @contextlib.contextmanager
-def _quiet() -> Iterator[None]:
+def _silenced_stderr() -> Iterator[None]:
     """Lets nothing through to standard error for this moment: libtiff writes there by itself what is wrong."""
     try:
-        former = os.dup(2)
+        previous = os.dup(2)
     except OSError:  # it is closed
         yield
         return
-    nowhere = os.open(os.devnull, os.O_WRONLY)
+    devnull = os.open(os.devnull, os.O_WRONLY)
     try:
-        os.dup2(nowhere, 2)
+        os.dup2(devnull, 2)
         yield
     finally:
-        os.dup2(former, 2)
-        os.close(former)
-        os.close(nowhere)
+        os.dup2(previous, 2)
+        os.close(previous)
+        os.close(devnull)

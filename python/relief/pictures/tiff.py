@@ -6,35 +6,35 @@ from typing import Any, BinaryIO, Dict, Tuple
 
 import numpy as np
 
-from ..arrays import ask_size
-from .pillow import decoded, saved
-from .tiff_directory import COMPRESSION, HEIGHT, ORDERS, WIDTH, Directory, with_resolution
+from ..arrays import require_allowed_size
+from . import pillow
+from .tiff_directory import BYTE_ORDERS, COMPRESSION, HEIGHT, WIDTH, Directory, with_resolution
 
-SIGNATURES = tuple(ORDERS)
+SIGNATURES = tuple(BYTE_ORDERS)
 
-_PACKED = {1: "raw", 5: "tiff_lzw", 7: "raw", 8: "tiff_adobe_deflate", 32946: "tiff_adobe_deflate",
-           32773: "packbits"}  # how each is packed when it is written again: JPEG, 7, is not
+_PILLOW_COMPRESSIONS = {1: "raw", 5: "tiff_lzw", 7: "raw", 8: "tiff_adobe_deflate", 32946: "tiff_adobe_deflate",
+                        32773: "packbits"}  # how each is packed when it is written again: JPEG, 7, is not
 
 
 def read(_: bytes, file: BinaryIO) -> Tuple[np.ndarray, Dict[str, Any]]:
     """Samples and what is kept: the resolution, as its fields have it, and how the picture is packed."""
     directory = Directory(file)
-    directory.ask_grey()
-    width, height = directory.numbers(WIDTH)[0], directory.numbers(HEIGHT)[0]
-    ask_size(height, width)
-    directory.ask_whole()
-    compression = directory.numbers(COMPRESSION, 1)[0]
-    if compression not in _PACKED:
+    directory.require_grey()
+    width, height = directory.values(WIDTH)[0], directory.values(HEIGHT)[0]
+    require_allowed_size(height, width)
+    directory.require_complete()
+    compression = directory.values(COMPRESSION, 1)[0]
+    if compression not in _PILLOW_COMPRESSIONS:
         raise ValueError(f"is compressed by method {compression}: save it without compression, or with LZW or deflate")
-    kept = {"resolution": directory.resolution(), "compression": _PACKED[compression]}
+    metadata = {"resolution": directory.resolution(), "compression": _PILLOW_COMPRESSIONS[compression]}
     file.seek(0)
-    return decoded(file.read(), "TIFF", (height, width)), kept
+    return pillow.decode(file.read(), "TIFF", (height, width)), metadata
 
 
-def encoded(samples: np.ndarray, resolution: Dict[int, Tuple[int, ...]], compression: str) -> bytes:
+def encode(samples: np.ndarray, resolution: Dict[int, Tuple[int, ...]], compression: str) -> bytes:
     """The bytes of a file."""
     from PIL import TiffImagePlugin
     tags = TiffImagePlugin.ImageFileDirectory_v2()
     for tag in resolution:
         tags[tag] = 1  # libtiff would round a fraction: it is put in afterwards
-    return with_resolution(saved(samples, "TIFF", tiffinfo=tags, compression=compression), resolution)
+    return with_resolution(pillow.encode(samples, "TIFF", tiffinfo=tags, compression=compression), resolution)

@@ -1,4 +1,4 @@
-"""What the commands share: the weight picture, and what may be wrong with a file."""
+"""What the commands read: scans, weight pictures and arrays; and what may be wrong with a file."""
 
 from __future__ import annotations
 
@@ -10,14 +10,14 @@ from ..pairs import Pairs, weights_from_picture
 from ..pictures import Picture, read_picture
 from ..refused import Refused
 
-FAULTS = (OSError, ValueError, TypeError, Refused, MemoryError)
+FILE_ERRORS = (OSError, ValueError, TypeError, Refused, MemoryError)
 
 
-def read_scan(path: str, note: Callable[[str], None]) -> Picture:
-    """A scan; where its codes are scaled, that is noted."""
+def read_scan(path: str, warn: Callable[[str], None]) -> Picture:
+    """A scan; where its codes are scaled, a warning says so."""
     picture = read_picture(path)
     if picture.maxval < 255:
-        note(f"{path}: maxval {picture.maxval}: samples scaled to the codes 0 to 255, in whose levels weight and box are")
+        warn(f"{path}: maxval {picture.maxval}: samples scaled to the codes 0 to 255, in whose levels weight and box are")
     return picture
 
 
@@ -29,7 +29,7 @@ def read_weights(options: Any) -> Optional[Pairs]:
     return weights_from_picture(picture.samples, options.weight, picture.maxval)
 
 
-def ask_same_size(weights: Optional[Pairs], scan: Picture) -> None:
+def require_same_size(weights: Optional[Pairs], scan: Picture) -> None:
     """A ValueError where the weight picture is not as large as the scan."""
     if weights is not None and weights.shape != scan.samples.shape:
         (height, width), (rows, columns) = weights.shape, scan.samples.shape
