@@ -1,7 +1,7 @@
 #!/usr/bin/env bash
 # Builds the season report and compares what it prints with the second implementation's text, on about 3,400 seasons, or on
 # about 24,000 with the argument `full`, one of these of 3 gigabytes. With the argument `bench` it times the program
-# beside the second implementation's fast one instead. The prover's lines go to target/season.log. RELIEF_SEASON, if set,
+# beside the second implementation's optimized one instead. The prover's lines go to target/season.log. RELIEF_SEASON, if set,
 # is the path of another program: that is taken as it is, and nothing is built.
 set -euo pipefail
 if [ -n "${RELIEF_SEASON:-}" ]; then
@@ -19,9 +19,9 @@ if [ ! -x "$program" ]; then
 fi
 cd rust
 if [ "${1:-quick}" = bench ]; then
-    cargo build --offline --quiet --release -p relief-reference --bin season-plain
+    cargo build --offline --quiet --release -p relief-reference --bin season-optimized
     cargo run --offline --quiet --release -p relief-bench --bin season-bench --no-default-features -- \
-        "$program" "${CARGO_TARGET_DIR:-target}/release/season-plain"
+        "$program" "${CARGO_TARGET_DIR:-target}/release/season-optimized"
 else
     cargo run --offline --quiet --release -p relief-program -- season "$program" "${1:-quick}"
 fi

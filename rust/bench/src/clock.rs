@@ -8,7 +8,7 @@ pub enum Side {
     /// What was proved.
     Proved,
     /// The second implementation.
-    Plain,
+    Reference,
 }
 
 /// The times of one side, in ascending order.
@@ -25,7 +25,7 @@ impl Times {
 pub fn by_turns(repetitions: usize, mut work: impl FnMut(Side)) -> [Times; 2] {
     let mut times = [Vec::new(), Vec::new()];
     for repetition in 0..=repetitions {
-        for (side, times) in [Side::Proved, Side::Plain].into_iter().zip(&mut times) {
+        for (side, times) in [Side::Proved, Side::Reference].into_iter().zip(&mut times) {
             let start = Instant::now();
             work(side);
             if repetition > 0 {

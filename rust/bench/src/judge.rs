@@ -3,67 +3,67 @@
 
 use std::hint::black_box;
 
-use relief_reference::plain::{check_plain, price_plain};
+use relief_reference::optimized;
 
-use crate::measure::{report, Lent};
+use crate::measure::{report, Workload};
 
-pub fn price(lent: &mut Lent) {
+pub fn price(workload: &mut Workload) {
     report(
         "price",
-        lent,
+        workload,
         1,
-        |lent| {
-            let Lent {
+        |workload| {
+            let Workload {
                 library_terms,
                 samples,
                 weights,
                 image,
                 ..
-            } = lent;
+            } = workload;
             let figures = relief::price(library_terms, samples, weights, image);
             assert!(black_box(figures).is_ok(), "the price is refused");
         },
-        |lent| {
-            let Lent {
+        |workload| {
+            let Workload {
                 terms,
                 samples,
                 weights,
                 image,
                 ..
-            } = lent;
-            let figures = price_plain(terms, samples, weights, image);
+            } = workload;
+            let figures = optimized::price(terms, samples, weights, image);
             assert!(black_box(figures).is_ok(), "the price is refused");
         },
     );
 }
 
-pub fn check(lent: &mut Lent) {
+pub fn check(workload: &mut Workload) {
     report(
         "check",
-        lent,
+        workload,
         1,
-        |lent| {
-            let Lent {
+        |workload| {
+            let Workload {
                 library_terms,
                 samples,
                 weights,
                 flow,
                 image,
                 ..
-            } = lent;
+            } = workload;
             let figures = relief::check(library_terms, samples, weights, flow, image);
             assert!(black_box(figures).is_ok(), "the check is refused");
         },
-        |lent| {
-            let Lent {
+        |workload| {
+            let Workload {
                 terms,
                 samples,
                 weights,
                 flow,
                 image,
                 ..
-            } = lent;
-            let figures = check_plain(terms, samples, weights, flow, image);
+            } = workload;
+            let figures = optimized::check(terms, samples, weights, flow, image);
             assert!(black_box(figures).is_ok(), "the check is refused");
         },
     );

@@ -14,7 +14,7 @@ pub const REPETITIONS: usize = 7;
 const PIXELS: usize = 1 << 23;
 
 /// A square job and its buffers.
-pub struct Lent {
+pub struct Workload {
     pub side: u32,
     pub terms: Terms,
     /// The same in the library's type.
@@ -42,10 +42,10 @@ pub struct Read {
     pub flow: Vec<i32>,
 }
 
-impl Lent {
+impl Workload {
     /// A noisy job whose steady rounds go on for long, with a flow that a check accepts and an
     /// image that a price accepts. With weights, their mean is about the terms' weight.
-    pub fn new(side: u32, weighted: bool) -> Lent {
+    pub fn new(side: u32, weighted: bool) -> Workload {
         let mut random = Random::new(0xBE2C4);
         let (width, height) = (side, side);
         let (weight, low, high) = (16_384, 16, 240);
@@ -64,7 +64,7 @@ impl Lent {
             weights.extend((0..pairs).map(|_| random.between(0, most) as i32));
         }
         let (lower, upper) = terms.bounds().into_inner();
-        Lent {
+        Workload {
             side,
             terms,
             library_terms: relief::Terms {
@@ -96,22 +96,22 @@ impl Lent {
 /// takes `turns` turns over all pixels.
 pub fn report(
     name: &str,
-    lent: &mut Lent,
+    workload: &mut Workload,
     turns: usize,
-    library: impl Fn(&mut Lent),
-    reference: impl Fn(&mut Lent),
+    library: impl Fn(&mut Workload),
+    reference: impl Fn(&mut Workload),
 ) {
-    let pixels = lent.samples.len();
+    let pixels = workload.samples.len();
     let repeats = PIXELS.div_ceil(pixels * turns);
     let visits = (repeats * turns * pixels) as f64;
     let [ours, theirs] = by_turns(REPETITIONS, |side| match side {
-        Side::Proved => (0..repeats).for_each(|_| library(lent)),
-        Side::Plain => (0..repeats).for_each(|_| reference(lent)),
+        Side::Proved => (0..repeats).for_each(|_| library(workload)),
+        Side::Reference => (0..repeats).for_each(|_| reference(workload)),
     })
     .map(|times| times.median() * 1e9 / visits);
     let ratio = ours / theirs;
-    let side = lent.side;
-    let name = match lent.weights[..] {
+    let side = workload.side;
+    let name = match workload.weights[..] {
         [] => name.to_string(),
         _ => format!("weighted {name}"),
     };

@@ -1,6 +1,6 @@
-//! Times the season report beside the second implementation's, which has the loop nests, as whole
-//! programs: the same file as standard input, by turns, with the start of the process and all its
-//! reading. Then it finds how much memory each takes at most.
+//! Times the season report beside the second implementation's optimized one, as whole programs: the
+//! same file as standard input, by turns, with the start of the process and all its reading. Then
+//! it finds how much memory each takes at most.
 //!
 //! `season-bench PROVED PLAIN` is given the paths of the two programs.
 
@@ -23,11 +23,11 @@ use relief_reference::{Rounds, Terms};
 const REPETITIONS: usize = 11;
 
 /// A program takes what is left in its pipe in this time.
-const EMPTIED: Duration = Duration::from_millis(500);
+const DRAIN_TIME: Duration = Duration::from_millis(500);
 
 fn main() -> ExitCode {
     let arguments: Vec<String> = env::args().skip(1).collect();
-    let [proved, plain] = &arguments[..] else {
+    let [proved, reference] = &arguments[..] else {
         eprintln!("usage: season-bench PROVED PLAIN");
         return ExitCode::from(2);
     };
@@ -41,19 +41,19 @@ fn main() -> ExitCode {
         ratio = "ratio"
     );
     for (name, season) in seasons() {
-        report(name, &season, proved, plain);
+        report(name, &season, proved, reference);
     }
     ExitCode::SUCCESS
 }
 
 /// Times both programs on a season and prints a line.
-fn report(name: &str, season: &[u8], proved: &str, plain: &str) {
-    let file = Stored::new(season);
+fn report(name: &str, season: &[u8], proved: &str, reference: &str) {
+    let file = TemporaryFile::new(season);
     let mut texts = Vec::new();
     let times = by_turns(REPETITIONS, |side| {
         let path = match side {
             Side::Proved => proved,
-            Side::Plain => plain,
+            Side::Reference => reference,
         };
         texts.push(printed(path, &file));
     });
@@ -62,10 +62,10 @@ fn report(name: &str, season: &[u8], proved: &str, plain: &str) {
     assert!(texts.iter().all(|text| text == first), "the texts differ");
 
     let figures = |figure: fn(&Times) -> f64| {
-        let [proved, plain] = times.each_ref().map(|times| 1e3 * figure(times));
-        format!("{proved:9.1}{plain:9.1}{:7.2}", proved / plain)
+        let [proved, reference] = times.each_ref().map(|times| 1e3 * figure(times));
+        format!("{proved:9.1}{reference:9.1}{:7.2}", proved / reference)
     };
-    let memory = [proved, plain].map(|path| match peak_memory(path, season) {
+    let memory = [proved, reference].map(|path| match peak_memory(path, season) {
         Some(kibibytes) => format!("{kibibytes:>9}"),
         None => format!("{:>9}", "?"),
     });
@@ -116,24 +116,24 @@ fn seasons() -> [(&'static str, Vec<u8>); 4] {
 }
 
 /// A season in a file, which is removed with it.
-struct Stored(PathBuf);
+struct TemporaryFile(PathBuf);
 
-impl Stored {
-    fn new(season: &[u8]) -> Stored {
+impl TemporaryFile {
+    fn new(season: &[u8]) -> TemporaryFile {
         let path = env::temp_dir().join(format!("season-bench-{}.tape", process::id()));
         fs::write(&path, season).expect("the season is stored");
-        Stored(path)
+        TemporaryFile(path)
     }
 }
 
-impl Drop for Stored {
+impl Drop for TemporaryFile {
     fn drop(&mut self) {
         let _ = fs::remove_file(&self.0);
     }
 }
 
 /// What the program prints for the season in the file.
-fn printed(path: &str, season: &Stored) -> String {
+fn printed(path: &str, season: &TemporaryFile) -> String {
     let output = Command::new(path)
         .stdin(File::open(&season.0).expect("the season is there"))
         .output()
@@ -152,7 +152,7 @@ fn peak_memory(path: &str, season: &[u8]) -> Option<u64> {
     let (last, others) = season.split_last().expect("a season has bytes");
     let mut pipe = child.stdin.take().expect("its input is a pipe");
     pipe.write_all(others).expect("the program reads");
-    thread::sleep(EMPTIED);
+    thread::sleep(DRAIN_TIME);
     let status = fs::read_to_string(format!("/proc/{}/status", child.id()));
     pipe.write_all(&[*last]).expect("the program reads");
     drop(pipe);

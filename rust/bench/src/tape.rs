@@ -1,29 +1,29 @@
 //! Write and read of the job's tape, which has its flow: one call each. The second implementation
-//! has no loop nest for this: it collects the bytes or the numbers in vectors first.
+//! has no optimized calls for this: it collects the bytes or the numbers in vectors first.
 
 use std::hint::black_box;
 
 use relief_reference as reference;
 
-use crate::measure::{report, Lent};
+use crate::measure::{report, Workload};
 
 const QUICK: u32 = 100;
 const ALLOWANCE: u16 = 1_000;
 
-pub fn write(lent: &mut Lent) {
+pub fn write(workload: &mut Workload) {
     report(
         "write",
-        lent,
+        workload,
         1,
-        |lent| {
-            let Lent {
+        |workload| {
+            let Workload {
                 library_terms,
                 samples,
                 weights,
                 flow,
                 tape,
                 ..
-            } = lent;
+            } = workload;
             let rounds = relief::Rounds {
                 quick: QUICK,
                 allowance: ALLOWANCE,
@@ -31,15 +31,15 @@ pub fn write(lent: &mut Lent) {
             let count = relief::write(library_terms, &rounds, samples, weights, flow, tape);
             assert_eq!(black_box(count), Ok(tape.len()));
         },
-        |lent| {
-            let Lent {
+        |workload| {
+            let Workload {
                 terms,
                 samples,
                 weights,
                 flow,
                 tape,
                 ..
-            } = lent;
+            } = workload;
             let rounds = reference::Rounds {
                 quick: QUICK,
                 allowance: ALLOWANCE,
@@ -51,18 +51,18 @@ pub fn write(lent: &mut Lent) {
 }
 
 /// After [`write`], whose tape it reads.
-pub fn read(lent: &mut Lent) {
+pub fn read(workload: &mut Workload) {
     report(
         "read",
-        lent,
+        workload,
         1,
-        |lent| {
-            let Lent { tape, read, .. } = lent;
+        |workload| {
+            let Workload { tape, read, .. } = workload;
             let job = relief::read(tape, &mut read.samples, &mut read.weights, &mut read.flow);
             assert!(black_box(job).is_ok(), "the tape is refused");
         },
-        |lent| {
-            let Lent { tape, read, .. } = lent;
+        |workload| {
+            let Workload { tape, read, .. } = workload;
             let job = reference::read(tape, &mut read.samples, &mut read.weights, &mut read.flow);
             assert!(black_box(job).is_ok(), "the tape is refused");
         },

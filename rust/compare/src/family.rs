@@ -29,8 +29,8 @@ pub struct Call<I, T> {
     pub name: &'static str,
     pub library: fn(&mut I) -> Answer<T>,
     pub reference: fn(&mut I) -> Answer<T>,
-    /// The word under which an accepted answer is counted.
-    pub word: fn(&T) -> String,
+    /// The label under which an accepted answer is counted.
+    pub label: fn(&T) -> String,
 }
 
 impl<I: Input, T: Debug + PartialEq> Call<I, T> {
@@ -64,9 +64,9 @@ impl<I: Input, T: Debug + PartialEq> Call<I, T> {
     ) -> Result<(), Difference> {
         let title = format!("{}, {title}", self.name);
         compare_family(&title, inputs, |input| {
-            Ok(self.worded(self.compare(input)?.0))
+            Ok(self.labelled(self.compare(input)?.0))
         })?
-        .met(&[], numbers)
+        .require(&[], numbers)
     }
 
     /// Compares the call on inputs that come with the documents' answer: taken or refused.
@@ -76,7 +76,7 @@ impl<I: Input, T: Debug + PartialEq> Call<I, T> {
         numbers: &[u32],
         values: impl Iterator<Item = (I, Answer<()>)>,
     ) -> Result<(), Difference> {
-        self.compare_due(title, numbers, values, |_| ())
+        self.compare_expected(title, numbers, values, |_| ())
     }
 
     /// Compares the call on inputs that come with the documents' whole answer.
@@ -90,11 +90,11 @@ impl<I: Input, T: Debug + PartialEq> Call<I, T> {
     where
         T: Copy,
     {
-        self.compare_due(title, numbers, values, |accepted| *accepted)
+        self.compare_expected(title, numbers, values, |accepted| *accepted)
     }
 
     /// Compares the call on inputs that come with what the documents `tell` of its answer.
-    fn compare_due<D: Debug + PartialEq>(
+    fn compare_expected<D: Debug + PartialEq>(
         &self,
         title: &str,
         numbers: &[u32],
@@ -108,13 +108,13 @@ impl<I: Input, T: Debug + PartialEq> Call<I, T> {
                 let differs = format!("both answer {answer:?}, the documents {expected:?}");
                 return Err(self.difference(&differs, input));
             }
-            Ok(self.worded(answer))
+            Ok(self.labelled(answer))
         })?
-        .met(&[], numbers)
+        .require(&[], numbers)
     }
 
-    fn worded(&self, answer: Answer<T>) -> Answer<String> {
-        answer.map(|accepted| (self.word)(&accepted))
+    fn labelled(&self, answer: Answer<T>) -> Answer<String> {
+        answer.map(|accepted| (self.label)(&accepted))
     }
 
     /// What differs, with the whole input.

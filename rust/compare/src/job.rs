@@ -1,4 +1,4 @@
-//! What calls on a job are lent: jobs that are accepted, and faults to spoil them with.
+//! What calls on a job are lent: jobs that are accepted, and mutations of them.
 
 use relief_inputs::{flat, tape_length, two_by_one, Answer, Case, Random};
 use relief_reference::terms::{QUICK_LIMIT, WEIGHT_LIMIT};
@@ -84,9 +84,9 @@ impl JobInput {
     }
 
     /// The job with up to three faults, often with none.
-    pub fn spoiled(mut self, random: &mut Random) -> JobInput {
+    pub fn mutated(mut self, random: &mut Random) -> JobInput {
         for _ in 0..random.pick(&[0, 0, 0, 1, 1, 2, 3]) {
-            random.pick(&FAULTS)(&mut self, random);
+            random.pick(&MUTATIONS)(&mut self, random);
         }
         self
     }
@@ -146,20 +146,22 @@ fn weights_limits() -> impl Iterator<Item = (JobInput, Answer<()>)> {
 }
 
 /// Jobs of a call's own kind with every two faults, the one made before the other.
-pub fn two_faults(job: fn(&mut Random, (u32, u32)) -> JobInput) -> impl Iterator<Item = JobInput> {
+pub fn two_mutations(
+    job: fn(&mut Random, (u32, u32)) -> JobInput,
+) -> impl Iterator<Item = JobInput> {
     let mut random = Random::new(0x2FA17);
-    (0..4 * FAULTS.len() * FAULTS.len()).map(move |turn| {
+    (0..4 * MUTATIONS.len() * MUTATIONS.len()).map(move |turn| {
         let mut input = job(&mut random, (3, 2));
-        FAULTS[turn % FAULTS.len()](&mut input, &mut random);
-        FAULTS[turn / FAULTS.len() % FAULTS.len()](&mut input, &mut random);
+        MUTATIONS[turn % MUTATIONS.len()](&mut input, &mut random);
+        MUTATIONS[turn / MUTATIONS.len() % MUTATIONS.len()](&mut input, &mut random);
         input
     })
 }
 
-/// Something that makes a call turn back, if it takes what is spoiled.
-type Fault = fn(&mut JobInput, &mut Random);
+/// Something that makes a call turn back, if it takes what is changed.
+type Mutation = fn(&mut JobInput, &mut Random);
 
-const FAULTS: [Fault; 13] = [
+const MUTATIONS: [Mutation; 13] = [
     size,
     weight,
     ends_of_the_box,
@@ -220,17 +222,17 @@ fn weights_length(input: &mut JobInput, random: &mut Random) {
     input.weights.resize_with(length, weight);
 }
 
-/// Where there are no weights, those of the terms are spoiled.
+/// Where there are no weights, those of the terms are changed.
 fn weight_values(input: &mut JobInput, random: &mut Random) {
     input.weights = input.pair_weights();
     let beyond = i64::from(WEIGHT_LIMIT) + 1;
-    spoil_values(&mut input.weights, random, |_| (-1, beyond));
+    mutate_values(&mut input.weights, random, |_| (-1, beyond));
 }
 
 /// Beyond the weights of the pairs.
 fn flow_values(input: &mut JobInput, random: &mut Random) {
     let weights = input.pair_weights();
-    spoil_values(&mut input.flow, random, |index| {
+    mutate_values(&mut input.flow, random, |index| {
         let weight = weights.get(index).copied().unwrap_or_default();
         let beyond = i64::from(weight) + 1;
         (-beyond, beyond)
@@ -240,7 +242,7 @@ fn flow_values(input: &mut JobInput, random: &mut Random) {
 fn image_values(input: &mut JobInput, random: &mut Random) {
     let (lower, upper) = input.terms.bounds().into_inner();
     let outside = (i64::from(lower) - 1, i64::from(upper) + 1);
-    spoil_values(&mut input.image, random, |_| outside);
+    mutate_values(&mut input.image, random, |_| outside);
 }
 
 /// Gives a buffer another length: one more, one less, none or any up to twice as many.
@@ -253,7 +255,7 @@ fn resize<T>(buffer: &mut Vec<T>, random: &mut Random, value: fn(&mut Random) ->
 
 /// Sets up to three values to one just out of the range of its index, below it or above it, or far
 /// out of it.
-fn spoil_values(buffer: &mut [i32], random: &mut Random, outside: impl Fn(usize) -> (i64, i64)) {
+fn mutate_values(buffer: &mut [i32], random: &mut Random, outside: impl Fn(usize) -> (i64, i64)) {
     if buffer.is_empty() {
         return;
     }

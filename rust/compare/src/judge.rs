@@ -1,7 +1,7 @@
 //! Price and check.
 
 use relief_inputs::{
-    beside_the_bound, chessboard, chessboard_flow, compare_family, jointed, two_by_one, Answer,
+    chessboard, chessboard_flow, compare_family, compare_with_bound, jointed, two_by_one, Answer,
     Difference, Random,
 };
 use relief_reference::terms::{reading, WEIGHT_LIMIT};
@@ -9,7 +9,7 @@ use relief_reference::{Figures, Outcome, Refusal, Terms};
 
 use crate::convert::{figures, refusal, terms};
 use crate::family::Call;
-use crate::job::{limits, two_faults, JobInput, LARGEST};
+use crate::job::{limits, two_mutations, JobInput, LARGEST};
 
 const PRICE: Call<JobInput, Figures> = Call {
     name: "price",
@@ -26,7 +26,7 @@ const PRICE: Call<JobInput, Figures> = Call {
     reference: |input| {
         relief_reference::price(&input.terms, &input.samples, &input.weights, &input.image)
     },
-    word: |figures| figures.outcome.to_string(),
+    label: |figures| figures.outcome.to_string(),
 };
 
 const CHECK: Call<JobInput, Figures> = Call {
@@ -51,7 +51,7 @@ const CHECK: Call<JobInput, Figures> = Call {
             &mut input.image,
         )
     },
-    word: |figures| figures.outcome.to_string(),
+    label: |figures| figures.outcome.to_string(),
 };
 
 /// Compares both calls on the same inputs.
@@ -68,8 +68,8 @@ pub fn compare(step: usize) -> Result<(), Difference> {
     let price_numbers = [1, 2, 3, 4, 6, 9, 19];
     let check_numbers = [1, 2, 3, 4, 5, 6, 8, 19];
     let title = "two faults";
-    PRICE.compare_family(title, &price_numbers, two_faults(JobInput::accepted))?;
-    CHECK.compare_family(title, &check_numbers, two_faults(JobInput::accepted))?;
+    PRICE.compare_family(title, &price_numbers, two_mutations(JobInput::accepted))?;
+    CHECK.compare_family(title, &check_numbers, two_mutations(JobInput::accepted))?;
     let title = "1 to 300 pixels";
     PRICE.compare_family(title, &price_numbers, small(step))?;
     CHECK.compare_family(title, &check_numbers, small(step))?;
@@ -153,14 +153,14 @@ fn compare_two_flows(step: usize) -> Result<(), Difference> {
         let (second, other) = CHECK.compare(other)?;
         match (first, second) {
             (Ok(first), Ok(second)) => {
-                beside_the_bound([&one.image, &other.image], [first.slack, second.slack])
+                compare_with_bound([&one.image, &other.image], [first.slack, second.slack])
                     .map(Ok)
                     .map_err(|apart| CHECK.difference(&apart, inputs))
             }
             (Err(refusal), _) | (_, Err(refusal)) => Ok(Err(refusal)),
         }
     })?
-    .met(&words, &[])
+    .require(&words, &[])
 }
 
 /// A job with two flows: small ones and, one in a thousand, the most pixels.
@@ -218,7 +218,7 @@ fn small(step: usize) -> impl Iterator<Item = JobInput> {
     let mut random = Random::new(0x4A0D6E);
     (0..200_000).step_by(step).map(move |_| {
         let size = random.size(300);
-        JobInput::accepted(&mut random, size).spoiled(&mut random)
+        JobInput::accepted(&mut random, size).mutated(&mut random)
     })
 }
 
@@ -234,7 +234,7 @@ fn large(step: usize) -> impl Iterator<Item = JobInput> {
             2 => farthest(input, [255, 0][turn / 3 % 2]),
             // As drawn.
             3 => input,
-            _ => input.spoiled(&mut random),
+            _ => input.mutated(&mut random),
         }
     })
 }

@@ -5,7 +5,7 @@ use relief_reference::{Figures, Rounds};
 
 use crate::convert::{figures, refusal, rounds, terms};
 use crate::family::Call;
-use crate::job::{limits, two_faults, JobInput, LARGEST};
+use crate::job::{limits, two_mutations, JobInput, LARGEST};
 
 const RUN: Call<JobInput, Figures> = Call {
     name: "run",
@@ -33,7 +33,7 @@ const RUN: Call<JobInput, Figures> = Call {
             &mut input.work,
         )
     },
-    word: |figures| figures.outcome.to_string(),
+    label: |figures| figures.outcome.to_string(),
 };
 
 /// Compares runs of few rounds, of the most rounds, and of the most pixels.
@@ -41,7 +41,7 @@ pub fn compare(step: usize) -> Result<(), Difference> {
     RUN.compare_values("the documents' limits", &[1, 2, 19], limits())?;
     let numbers = [1, 2, 3, 4, 5, 6, 7, 10, 19];
     let few = |random: &mut Random, size| input(random, size, Rounds::default());
-    RUN.compare_family("two faults", &numbers, two_faults(few))?;
+    RUN.compare_family("two faults", &numbers, two_mutations(few))?;
     RUN.compare_family("1 to 120 pixels", &numbers, small(step))?;
     RUN.compare_family("the most rounds", &[], long(step))?;
     RUN.compare_family("1,048,576 pixels", &[], large(step))
@@ -60,7 +60,7 @@ fn small(step: usize) -> impl Iterator<Item = JobInput> {
         };
         let rounds = random.pick(&[rounds, few]);
         let size = random.size(120);
-        input(&mut random, size, rounds).spoiled(&mut random)
+        input(&mut random, size, rounds).mutated(&mut random)
     })
 }
 

@@ -1,14 +1,14 @@
 //! Read and write.
 
 use relief_inputs::{
-    flawed_reads, jointed, record_orders, small_tapes, tape_length, Answer, Difference, Random,
+    jointed, mutated_reads, record_orders, small_tapes, tape_length, Answer, Difference, Random,
     Tape, TapeInput,
 };
 use relief_reference::{Job, Refusal, Terms};
 
 use crate::convert::{job, refusal, rounds, terms};
 use crate::family::{first_difference, Call, Input};
-use crate::job::{limits, two_faults, JobInput, LARGEST};
+use crate::job::{limits, two_mutations, JobInput, LARGEST};
 
 impl Input for TapeInput {
     fn difference(&self, other: &TapeInput) -> Option<String> {
@@ -30,14 +30,14 @@ const READ: Call<TapeInput, Job> = Call {
         )
     },
     reference: TapeInput::read,
-    word: what_it_has,
+    label: label_of,
 };
 
 const WRITE: Call<JobInput, usize> = Call {
     name: "write",
     library: write,
     reference: write_by_reference,
-    word: |_| "written".to_string(),
+    label: |_| "written".to_string(),
 };
 
 /// The library writes a tape and reads it again, which gives the job.
@@ -68,7 +68,7 @@ const WRITE_AND_READ: Call<JobInput, Job> = Call {
             has_flow: !input.flow.is_empty(),
         })
     },
-    word: what_it_has,
+    label: label_of,
 };
 
 fn read(tape: &[u8], samples: &mut [u8], weights: &mut [i32], flow: &mut [i32]) -> Answer<Job> {
@@ -100,7 +100,7 @@ fn write_by_reference(input: &mut JobInput) -> Answer<usize> {
     )
 }
 
-fn what_it_has(job: &Job) -> String {
+fn label_of(job: &Job) -> String {
     match (job.has_weights, job.has_flow) {
         (false, false) => "samples alone",
         (false, true) => "with flow",
@@ -111,7 +111,7 @@ fn what_it_has(job: &Job) -> String {
 }
 
 fn pair_count(terms: &Terms) -> usize {
-    terms.judge().expect("accepted terms").pair_count()
+    terms.validate().expect("accepted terms").pair_count()
 }
 
 /// Compares reads of cut, faulty, changed, damaged and random tapes, then writes.
@@ -122,11 +122,11 @@ pub fn compare(step: usize) -> Result<(), Difference> {
     READ.compare_values("every prefix", &[13, 18], prefixes())?;
     READ.compare_values("every order of records", &[14, 15, 18], orders())?;
     let numbers = [1, 2, 3, 8, 10, 12, 13, 14, 15, 16, 18];
-    READ.compare_values("two faults", &numbers, flaws())?;
+    READ.compare_values("two faults", &numbers, mutations())?;
     READ.compare_family("every changed byte", &[], changes(step))?;
     READ.compare_family("damaged and random tapes", &numbers, damages(step))?;
     let numbers = [1, 2, 3, 4, 5, 8, 10, 16, 19];
-    WRITE.compare_family("two faults", &numbers, two_faults(writable))?;
+    WRITE.compare_family("two faults", &numbers, two_mutations(writable))?;
     WRITE.compare_family("1 to 40 pixels", &numbers, jobs(step))?;
     WRITE_AND_READ.compare_family("1 to 40 pixels", &numbers, jobs(step))?;
     WRITE_AND_READ.compare_family("1,048,576 pixels", &[], large_jobs(step))
@@ -170,10 +170,10 @@ fn orders() -> impl Iterator<Item = (TapeInput, Answer<()>)> {
     record_orders(5).map(move |(tape, answer)| (filled(&mut random, tape, [3, 2, 2]), answer))
 }
 
-/// A tape with each flaw alone and with each two of them, with the answer that is due.
-fn flaws() -> impl Iterator<Item = (TapeInput, Answer<()>)> {
+/// A tape with each mutation alone and with each two of them, with the answer that is due.
+fn mutations() -> impl Iterator<Item = (TapeInput, Answer<()>)> {
     let mut random = Random::new(0x2FA18);
-    flawed_reads().into_iter().map(move |(input, answer)| {
+    mutated_reads().into_iter().map(move |(input, answer)| {
         let lengths = [input.samples.len(), input.weights.len(), input.flow.len()];
         (filled(&mut random, input.tape, lengths), answer)
     })
@@ -219,7 +219,7 @@ fn jobs(step: usize) -> impl Iterator<Item = JobInput> {
     let mut random = Random::new(0x3417E);
     (0..50_000).step_by(step).map(move |_| {
         let size = random.size(40);
-        writable(&mut random, size).spoiled(&mut random)
+        writable(&mut random, size).mutated(&mut random)
     })
 }
 

@@ -175,7 +175,7 @@ impl Case {
 
     /// The grid of the job's size.
     pub fn grid(&self) -> Grid {
-        self.terms.judge().expect("a case has accepted terms")
+        self.terms.validate().expect("a case has accepted terms")
     }
 
     /// The job's tape with `flow`, where an empty one is none.

@@ -29,59 +29,59 @@ pub fn status(ended: Result<(), Difference>) -> ExitCode {
     }
 }
 
-/// Compares every input and prints the counts under `title`. `compare` gives the answer, in a
-/// word if it is accepted, where the two agree.
+/// Compares every input and prints the counts under `title`. `compare` gives the answer, by a
+/// label if it is accepted, where the two agree.
 pub fn compare_family<I>(
     title: &str,
     inputs: impl IntoIterator<Item = I>,
     compare: impl Fn(&I) -> Result<Answer<String>, Difference>,
-) -> Result<Tally, Difference> {
-    let mut tally = Tally::default();
+) -> Result<Counts, Difference> {
+    let mut counts = Counts::default();
     for input in inputs {
-        tally.add(compare(&input)?);
+        counts.add(compare(&input)?);
     }
-    println!("{title}: {tally}");
-    Ok(tally)
+    println!("{title}: {counts}");
+    Ok(counts)
 }
 
-/// How many inputs were accepted, by word, and how many refused, by number.
+/// How many inputs were accepted, by label, and how many refused, by number.
 #[derive(Default)]
-pub struct Tally {
+pub struct Counts {
     accepted: BTreeMap<String, usize>,
     refused: BTreeMap<u32, usize>,
 }
 
-impl Tally {
+impl Counts {
     fn add(&mut self, answer: Answer<String>) {
         *match answer {
-            Ok(word) => self.accepted.entry(word).or_default(),
+            Ok(label) => self.accepted.entry(label).or_default(),
             Err(refusal) => self.refused.entry(refusal.number).or_default(),
         } += 1;
     }
 
-    /// Sees to it that each of these words and refusals was met.
-    pub fn met(&self, words: &[&str], numbers: &[u32]) -> Result<(), Difference> {
-        let words = words
+    /// Requires that each of these labels and refusals was met.
+    pub fn require(&self, labels: &[&str], numbers: &[u32]) -> Result<(), Difference> {
+        let labels = labels
             .iter()
-            .filter(|&&word| !self.accepted.contains_key(word))
-            .map(|word| word.to_string());
+            .filter(|&&label| !self.accepted.contains_key(label))
+            .map(|label| label.to_string());
         let numbers = numbers
             .iter()
             .filter(|number| !self.refused.contains_key(number))
             .map(|number| format!("refused {number}"));
-        match words.chain(numbers).next() {
+        match labels.chain(numbers).next() {
             Some(missing) => Err(Difference(format!("no input was {missing}"))),
             None => Ok(()),
         }
     }
 }
 
-impl Display for Tally {
+impl Display for Counts {
     fn fmt(&self, out: &mut fmt::Formatter<'_>) -> fmt::Result {
         let total: usize = self.accepted.values().chain(self.refused.values()).sum();
         write!(out, "{total} compared")?;
-        for (word, count) in &self.accepted {
-            write!(out, "; {word}: {count}")?;
+        for (label, count) in &self.accepted {
+            write!(out, "; {label}: {count}")?;
         }
         for (number, count) in &self.refused {
             write!(out, "; refused {number}: {count}")?;

@@ -1,11 +1,11 @@
 //! What tests, comparisons and benchmark share: jobs, their tapes and seasons of them, random,
-//! extreme, damaged and with flaws, the counts of what a family of them was answered, and two
+//! extreme, damaged and with mutations, the counts of what a family of them was answered, and two
 //! images of one job beside the bound of their slacks.
 
 mod case;
 mod chessboard;
 mod family;
-mod flaws;
+mod mutations;
 mod orders;
 mod random;
 mod read;
@@ -18,11 +18,11 @@ pub use case::{
     weighted_square, Case, JOINTED_TEXT, SQUARE_FLOW, TWO_BY_ONE_TEXT,
 };
 pub use chessboard::{chessboard, chessboard_flow};
-pub use family::{compare_family, status, Answer, Difference, Tally};
-pub use flaws::{flaw, flawed, Flaw};
+pub use family::{compare_family, status, Answer, Counts, Difference};
+pub use mutations::{mutated, mutation, Mutation};
 pub use orders::record_orders;
 pub use random::Random;
-pub use read::{flawed_jobs, flawed_reads, flawed_tapes, TapeInput};
+pub use read::{mutated_jobs, mutated_reads, mutated_tapes, TapeInput};
 pub use season::{concatenated, filler, season_job, season_prefixes, TWO_BY_ONE_SEASON};
 pub use tape::{changes_of, small_tapes, tape_length, Tape};
-pub use two_flows::beside_the_bound;
+pub use two_flows::compare_with_bound;

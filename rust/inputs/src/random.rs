@@ -1,6 +1,6 @@
 //! Random parts of jobs, the same for the same seed everywhere.
 
-use relief_reference::terms::{LEVEL, QUICK_LIMIT};
+use relief_reference::terms::{QUICK_LIMIT, SUB_UNITS_PER_LEVEL};
 use relief_reference::Rounds;
 
 /// Marsaglia's xorshift generator of random numbers.
@@ -154,7 +154,7 @@ impl Random {
     /// level or in the last one, or at the ends of these.
     pub fn image(&mut self, count: usize, lower: i32, upper: i32) -> Vec<i32> {
         let (lower, upper) = (i64::from(lower), i64::from(upper));
-        let rest = i64::from(LEVEL) - 1;
+        let rest = i64::from(SUB_UNITS_PER_LEVEL) - 1;
         let (low, high) = self.pick(&[
             (lower, upper),
             (lower, upper),

@@ -2,9 +2,9 @@
 
 use relief_reference::problem::{squared_distance, widened, within_gaps};
 
-/// The images of two flows of one job beside the bound of their slacks, in a word. An error where
+/// The images of two flows of one job beside the bound of their slacks, as a label. An error where
 /// they are further apart.
-pub fn beside_the_bound(images: [&[i32]; 2], slacks: [u64; 2]) -> Result<String, String> {
+pub fn compare_with_bound(images: [&[i32]; 2], slacks: [u64; 2]) -> Result<String, String> {
     let [one, other] = images.map(widened);
     let gaps = slacks.map(i128::from);
     let (distance, sum) = (squared_distance(&one, &other), gaps.iter().sum());

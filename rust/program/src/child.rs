@@ -2,7 +2,7 @@
 
 use std::io::{Read, Write};
 use std::path::PathBuf;
-use std::process::{Child, ChildStdin, Command, ExitStatus, Stdio};
+use std::process::{Child, ChildStdin, Command, ExitStatus, Output, Stdio};
 use std::thread;
 use std::time::{Duration, Instant};
 
@@ -71,13 +71,6 @@ impl Input {
     }
 }
 
-/// What is left of a program that has ended.
-pub struct Ended {
-    pub status: ExitStatus,
-    pub stdout: Vec<u8>,
-    pub stderr: Vec<u8>,
-}
-
 impl Program {
     pub fn new(path: &str) -> Program {
         Program(path.into())
@@ -105,14 +98,14 @@ fn captured(mut command: Command) -> Command {
 }
 
 /// Starts the program and waits until it has ended.
-pub fn run(command: &mut Command, input: &Input) -> Result<Ended, String> {
+pub fn run(command: &mut Command, input: &Input) -> Result<Output, String> {
     let mut child = start(command)?;
     let stdout = child.stdout.take();
     finish(child, stdout, input)
 }
 
 /// The same with the reading end of standard output closed before the program has its input.
-pub fn run_unread(command: &mut Command, input: &Input) -> Result<Ended, String> {
+pub fn run_unread(command: &mut Command, input: &Input) -> Result<Output, String> {
     let mut child = start(command)?;
     drop(child.stdout.take());
     finish(child, None::<&[u8]>, input)
@@ -129,7 +122,7 @@ fn finish(
     mut child: Child,
     stdout: Option<impl Read + Send>,
     input: &Input,
-) -> Result<Ended, String> {
+) -> Result<Output, String> {
     let (mut stdin, stderr) = (child.stdin.take(), child.stderr.take());
     thread::scope(|scope| {
         scope.spawn(|| {
@@ -140,10 +133,10 @@ fn finish(
                 stdin = None;
             }
         });
-        let stdout = scope.spawn(|| everything(stdout));
-        let stderr = scope.spawn(|| everything(stderr));
+        let stdout = scope.spawn(|| read_all(stdout));
+        let stderr = scope.spawn(|| read_all(stderr));
         let status = wait(&mut child)?;
-        Ok(Ended {
+        Ok(Output {
             status,
             stdout: stdout.join().expect("the reader does not panic")?,
             stderr: stderr.join().expect("the reader does not panic")?,
@@ -151,7 +144,7 @@ fn finish(
     })
 }
 
-fn everything(stream: Option<impl Read>) -> Result<Vec<u8>, String> {
+fn read_all(stream: Option<impl Read>) -> Result<Vec<u8>, String> {
     let mut bytes = Vec::new();
     if let Some(mut stream) = stream {
         stream

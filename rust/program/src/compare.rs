@@ -1,13 +1,15 @@
 //! One input: what the program prints for it, beside the reference's text.
 
-use relief_inputs::{compare_family, Answer, Difference, Tally};
+use std::process::Output;
+
+use relief_inputs::{compare_family, Answer, Counts, Difference};
 use relief_reference::program::clean;
 use relief_reference::Refusal;
 
-use crate::child::{run, Ended, Input, Program};
+use crate::child::{run, Input, Program};
 
 /// The most bytes of an input that a report shows.
-const SHOWN: usize = 100_000;
+const MAX_SHOWN: usize = 100_000;
 
 /// Starts the cleaning program on the tape and gives the answer, if it prints the reference's
 /// text and nothing else.
@@ -21,7 +23,7 @@ pub fn compare(program: &Program, input: &Input) -> Result<Answer<String>, Diffe
 pub fn compare_text(program: &Program, input: &Input, expected: &str) -> Result<(), Difference> {
     let differs = match run(&mut program.command(), input) {
         Err(failure) => Some(failure),
-        Ok(ended) => difference(&ended, expected.as_bytes()),
+        Ok(output) => difference(&output, expected.as_bytes()),
     };
     match differs {
         Some(differs) => Err(report(&differs, input)),
@@ -30,11 +32,11 @@ pub fn compare_text(program: &Program, input: &Input, expected: &str) -> Result<
 }
 
 /// Compares inputs that come with the answer that is due, and sees to it that both give that.
-pub fn compare_due(
+pub fn compare_expected(
     title: &str,
     inputs: impl IntoIterator<Item = (Vec<u8>, Answer<()>)>,
     compare: impl Fn(&Input) -> Result<Answer<String>, Difference>,
-) -> Result<Tally, Difference> {
+) -> Result<Counts, Difference> {
     compare_family(title, inputs, |(bytes, due)| {
         let input = bytes.clone().into();
         let answer = compare(&input)?;
@@ -52,10 +54,10 @@ pub fn report(differs: &str, input: &Input) -> Difference {
     let mut hex: String = input
         .bytes
         .iter()
-        .take(SHOWN)
+        .take(MAX_SHOWN)
         .map(|byte| format!("{byte:02x}"))
         .collect();
-    if length > SHOWN {
+    if length > MAX_SHOWN {
         hex.push_str("...");
     }
     let mut written = String::new();
@@ -74,16 +76,16 @@ pub fn report(differs: &str, input: &Input) -> Difference {
     ))
 }
 
-fn difference(ended: &Ended, expected: &[u8]) -> Option<String> {
-    if ended.stdout != expected {
-        return Some(first_line(&ended.stdout, expected));
+fn difference(output: &Output, expected: &[u8]) -> Option<String> {
+    if output.stdout != expected {
+        return Some(first_line(&output.stdout, expected));
     }
-    if !ended.stderr.is_empty() {
-        let text = ended.stderr.escape_ascii();
+    if !output.stderr.is_empty() {
+        let text = output.stderr.escape_ascii();
         return Some(format!("standard error has \"{text}\""));
     }
-    if !ended.status.success() {
-        return Some(format!("it ended with {}", ended.status));
+    if !output.status.success() {
+        return Some(format!("it ended with {}", output.status));
     }
     None
 }

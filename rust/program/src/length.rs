@@ -12,7 +12,7 @@ pub fn compare(program: &Program) -> Result<(), Difference> {
     compare_family("lengths and pieces", inputs(), |input| {
         compare_tape(program, input)
     })?
-    .met(&["settled", "checked"], &[13, 14, 15, 17])
+    .require(&["settled", "checked"], &[13, 14, 15, 17])
 }
 
 fn inputs() -> Vec<Input> {

@@ -30,7 +30,7 @@ type Comparison = fn(&Program, usize) -> Result<(), Difference>;
 fn main() -> ExitCode {
     let arguments: Vec<String> = env::args().skip(1).collect();
     let arguments: Vec<&str> = arguments.iter().map(String::as_str).collect();
-    match chosen(&arguments) {
+    match parse_arguments(&arguments) {
         Some((compare_all, path, step)) => status(compare_all(&Program::new(path), step)),
         None => {
             eprintln!("usage: program relief|season PATH quick|full");
@@ -39,7 +39,7 @@ fn main() -> ExitCode {
     }
 }
 
-fn chosen<'a>(arguments: &[&'a str]) -> Option<(Comparison, &'a str, usize)> {
+fn parse_arguments<'a>(arguments: &[&'a str]) -> Option<(Comparison, &'a str, usize)> {
     let [name, path, extent] = *arguments else {
         return None;
     };

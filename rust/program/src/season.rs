@@ -5,7 +5,7 @@ mod lengths;
 mod pipes;
 mod values;
 
-use relief_inputs::{compare_family, Answer, Difference, Tally};
+use relief_inputs::{compare_family, Answer, Counts, Difference};
 use relief_reference::season::report;
 
 use crate::child::{Input, Program};
@@ -25,7 +25,7 @@ fn family(
     program: &Program,
     title: &str,
     inputs: impl IntoIterator<Item = impl Into<Input>>,
-) -> Result<Tally, Difference> {
+) -> Result<Counts, Difference> {
     compare_family(title, inputs.into_iter().map(Into::into), |input| {
         compare(program, input)
     })

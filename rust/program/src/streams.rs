@@ -5,10 +5,11 @@ use std::fs::File;
 use std::io::{self, Write};
 use std::os::fd::OwnedFd;
 use std::os::unix::net::UnixStream;
+use std::process::Output;
 
 use relief_inputs::{two_by_one, Difference};
 
-use crate::child::{run, run_unread, Ended, Input, Program};
+use crate::child::{run, run_unread, Input, Program};
 use crate::compare::report;
 use crate::tapes::full_tape;
 
@@ -28,16 +29,16 @@ fn output_fails(program: &Program, name: &str, input: &Input) -> Result<(), Diff
     let said = format!("{name}: standard output cannot be written\n");
     let unread = run_unread(&mut program.command(), input);
     // By the system's signal, without a word.
-    says("output that nobody reads", unread, input, "")?;
+    expect_message("output that nobody reads", unread, input, "")?;
     let mut signal_ignored = program.shell(r#"trap "" PIPE; exec "$0""#);
     let unread = run_unread(&mut signal_ignored, input);
     let what = "output that nobody reads, its signal ignored";
-    says(what, unread, input, &said)?;
+    expect_message(what, unread, input, &said)?;
     let full = opened(File::create("/dev/full"))?;
     let to_full = run(program.command().stdout(full), input);
-    says("output to a full device", to_full, input, &said)?;
+    expect_message("output to a full device", to_full, input, &said)?;
     let to_none = run(&mut program.shell(r#"exec "$0" >&-"#), input);
-    says("output closed", to_none, input, &said)
+    expect_message("output closed", to_none, input, &said)
 }
 
 fn input_fails(program: &Program, name: &str) -> Result<(), Difference> {
@@ -45,9 +46,9 @@ fn input_fails(program: &Program, name: &str) -> Result<(), Difference> {
     let none = Vec::new().into();
     let folder = opened(File::open("/"))?;
     let from_folder = run(program.command().stdin(folder), &none);
-    says("input from a folder", from_folder, &none, &said)?;
+    expect_message("input from a folder", from_folder, &none, &said)?;
     let closed = run(&mut program.shell(r#"exec "$0" <&-"#), &none);
-    says("input closed", closed, &none, &said)?;
+    expect_message("input closed", closed, &none, &said)?;
 
     // Behind this tape the system would have to wait, which it is told not to do.
     let tape = two_by_one().tape(&[]);
@@ -55,7 +56,7 @@ fn input_fails(program: &Program, name: &str) -> Result<(), Difference> {
     opened(far.set_nonblocking(true))?;
     opened(near.write_all(&tape))?;
     let fails_late = run(program.command().stdin(OwnedFd::from(far)), &none);
-    says("input that fails late", fails_late, &tape.into(), &said)
+    expect_message("input that fails late", fails_late, &tape.into(), &said)
 }
 
 fn opened<T>(stream: io::Result<T>) -> Result<T, Difference> {
@@ -63,22 +64,22 @@ fn opened<T>(stream: io::Result<T>) -> Result<T, Difference> {
 }
 
 /// Sees to it that the program has ended, with nothing printed and this on standard error.
-fn says(
+fn expect_message(
     what: &str,
-    result: Result<Ended, String>,
+    result: Result<Output, String>,
     input: &Input,
     said: &str,
 ) -> Result<(), Difference> {
     let differs = match result {
         Err(failure) => failure,
-        Ok(ended) if !ended.stdout.is_empty() => {
-            format!("it printed \"{}\"", ended.stdout.escape_ascii())
+        Ok(output) if !output.stdout.is_empty() => {
+            format!("it printed \"{}\"", output.stdout.escape_ascii())
         }
-        Ok(ended) if ended.stderr != said.as_bytes() => {
-            format!("standard error has \"{}\"", ended.stderr.escape_ascii())
+        Ok(output) if output.stderr != said.as_bytes() => {
+            format!("standard error has \"{}\"", output.stderr.escape_ascii())
         }
-        Ok(ended) if !said.is_empty() && !ended.status.success() => {
-            format!("it ended with {}", ended.status)
+        Ok(output) if !said.is_empty() && !output.status.success() => {
+            format!("it ended with {}", output.status)
         }
         Ok(_) => return Ok(()),
     };

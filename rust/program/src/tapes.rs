@@ -1,8 +1,8 @@
 //! Tapes of accepted jobs, and faulty and damaged ones.
 
 use relief_inputs::{
-    beside_the_bound, chessboard, chessboard_flow, compare_family, flat, flawed_tapes, jointed,
-    record_orders, small_tapes, tape_length, two_by_one, Answer, Case, Difference, Random, Tally,
+    chessboard, chessboard_flow, compare_family, compare_with_bound, flat, jointed, mutated_tapes,
+    record_orders, small_tapes, tape_length, two_by_one, Answer, Case, Counts, Difference, Random,
     Tape,
 };
 use relief_reference::program::{clean, FLOW_TABLE, INPUT_LIMIT, SAMPLE_TABLE, WEIGHT_TABLE};
@@ -10,7 +10,7 @@ use relief_reference::terms::WEIGHT_LIMIT;
 use relief_reference::Rounds;
 
 use crate::child::{Input, Program};
-use crate::compare::{compare as compare_tape, compare_due, compare_text, report};
+use crate::compare::{compare as compare_tape, compare_expected, compare_text, report};
 
 /// Sizes with the most pixels that the program takes.
 const LARGEST: [(u32, u32); 3] = [(64, 64), (4_096, 1), (1, 4_096)];
@@ -18,27 +18,28 @@ const LARGEST: [(u32, u32); 3] = [(64, 64), (4_096, 1), (1, 4_096)];
 /// Compares whole, cut, faulty, changed, damaged and random tapes.
 pub fn compare(program: &Program, step: usize) -> Result<(), Difference> {
     family(program, "the most pixels", largest())?
-        .met(&["checked with floor below 0", "settled", "spent"], &[])?;
+        .require(&["checked with floor below 0", "settled", "spent"], &[])?;
     let words = ["checked", "checked with slack 0", "settled", "spent"];
-    family(program, "1 to 4,096 pixels", jobs(step))?.met(&words, &[])?;
+    family(program, "1 to 4,096 pixels", jobs(step))?.require(&words, &[])?;
     compare_two_flows(program, step)?;
-    family(program, "the most rounds", long_runs(step))?.met(&["settled"], &[])?;
+    family(program, "the most rounds", long_runs(step))?.require(&["settled"], &[])?;
     let with_program = |input: &Input| compare_tape(program, input);
-    compare_due("every prefix", prefixes(step), with_program)?
-        .met(&["checked with slack 0"], &[13, 18])?;
-    compare_due("every order of records", orders(step), with_program)?
-        .met(&["checked", "settled with slack 0"], &[14, 15, 18])?;
+    compare_expected("every prefix", prefixes(step), with_program)?
+        .require(&["checked with slack 0"], &[13, 18])?;
+    compare_expected("every order of records", orders(step), with_program)?
+        .require(&["checked", "settled with slack 0"], &[14, 15, 18])?;
     let numbers = [1, 2, 3, 8, 10, 12, 13, 14, 15, 16, 18];
-    compare_due("two faults", flawed_tapes(), with_program)?.met(&["checked"], &numbers)?;
-    family(program, "changed bytes", changes(step))?.met(&[], &[8, 10, 12, 14])?;
-    family(program, "damaged tapes", damages(step))?.met(&[], &numbers)
+    compare_expected("two faults", mutated_tapes(), with_program)?
+        .require(&["checked"], &numbers)?;
+    family(program, "changed bytes", changes(step))?.require(&[], &[8, 10, 12, 14])?;
+    family(program, "damaged tapes", damages(step))?.require(&[], &numbers)
 }
 
 fn family(
     program: &Program,
     title: &str,
     tapes: impl Iterator<Item = Vec<u8>>,
-) -> Result<Tally, Difference> {
+) -> Result<Counts, Difference> {
     compare_family(title, tapes.map(Into::into), |input| {
         compare_tape(program, input)
     })
@@ -53,11 +54,11 @@ fn compare_two_flows(program: &Program, step: usize) -> Result<(), Difference> {
             compare_text(program, &tape.clone().into(), text)?;
         }
         let [(slack, image), (other_slack, other)] = texts.each_ref().map(|text| printed(text));
-        beside_the_bound([&image, &other], [slack, other_slack])
+        compare_with_bound([&image, &other], [slack, other_slack])
             .map(Ok)
             .map_err(|apart| report(&apart, &tapes.concat().into()))
     })?
-    .met(&["nearer than the bound"], &[])
+    .require(&["nearer than the bound"], &[])
 }
 
 /// The slack and the image that a text of the cleaning program tells.
@@ -152,7 +153,7 @@ fn extreme_tapes(case: &Case) -> [Vec<u8>; 2] {
 
 /// The tape with the largest slack that the program takes: at every pair the fall and the flow
 /// are as large as they can be.
-pub fn slackest_tape() -> Vec<u8> {
+pub fn largest_slack_tape() -> Vec<u8> {
     let [apart, _] = extreme_tapes(&extreme(64, 64));
     apart
 }

@@ -20,7 +20,7 @@ pub fn compare(program: &Program) -> Result<(), Difference> {
         }
         compare_tape(program, &input)
     })?
-    .met(&[], &[1, 2, 8, 12, 13, 14, 16, 18])
+    .require(&[], &[1, 2, 8, 12, 13, 14, 16, 18])
 }
 
 /// Each tape with what the program is to print.
@@ -110,7 +110,7 @@ fn values() -> Vec<(Vec<u8>, String)> {
 /// weights.
 fn weighted_values() -> Vec<(Vec<u8>, String)> {
     let job = jointed();
-    let plain = Case {
+    let unweighted = Case {
         weights: Vec::new(),
         ..jointed()
     };
@@ -138,7 +138,7 @@ fn weighted_values() -> Vec<(Vec<u8>, String)> {
         ),
         (run_of(&job, 3, 0), text(&format!("settled 0 {best}"), row)),
         (
-            plain.tape(&[]),
+            unweighted.tape(&[]),
             text("settled 5 1179648 1179648 0", "384 640 2432"),
         ),
         (changed(|tape| tape.set_flow(0, 1)), refused(8, 0)),

@@ -6,7 +6,7 @@ use crate::grid::Grid;
 use crate::problem::{widened, Problem};
 use crate::refusal::{Fault, Refusal};
 use crate::rounds::{quick_rounds, steady_rounds, Outcome};
-use crate::terms::{judge_pair_weights, Rounds, Terms};
+use crate::terms::{validate_pair_weights, Rounds, Terms};
 
 /// What an accepted call answers.
 #[derive(Clone, Copy, Debug, PartialEq, Eq)]
@@ -51,14 +51,14 @@ type Run = fn(
     &mut [i32],
 ) -> Result<Figures, Refusal>;
 
-/// Check and run, as one of the two pairs of functions that are written here for them.
+/// Check and run, by one of their two implementations.
 pub(crate) struct Calls {
     pub(crate) check: Check,
     pub(crate) run: Run,
 }
 
 /// The definitions.
-pub(crate) const DEFINED: Calls = Calls { check, run };
+pub(crate) const DEFINITIONS: Calls = Calls { check, run };
 
 impl Figures {
     /// What `price` answers.
@@ -83,7 +83,7 @@ pub fn price(
     weights: &[i32],
     image: &[i32],
 ) -> Result<Figures, Refusal> {
-    let grid = judge_price(terms, samples, weights, image)?;
+    let grid = validate_price(terms, samples, weights, image)?;
     let problem = Problem::new(grid, terms, samples, weights);
     Ok(Figures::of_price(figure(
         problem.objective(&widened(image)),
@@ -91,18 +91,18 @@ pub fn price(
 }
 
 /// The grid of a price, if nothing makes it turn back.
-pub(crate) fn judge_price(
+pub(crate) fn validate_price(
     terms: &Terms,
     samples: &[u8],
     weights: &[i32],
     image: &[i32],
 ) -> Result<Grid, Refusal> {
-    let grid = terms.judge()?;
+    let grid = terms.validate()?;
     Fault::SamplesLength.unless(samples.len() == grid.pixel_count())?;
     Fault::WeightsLength.unless(grid.holds_none_or_all_pairs(weights.len()))?;
     Fault::ImageLength.unless(image.len() == grid.pixel_count())?;
-    judge_pair_weights(weights)?;
-    terms.judge_image(image)?;
+    validate_pair_weights(weights)?;
+    terms.validate_image(image)?;
     Ok(grid)
 }
 
@@ -114,7 +114,7 @@ pub fn check(
     flow: &[i32],
     image: &mut [i32],
 ) -> Result<Figures, Refusal> {
-    let grid = judge_check(terms, samples, weights, flow, image)?;
+    let grid = validate_check(terms, samples, weights, flow, image)?;
     let problem = Problem::new(grid, terms, samples, weights);
     Ok(certify(
         &problem,
@@ -126,20 +126,20 @@ pub fn check(
 }
 
 /// The grid of a check, if nothing makes it turn back.
-pub(crate) fn judge_check(
+pub(crate) fn validate_check(
     terms: &Terms,
     samples: &[u8],
     weights: &[i32],
     flow: &[i32],
     image: &[i32],
 ) -> Result<Grid, Refusal> {
-    let grid = terms.judge()?;
+    let grid = terms.validate()?;
     Fault::SamplesLength.unless(samples.len() == grid.pixel_count())?;
     Fault::FlowLength.unless(flow.len() == grid.pair_count())?;
     Fault::WeightsLength.unless(grid.holds_none_or_all_pairs(weights.len()))?;
     Fault::ImageLength.unless(image.len() == grid.pixel_count())?;
-    judge_pair_weights(weights)?;
-    terms.judge_flow(weights, flow)?;
+    validate_pair_weights(weights)?;
+    terms.validate_flow(weights, flow)?;
     Ok(grid)
 }
 
@@ -156,7 +156,7 @@ pub fn run(
     image: &mut [i32],
     work: &mut [i32],
 ) -> Result<Figures, Refusal> {
-    let grid = judge_run(terms, rounds, samples, weights, flow, image, work)?;
+    let grid = validate_run(terms, rounds, samples, weights, flow, image, work)?;
     let problem = Problem::new(grid, terms, samples, weights);
     let quick = quick_rounds(&problem, rounds.quick);
     let steady = steady_rounds(&problem, quick, rounds.allowance);
@@ -172,7 +172,7 @@ pub fn run(
 }
 
 /// The grid of a run, if nothing makes it turn back.
-pub(crate) fn judge_run(
+pub(crate) fn validate_run(
     terms: &Terms,
     rounds: &Rounds,
     samples: &[u8],
@@ -181,14 +181,14 @@ pub(crate) fn judge_run(
     image: &[i32],
     work: &[i32],
 ) -> Result<Grid, Refusal> {
-    let grid = terms.judge()?;
-    rounds.judge()?;
+    let grid = terms.validate()?;
+    rounds.validate()?;
     Fault::SamplesLength.unless(samples.len() == grid.pixel_count())?;
     Fault::FlowLength.unless(flow.len() == grid.pair_count())?;
     Fault::WeightsLength.unless(grid.holds_none_or_all_pairs(weights.len()))?;
     Fault::ImageLength.unless(image.len() == grid.pixel_count())?;
     Fault::WorkLength.unless(work.len() == 2 * grid.pair_count())?;
-    judge_pair_weights(weights)?;
+    validate_pair_weights(weights)?;
     Ok(grid)
 }
 

@@ -3,8 +3,8 @@
 //!
 //! The calls work in buffers that the caller lends, test all of their input
 //! themselves, and leave every buffer as it was when they refuse. Inside, plain
-//! definitions on vectors are preferred to speed; only the loop nests of [`plain`], and with
-//! them [`season::report_plain`], are fast.
+//! definitions on vectors are preferred to speed; only the loop nests of [`optimized`], and
+//! with them [`season::optimized`], are fast.
 //!
 //! Names follow the literature on total variation. Document 01's words are kept
 //! in formats and answers, and given in a comment where a name differs:
@@ -20,7 +20,7 @@
 
 pub mod calls;
 pub mod grid;
-pub mod plain;
+pub mod optimized;
 pub mod problem;
 pub mod program;
 pub mod refusal;

@@ -1,6 +1,6 @@
 //! The cleaning program: from the bytes of its input to the text it prints.
 
-use crate::calls::{Calls, Figures, DEFINED};
+use crate::calls::{Calls, Figures, DEFINITIONS};
 use crate::refusal::{Fault, Refusal};
 use crate::tape::{AfterEnd, Capacity, Contents};
 
@@ -29,7 +29,7 @@ fn answer(input: &[u8]) -> Result<String, Refusal> {
     Fault::InputTooLong.unless(input.len() <= INPUT_LIMIT)?;
     let mut workspace = Workspace::new();
     workspace.job.read(input, AfterEnd::Nothing, TABLES)?;
-    let figures = workspace.treat(&DEFINED)?;
+    let figures = workspace.check_or_run(&DEFINITIONS)?;
     let width = workspace.job.terms.width as usize;
     Ok(report(&figures, &workspace.image, width))
 }
@@ -51,7 +51,7 @@ impl Workspace {
     }
 
     /// Checks the job, if it has flow records, or else runs it.
-    pub(crate) fn treat(&mut self, calls: &Calls) -> Result<Figures, Refusal> {
+    pub(crate) fn check_or_run(&mut self, calls: &Calls) -> Result<Figures, Refusal> {
         let Contents {
             terms,
             rounds,
@@ -65,7 +65,7 @@ impl Workspace {
         if !flow.is_empty() {
             return (calls.check)(terms, samples, weights, flow, image);
         }
-        let pair_count = terms.judge()?.pair_count();
+        let pair_count = terms.validate()?.pair_count();
         flow.resize(pair_count, 0);
         self.work.resize(2 * pair_count, 0);
         let work = &mut self.work;

@@ -62,7 +62,7 @@ impl Fault {
     }
 
     /// The refusal that names `place`, if there is a place to name.
-    pub(crate) fn at_any(self, place: Option<usize>) -> Result<(), Refusal> {
+    pub(crate) fn if_found_at(self, place: Option<usize>) -> Result<(), Refusal> {
         match place {
             Some(place) => Err(self.at(place)),
             None => Ok(()),
@@ -81,7 +81,7 @@ pub struct Refusal {
 
 impl Refusal {
     /// Whether the input ends too early: with more bytes there might be another answer.
-    pub(crate) fn wants_more(self) -> bool {
+    pub(crate) fn is_unexpected_end(self) -> bool {
         [Fault::TapeCut, Fault::TapeUnfinished]
             .map(|fault| fault as u32)
             .contains(&self.number)

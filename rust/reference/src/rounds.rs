@@ -70,14 +70,14 @@ pub fn next_t(t: u64) -> u64 {
 pub fn quick_rounds(problem: &Problem, count: u32) -> Vec<i64> {
     let mut flow = vec![0; problem.pair_count()];
     // The extrapolated flow (document 01: R), which may pass the weights.
-    let mut ahead = flow.clone();
+    let mut extrapolated = flow.clone();
     let mut t = T_UNIT;
     for _ in 0..count {
         let earlier = flow;
         let following_t = next_t(t);
         let (gain, scale) = ((t - T_UNIT) as i64, following_t as i64);
-        flow = step(problem, &ahead, quick_share);
-        ahead = flow
+        flow = step(problem, &extrapolated, quick_share);
+        extrapolated = flow
             .iter()
             .zip(&earlier)
             .map(|(now, before)| now + gain * (now - before) / scale)

@@ -1,15 +1,13 @@
 //! The season report of document 02's request F-2: from tapes that follow one another to the
 //! text that the second program prints.
 
-use crate::calls::{Figures, DEFINED};
+use crate::calls::{Figures, DEFINITIONS};
 use crate::program::{Workspace, INPUT_LIMIT, TABLES};
 use crate::refusal::{Fault, Refusal};
 use crate::rounds::Outcome;
 use crate::tape::{AfterEnd, Capacity, Contents};
 
-mod plain;
-
-pub use plain::{report_plain, report_plain_within};
+pub mod optimized;
 
 /// What bounds a season.
 #[derive(Clone, Copy, Debug, PartialEq, Eq)]
@@ -48,7 +46,7 @@ fn add_jobs(totals: &mut Totals, limits: &Limits, input: &[u8]) -> Result<(), Re
     while !rest.is_empty() && totals.jobs < limits.jobs {
         workspace.job.clear();
         let length = read_job(limits, rest, &mut workspace.job)?;
-        let figures = workspace.treat(&DEFINED)?;
+        let figures = workspace.check_or_run(&DEFINITIONS)?;
         totals.add(workspace.job.samples.len(), &figures);
         rest = &rest[length..];
     }
@@ -61,7 +59,7 @@ fn read_job(limits: &Limits, rest: &[u8], job: &mut Contents) -> Result<usize, R
     let front = &rest[..rest.len().min(limits.job_bytes)];
     match job.read(front, AfterEnd::Anything, limits.tables) {
         // They hold neither a fault nor the end, and the input goes on behind them.
-        Err(refusal) if refusal.wants_more() && front.len() < rest.len() => {
+        Err(refusal) if refusal.is_unexpected_end() && front.len() < rest.len() => {
             Err(Fault::InputTooLong.into())
         }
         answer => answer,

@@ -1,7 +1,7 @@
 //! The job tape: its records, and the calls read and write.
 
 use crate::refusal::{Fault, Refusal};
-use crate::terms::{is_pair_weight, judge_pair_weights, Rounds, Terms};
+use crate::terms::{is_pair_weight, validate_pair_weights, Rounds, Terms};
 
 const END: u8 = 0;
 const SIZE: u8 = 1;
@@ -57,7 +57,7 @@ impl Record {
 
 /// What may come next on a tape.
 #[derive(Clone, Copy, Debug, PartialEq, Eq)]
-enum Due {
+enum Expected {
     Size,
     WeightAndBox,
     Rounds,
@@ -72,19 +72,33 @@ enum Due {
 /// What the kind byte fixes of a record.
 struct Layout {
     /// Where the record may stand.
-    allowed: &'static [Due],
+    allowed: &'static [Expected],
     body_length: usize,
 }
 
 fn layout(kind: u8) -> Option<Layout> {
-    let (allowed, body_length): (&[Due], usize) = match kind {
-        END => (&[Due::PairWeightFlowOrEnd, Due::FlowOrEnd, Due::End], 0),
-        SIZE => (&[Due::Size], 4),
-        WEIGHT_AND_BOX => (&[Due::WeightAndBox], 4),
-        ROUNDS => (&[Due::Rounds], 4),
-        SAMPLE => (&[Due::Sample], 1),
-        FLOW => (&[Due::PairWeightFlowOrEnd, Due::FlowOrEnd, Due::Flow], 4),
-        PAIR_WEIGHT => (&[Due::PairWeightFlowOrEnd, Due::PairWeight], 2),
+    let (allowed, body_length): (&[Expected], usize) = match kind {
+        END => (
+            &[
+                Expected::PairWeightFlowOrEnd,
+                Expected::FlowOrEnd,
+                Expected::End,
+            ],
+            0,
+        ),
+        SIZE => (&[Expected::Size], 4),
+        WEIGHT_AND_BOX => (&[Expected::WeightAndBox], 4),
+        ROUNDS => (&[Expected::Rounds], 4),
+        SAMPLE => (&[Expected::Sample], 1),
+        FLOW => (
+            &[
+                Expected::PairWeightFlowOrEnd,
+                Expected::FlowOrEnd,
+                Expected::Flow,
+            ],
+            4,
+        ),
+        PAIR_WEIGHT => (&[Expected::PairWeightFlowOrEnd, Expected::PairWeight], 2),
         _ => return None,
     };
     Some(Layout {
@@ -118,12 +132,12 @@ fn decode(kind: u8, body: &[u8]) -> Option<Record> {
 }
 
 /// The record at `offset` and the offset after it, or refusal 18, 12, 14 or 13.
-fn record_at(tape: &[u8], offset: usize, due: Due) -> Result<(Record, usize), Refusal> {
+fn record_at(tape: &[u8], offset: usize, expected: Expected) -> Result<(Record, usize), Refusal> {
     let kind = *tape
         .get(offset)
         .ok_or(Fault::TapeUnfinished.at(tape.len()))?;
     let layout = layout(kind).ok_or(Fault::UnknownKind.at(offset))?;
-    if !layout.allowed.contains(&due) {
+    if !layout.allowed.contains(&expected) {
         return Err(Fault::KindNotAllowed.at(offset));
     }
     let body_start = offset + 1;
@@ -166,7 +180,7 @@ pub(crate) struct Contents {
     pair_count: usize,
     /// The offset of the next record.
     offset: usize,
-    due: Due,
+    expected: Expected,
 }
 
 impl Contents {
@@ -181,7 +195,7 @@ impl Contents {
             pixel_count: 0,
             pair_count: 0,
             offset: 0,
-            due: Due::Size,
+            expected: Expected::Size,
         }
     }
 
@@ -190,7 +204,7 @@ impl Contents {
         self.samples.clear();
         self.weights.clear();
         self.flow.clear();
-        (self.offset, self.due) = (0, Due::Size);
+        (self.offset, self.expected) = (0, Expected::Size);
     }
 
     /// Reads the job at the front of `tape` and gives the number of its bytes.
@@ -204,53 +218,53 @@ impl Contents {
         capacity: Capacity,
     ) -> Result<usize, Refusal> {
         let end = loop {
-            let (record, next) = record_at(tape, self.offset, self.due)?;
+            let (record, next) = record_at(tape, self.offset, self.expected)?;
             match self.take(record, capacity)? {
-                Some(due) => (self.offset, self.due) = (next, due),
+                Some(expected) => (self.offset, self.expected) = (next, expected),
                 None => break next,
             }
         };
         if after_end == AfterEnd::Nothing {
-            Fault::ByteAfterEnd.at_any((end < tape.len()).then_some(end))?;
+            Fault::ByteAfterEnd.if_found_at((end < tape.len()).then_some(end))?;
         }
-        self.terms.judge_flow(&self.weights, &self.flow)?;
+        self.terms.validate_flow(&self.weights, &self.flow)?;
         Ok(end)
     }
 
     /// Takes the record that was due, and gives what is due then: nothing after the end. Flow
     /// numbers are not judged yet.
-    fn take(&mut self, record: Record, capacity: Capacity) -> Result<Option<Due>, Refusal> {
+    fn take(&mut self, record: Record, capacity: Capacity) -> Result<Option<Expected>, Refusal> {
         let offset = self.offset;
         let at_record = |fault: Fault| fault.at(offset);
         Ok(Some(match record {
             Record::Size { width, height } => {
                 (self.terms.width, self.terms.height) = (width.into(), height.into());
-                let grid = self.terms.judge_size().map_err(at_record)?;
+                let grid = self.terms.validate_size().map_err(at_record)?;
                 (self.pixel_count, self.pair_count) = (grid.pixel_count(), grid.pair_count());
                 let holds = capacity.samples >= self.pixel_count
                     && capacity.weights.min(capacity.flow) >= self.pair_count;
                 Fault::BufferTooShort.unless(holds)?;
-                Due::WeightAndBox
+                Expected::WeightAndBox
             }
             Record::WeightAndBox { weight, low, high } => {
                 let terms = &mut self.terms;
                 (terms.weight, terms.low, terms.high) = (weight.into(), low, high);
-                terms.judge_weight_and_box().map_err(at_record)?;
-                Due::Rounds
+                terms.validate_weight_and_box().map_err(at_record)?;
+                Expected::Rounds
             }
             Record::Rounds { quick, allowance } => {
                 (self.rounds.quick, self.rounds.allowance) = (quick.into(), allowance);
-                self.rounds.judge().map_err(at_record)?;
-                Due::Sample
+                self.rounds.validate().map_err(at_record)?;
+                Expected::Sample
             }
             Record::Sample(sample) => {
                 self.samples.push(sample);
                 if self.samples.len() < self.pixel_count {
-                    Due::Sample
+                    Expected::Sample
                 } else if self.pair_count > 0 {
-                    Due::PairWeightFlowOrEnd
+                    Expected::PairWeightFlowOrEnd
                 } else {
-                    Due::End
+                    Expected::End
                 }
             }
             Record::PairWeight(weight) => {
@@ -260,17 +274,17 @@ impl Contents {
                     .map_err(at_record)?;
                 self.weights.push(weight);
                 if self.weights.len() < self.pair_count {
-                    Due::PairWeight
+                    Expected::PairWeight
                 } else {
-                    Due::FlowOrEnd
+                    Expected::FlowOrEnd
                 }
             }
             Record::Flow(value) => {
                 self.flow.push(value);
                 if self.flow.len() < self.pair_count {
-                    Due::Flow
+                    Expected::Flow
                 } else {
-                    Due::End
+                    Expected::End
                 }
             }
             Record::End => return Ok(None),
@@ -330,15 +344,15 @@ pub fn write(
     flow: &[i32],
     output: &mut [u8],
 ) -> Result<usize, Refusal> {
-    let grid = terms.judge()?;
-    rounds.judge()?;
+    let grid = terms.validate()?;
+    rounds.validate()?;
     Fault::SamplesLength.unless(samples.len() == grid.pixel_count())?;
     Fault::FlowLength.unless(grid.holds_none_or_all_pairs(flow.len()))?;
     Fault::WeightsLength.unless(grid.holds_none_or_all_pairs(weights.len()))?;
     let tape = tape_of(terms, rounds, samples, weights, flow);
     Fault::BufferTooShort.unless(tape.len() <= output.len())?;
-    judge_pair_weights(weights)?;
-    terms.judge_flow(weights, flow)?;
+    validate_pair_weights(weights)?;
+    terms.validate_flow(weights, flow)?;
 
     fill_front(output, &tape);
     Ok(tape.len())

@@ -1,4 +1,4 @@
-//! A job's terms, and the judgement of them and of values under them.
+//! A job's terms, and the validation of them and of values under them.
 
 use std::ops::RangeInclusive;
 
@@ -6,7 +6,7 @@ use crate::grid::Grid;
 use crate::refusal::{Fault, Refusal};
 
 /// Sub-units in one level.
-pub const LEVEL: i32 = 256;
+pub const SUB_UNITS_PER_LEVEL: i32 = 256;
 /// The largest weight, in sub-units.
 pub const WEIGHT_LIMIT: u32 = 65_280;
 /// The largest number of quick rounds.
@@ -14,10 +14,10 @@ pub const QUICK_LIMIT: u32 = 4_096;
 
 /// The value in sub-units that a sample stands for: the centre of its level (document 01: B).
 pub fn reading(sample: u8) -> i32 {
-    LEVEL * i32::from(sample) + LEVEL / 2
+    SUB_UNITS_PER_LEVEL * i32::from(sample) + SUB_UNITS_PER_LEVEL / 2
 }
 
-/// Size, weight and box of a job, as lent: nothing is judged yet.
+/// Size, weight and box of a job, as lent: nothing is validated yet.
 #[derive(Clone, Copy, Debug, Default, PartialEq, Eq)]
 pub struct Terms {
     /// Pixels in a row.
@@ -34,26 +34,27 @@ pub struct Terms {
 
 impl Terms {
     /// The grid of the terms, if all are within their limits (else number 1, 2 or 3).
-    pub fn judge(&self) -> Result<Grid, Fault> {
-        let grid = self.judge_size()?;
-        self.judge_weight_and_box()?;
+    pub fn validate(&self) -> Result<Grid, Fault> {
+        let grid = self.validate_size()?;
+        self.validate_weight_and_box()?;
         Ok(grid)
     }
 
     /// Number 1.
-    pub(crate) fn judge_size(&self) -> Result<Grid, Fault> {
+    pub(crate) fn validate_size(&self) -> Result<Grid, Fault> {
         Grid::new(self.width, self.height)
     }
 
     /// Numbers 2 and 3.
-    pub(crate) fn judge_weight_and_box(&self) -> Result<(), Fault> {
+    pub(crate) fn validate_weight_and_box(&self) -> Result<(), Fault> {
         Fault::Weight.unless(self.weight <= WEIGHT_LIMIT)?;
         Fault::Box.unless(self.low <= self.high)
     }
 
     /// The image values, in sub-units, that the box allows: all of its levels.
     pub fn bounds(&self) -> RangeInclusive<i32> {
-        LEVEL * i32::from(self.low)..=LEVEL * i32::from(self.high) + LEVEL - 1
+        SUB_UNITS_PER_LEVEL * i32::from(self.low)
+            ..=SUB_UNITS_PER_LEVEL * i32::from(self.high) + SUB_UNITS_PER_LEVEL - 1
     }
 
     /// The weight of each of so many pairs: as lent, or the terms' at all of them where none is.
@@ -65,9 +66,9 @@ impl Terms {
     }
 
     /// Number 8, at the first flow number beyond its pair's weight.
-    pub(crate) fn judge_flow(&self, weights: &[i32], flow: &[i32]) -> Result<(), Refusal> {
+    pub(crate) fn validate_flow(&self, weights: &[i32], flow: &[i32]) -> Result<(), Refusal> {
         let mut numbers = flow.iter().map(|value| value.unsigned_abs());
-        Fault::FlowValue.at_any(match weights {
+        Fault::FlowValue.if_found_at(match weights {
             [] => numbers.position(|size| size > self.weight),
             _ => numbers
                 .zip(weights)
@@ -76,10 +77,10 @@ impl Terms {
     }
 
     /// Number 9, at the first image value outside the box.
-    pub(crate) fn judge_image(&self, image: &[i32]) -> Result<(), Refusal> {
+    pub(crate) fn validate_image(&self, image: &[i32]) -> Result<(), Refusal> {
         let bounds = self.bounds();
         let outside = |value: &i32| !bounds.contains(value);
-        Fault::ImageValue.at_any(image.iter().position(outside))
+        Fault::ImageValue.if_found_at(image.iter().position(outside))
     }
 }
 
@@ -89,9 +90,9 @@ pub(crate) fn is_pair_weight(weight: i32) -> bool {
 }
 
 /// Number 2, at the first weight that a pair may not have.
-pub(crate) fn judge_pair_weights(weights: &[i32]) -> Result<(), Refusal> {
+pub(crate) fn validate_pair_weights(weights: &[i32]) -> Result<(), Refusal> {
     let beyond = |&weight: &i32| !is_pair_weight(weight);
-    Fault::Weight.at_any(weights.iter().position(beyond))
+    Fault::Weight.if_found_at(weights.iter().position(beyond))
 }
 
 /// How many rounds a run may make, as lent.
@@ -105,7 +106,7 @@ pub struct Rounds {
 
 impl Rounds {
     /// Number 10, when there are too many quick rounds.
-    pub fn judge(&self) -> Result<(), Fault> {
+    pub fn validate(&self) -> Result<(), Fault> {
         Fault::QuickRounds.unless(self.quick <= QUICK_LIMIT)
     }
 }

@@ -1,32 +1,33 @@
 //! Seasons of random jobs: whole, cut, changed, and with a faulty or damaged job among them.
 
 use relief_inputs::{
-    changes_of, concatenated, flat, flawed_jobs, jointed, season_job, season_prefixes, small_tapes,
-    two_by_one, weighted_square, Answer, Difference, Random, Tape, SQUARE_FLOW,
+    changes_of, concatenated, flat, jointed, mutated_jobs, season_job, season_prefixes,
+    small_tapes, two_by_one, weighted_square, Answer, Difference, Random, Tape, SQUARE_FLOW,
 };
 use relief_reference::Refusal;
 
 use super::{compare as compare_season, family};
 use crate::child::{Input, Program};
-use crate::compare::compare_due;
-use crate::tapes::{full_tape, largest, orders, slackest_tape};
+use crate::compare::compare_expected;
+use crate::tapes::{full_tape, largest, largest_slack_tape, orders};
 
 /// Compares seasons of all these kinds.
 pub fn compare(program: &Program, step: usize) -> Result<(), Difference> {
     let every = ["settled and spent and checked"];
-    family(program, "1 to 20 jobs", seasons(step))?.met(&every, &[])?;
-    family(program, "jobs of the most pixels", of_the_most_pixels())?.met(&every, &[])?;
+    family(program, "1 to 20 jobs", seasons(step))?.require(&every, &[])?;
+    family(program, "jobs of the most pixels", of_the_most_pixels())?.require(&every, &[])?;
     let numbers = [1, 2, 3, 8, 10, 12, 13, 14, 16];
-    family(program, "a damaged job among others", damages(step))?.met(&[], &numbers)?;
+    family(program, "a damaged job among others", damages(step))?.require(&[], &numbers)?;
     let with_program = |input: &Input| compare_season(program, input);
-    compare_due("every prefix", prefixes(step), with_program)?.met(&["no jobs"], &[13, 18])?;
+    compare_expected("every prefix", prefixes(step), with_program)?
+        .require(&["no jobs"], &[13, 18])?;
     let orders = alone_and_behind(ordered_jobs(step));
-    compare_due("every order of records", orders, with_program)?
-        .met(&["checked", "settled", "settled and checked"], &[14, 18])?;
-    let faults = alone_and_behind(flawed_jobs());
-    compare_due("two faults", faults, with_program)?
-        .met(&["checked"], &[1, 2, 3, 8, 10, 12, 13, 14, 16, 18])?;
-    family(program, "changed bytes", changes(step))?.met(&[], &[8, 10, 12, 14])
+    compare_expected("every order of records", orders, with_program)?
+        .require(&["checked", "settled", "settled and checked"], &[14, 18])?;
+    let faults = alone_and_behind(mutated_jobs());
+    compare_expected("two faults", faults, with_program)?
+        .require(&["checked"], &[1, 2, 3, 8, 10, 12, 13, 14, 16, 18])?;
+    family(program, "changed bytes", changes(step))?.require(&[], &[8, 10, 12, 14])
 }
 
 fn seasons(step: usize) -> impl Iterator<Item = Vec<u8>> {
@@ -52,7 +53,7 @@ fn of_the_most_pixels() -> Vec<Vec<u8>> {
     vec![
         full_tape(),
         full_tape().repeat(3),
-        slackest_tape().repeat(40),
+        largest_slack_tape().repeat(40),
         all.repeat(2),
         all,
     ]

@@ -8,7 +8,7 @@ use super::family;
 use super::jobs::random_jobs;
 use crate::child::{Input, Program};
 use crate::compare::compare_text;
-use crate::tapes::{full_tape, overfull_tape, slackest_tape, weighted_tape};
+use crate::tapes::{full_tape, largest_slack_tape, overfull_tape, weighted_tape};
 
 /// Where a program may have to make room for more of its input.
 const BOUNDARIES: [usize; 5] = [65_536, 4_096, 8_192, 32_768, 131_072];
@@ -23,16 +23,16 @@ pub fn compare(program: &Program, step: usize) -> Result<(), Difference> {
         "a job at every place of a boundary",
         boundaries(step),
     )?
-    .met(&["settled and checked"], &[8, 13, 18])?;
+    .require(&["settled and checked"], &[8, 13, 18])?;
     family(program, "far longer seasons", long_seasons(step))?
-        .met(&["settled and spent and checked"], &[12, 13])?;
-    family(program, "jobs of too many records", long_jobs())?.met(&[], &[12, 14, 16])?;
-    family(program, "jobs of too many bytes", too_long_jobs(step))?.met(
+        .require(&["settled and spent and checked"], &[12, 13])?;
+    family(program, "jobs of too many records", long_jobs())?.require(&[], &[12, 14, 16])?;
+    family(program, "jobs of too many bytes", too_long_jobs(step))?.require(
         &["checked", "settled and checked"],
         &[2, 12, 13, 14, 17, 18],
     )?;
     family(program, "65,535 jobs, and about as many", many_jobs())?
-        .met(&["settled", "settled and checked"], &[12, 13, 18])?;
+        .require(&["settled", "settled and checked"], &[12, 13, 18])?;
     if step == 1 {
         largest_total(program)?;
     }
@@ -214,7 +214,7 @@ fn many_jobs() -> Vec<Vec<u8>> {
 fn largest_total(program: &Program) -> Result<(), Difference> {
     let input = Input {
         times: MOST_JOBS,
-        ..slackest_tape().into()
+        ..largest_slack_tape().into()
     };
     compare_family("the largest total", [input], |input| {
         let single = report(&input.bytes);

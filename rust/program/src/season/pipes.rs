@@ -12,9 +12,9 @@ use crate::tapes::{full_tape, overfull_tape, weighted_tape};
 /// Compares seasons in pieces of many sizes, then with the pipe left open.
 pub fn compare(program: &Program) -> Result<(), Difference> {
     family(program, "in pieces", in_pieces())?
-        .met(&["settled and checked", "settled"], &[8, 12, 13, 17, 18])?;
+        .require(&["settled and checked", "settled"], &[8, 12, 13, 17, 18])?;
     let numbers = [1, 2, 3, 8, 10, 12, 14, 16, 17];
-    family(program, "by a pipe that stays open", left_open())?.met(&["settled"], &numbers)
+    family(program, "by a pipe that stays open", left_open())?.require(&["settled"], &numbers)
 }
 
 fn in_pieces() -> Vec<Input> {

@@ -21,7 +21,7 @@ pub fn compare(program: &Program) -> Result<(), Difference> {
         }
         compare_season(program, &input)
     })?
-    .met(&["no jobs", "settled"], &[1, 2, 8, 12, 13, 14, 16, 17, 18])
+    .require(&["no jobs", "settled"], &[1, 2, 8, 12, 13, 14, 16, 17, 18])
 }
 
 /// Each season with what the program is to print.

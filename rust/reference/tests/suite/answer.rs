@@ -4,7 +4,7 @@ use relief_inputs::{jointed, two_by_one, Case, Random};
 
 use crate::support::{written, Answer, Calls};
 
-/// What the binary writes for a tape, which is the same by the loop nests and by the definitions.
+/// What the binary writes for a tape: the same by the optimized calls and by the definitions.
 fn answered(tape: &[u8]) -> Vec<u8> {
     let binary = env!("CARGO_BIN_EXE_answer-reference");
     let bytes = written(binary, &[], tape);

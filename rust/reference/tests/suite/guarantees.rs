@@ -2,7 +2,7 @@
 //! guarantee, and that of two flows of one job, on the grid and its whole divisions, and
 //! the bounds of a run.
 
-use relief_inputs::{beside_the_bound, jointed, three_by_one, two_by_one, Case, Random};
+use relief_inputs::{compare_with_bound, jointed, three_by_one, two_by_one, Case, Random};
 use relief_reference::problem::{squared_distance, widened, within_gaps};
 use relief_reference::rounds::{quick_rounds, steady_step};
 use relief_reference::{Outcome, Problem};
@@ -369,6 +369,6 @@ fn two_jobs_may_be_further_apart() {
         let other = case.check(&[flow]).unwrap();
         let slacks = [best.figures.slack, other.figures.slack];
         assert_eq!(slacks, [0, 0]);
-        assert!(beside_the_bound([&best.image, &other.image], slacks).is_err());
+        assert!(compare_with_bound([&best.image, &other.image], slacks).is_err());
     }
 }

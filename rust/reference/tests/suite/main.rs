@@ -5,7 +5,7 @@ mod support;
 
 mod answer;
 mod guarantees;
-mod plain;
+mod optimized;
 mod program;
 mod refusals;
 mod season;

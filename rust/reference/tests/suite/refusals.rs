@@ -4,7 +4,8 @@
 use std::fmt::Debug;
 
 use relief_inputs::{
-    flat, flaw, flawed, flawed_reads, square, weighted_square, Case, Flaw, Tape, SQUARE_FLOW,
+    flat, mutated, mutated_reads, mutation, square, weighted_square, Case, Mutation, Tape,
+    SQUARE_FLOW,
 };
 use relief_reference::tape::Capacity;
 use relief_reference::{check, price, run, write, Refusal, Rounds, Terms};
@@ -13,7 +14,7 @@ use crate::support::{marked, read_back, read_back_within, refusal, Calls};
 
 /// Everything that the calls are lent.
 #[derive(Clone, Debug, PartialEq, Eq)]
-struct Lent {
+struct JobInput {
     terms: Terms,
     rounds: Rounds,
     samples: Vec<u8>,
@@ -24,19 +25,19 @@ struct Lent {
     tape: Vec<u8>,
 }
 
-impl Lent {
+impl JobInput {
     /// What every call accepts.
-    fn accepted() -> Lent {
-        Lent::of(weighted_square())
+    fn accepted() -> JobInput {
+        JobInput::of(weighted_square())
     }
 
     /// The same without weights.
-    fn unweighted() -> Lent {
-        Lent::of(square())
+    fn unweighted() -> JobInput {
+        JobInput::of(square())
     }
 
-    fn of(case: Case) -> Lent {
-        Lent {
+    fn of(case: Case) -> JobInput {
+        JobInput {
             image: vec![2_048; case.grid().pixel_count()],
             work: marked(2 * case.grid().pair_count()),
             flow: SQUARE_FLOW.to_vec(),
@@ -89,34 +90,35 @@ impl Lent {
     }
 }
 
-const SIZE: Flaw<Lent> = flaw(1, 0, |lent| lent.terms.width = 0);
-const WEIGHT: Flaw<Lent> = flaw(2, 0, |lent| lent.terms.weight = 65_281);
-const BOX: Flaw<Lent> = flaw(3, 0, |lent| lent.terms.low = lent.terms.high + 1);
-const QUICK_ROUNDS: Flaw<Lent> = flaw(10, 0, |lent| lent.rounds.quick = 4_097);
-const SAMPLES_LONG: Flaw<Lent> = flaw(4, 0, |lent| lent.samples.push(0));
-const SAMPLES_SHORT: Flaw<Lent> = flaw(4, 0, |lent| lent.samples.truncate(3));
-const FLOW_LONG: Flaw<Lent> = flaw(5, 0, |lent| lent.flow.push(0));
-const FLOW_SHORT: Flaw<Lent> = flaw(5, 0, |lent| lent.flow.truncate(3));
-const WEIGHTS_LONG: Flaw<Lent> = flaw(19, 0, |lent| lent.weights.push(0));
-const WEIGHTS_SHORT: Flaw<Lent> = flaw(19, 0, |lent| lent.weights.resize(3, 0));
-const IMAGE_LONG: Flaw<Lent> = flaw(6, 0, |lent| lent.image.push(2_048));
-const IMAGE_SHORT: Flaw<Lent> = flaw(6, 0, |lent| lent.image.truncate(3));
-const WORK_LONG: Flaw<Lent> = flaw(7, 0, |lent| lent.work.push(0));
-const WORK_SHORT: Flaw<Lent> = flaw(7, 0, |lent| lent.work.truncate(7));
-const TAPE_SHORT: Flaw<Lent> = flaw(16, 0, |lent| lent.tape.truncate(lent.tape.len() - 1));
-const PAIR_WEIGHT: Flaw<Lent> = flaw(2, 2, |lent| lent.weights[2..].fill(65_281));
-const FLOW_VALUE: Flaw<Lent> = flaw(8, 1, |lent| lent.flow[1..3].fill(i32::MIN));
-const IMAGE_VALUE: Flaw<Lent> = flaw(9, 2, |lent| lent.image[2..].fill(3_328));
+const SIZE: Mutation<JobInput> = mutation(1, 0, |input| input.terms.width = 0);
+const WEIGHT: Mutation<JobInput> = mutation(2, 0, |input| input.terms.weight = 65_281);
+const BOX: Mutation<JobInput> = mutation(3, 0, |input| input.terms.low = input.terms.high + 1);
+const QUICK_ROUNDS: Mutation<JobInput> = mutation(10, 0, |input| input.rounds.quick = 4_097);
+const SAMPLES_LONG: Mutation<JobInput> = mutation(4, 0, |input| input.samples.push(0));
+const SAMPLES_SHORT: Mutation<JobInput> = mutation(4, 0, |input| input.samples.truncate(3));
+const FLOW_LONG: Mutation<JobInput> = mutation(5, 0, |input| input.flow.push(0));
+const FLOW_SHORT: Mutation<JobInput> = mutation(5, 0, |input| input.flow.truncate(3));
+const WEIGHTS_LONG: Mutation<JobInput> = mutation(19, 0, |input| input.weights.push(0));
+const WEIGHTS_SHORT: Mutation<JobInput> = mutation(19, 0, |input| input.weights.resize(3, 0));
+const IMAGE_LONG: Mutation<JobInput> = mutation(6, 0, |input| input.image.push(2_048));
+const IMAGE_SHORT: Mutation<JobInput> = mutation(6, 0, |input| input.image.truncate(3));
+const WORK_LONG: Mutation<JobInput> = mutation(7, 0, |input| input.work.push(0));
+const WORK_SHORT: Mutation<JobInput> = mutation(7, 0, |input| input.work.truncate(7));
+const TAPE_SHORT: Mutation<JobInput> =
+    mutation(16, 0, |input| input.tape.truncate(input.tape.len() - 1));
+const PAIR_WEIGHT: Mutation<JobInput> = mutation(2, 2, |input| input.weights[2..].fill(65_281));
+const FLOW_VALUE: Mutation<JobInput> = mutation(8, 1, |input| input.flow[1..3].fill(i32::MIN));
+const IMAGE_VALUE: Mutation<JobInput> = mutation(9, 2, |input| input.image[2..].fill(3_328));
 
-type Call = fn(&mut Lent) -> Result<(), Refusal>;
+type Call = fn(&mut JobInput) -> Result<(), Refusal>;
 
-/// Tries the flaws with weights and, but that of a pair's weight, without them.
-fn assert_turns_back(call: Call, flaws: &[Flaw<Lent>]) {
-    assert_answers(call, flawed(Lent::accepted(), flaws.iter()));
-    let others = flaws
+/// Tries the mutations with weights and, but that of a pair's weight, without them.
+fn assert_refuses(call: Call, mutations: &[Mutation<JobInput>]) {
+    assert_answers(call, mutated(JobInput::accepted(), mutations.iter()));
+    let others = mutations
         .iter()
-        .filter(|flaw| flaw.refusal != PAIR_WEIGHT.refusal);
-    assert_answers(call, flawed(Lent::unweighted(), others));
+        .filter(|mutation| mutation.refusal != PAIR_WEIGHT.refusal);
+    assert_answers(call, mutated(JobInput::unweighted(), others));
 }
 
 /// The call gives the answers that are due, and where it turns back, nothing that was lent changes.
@@ -125,18 +127,18 @@ fn assert_answers<I: Clone + Debug + PartialEq>(
     inputs: Vec<(I, Result<(), Refusal>)>,
 ) {
     for (before, due) in inputs {
-        let mut lent = before.clone();
-        assert_eq!(call(&mut lent), due);
+        let mut input = before.clone();
+        assert_eq!(call(&mut input), due);
         if due.is_err() {
-            assert_eq!(lent, before);
+            assert_eq!(input, before);
         }
     }
 }
 
 #[test]
-fn price_turns_back() {
-    assert_turns_back(
-        Lent::price,
+fn price_refuses() {
+    assert_refuses(
+        JobInput::price,
         &[
             SIZE,
             WEIGHT,
@@ -149,7 +151,7 @@ fn price_turns_back() {
         ],
     );
     let short = [SAMPLES_SHORT, WEIGHTS_SHORT, IMAGE_SHORT];
-    assert_turns_back(Lent::price, &short);
+    assert_refuses(JobInput::price, &short);
     for outside in [2_047, 3_328, i32::MIN, i32::MAX] {
         let image = [2_048, 3_327, 2_048, outside];
         assert_eq!(square().price(&image), Err(refusal(9, 3)));
@@ -157,9 +159,9 @@ fn price_turns_back() {
 }
 
 #[test]
-fn check_turns_back() {
-    assert_turns_back(
-        Lent::check,
+fn check_refuses() {
+    assert_refuses(
+        JobInput::check,
         &[
             SIZE,
             WEIGHT,
@@ -173,7 +175,7 @@ fn check_turns_back() {
         ],
     );
     let short = [SAMPLES_SHORT, FLOW_SHORT, WEIGHTS_SHORT, IMAGE_SHORT];
-    assert_turns_back(Lent::check, &short);
+    assert_refuses(JobInput::check, &short);
     for beyond in [-257, 257, i32::MIN, i32::MAX] {
         let flow = [256, -256, 0, beyond];
         assert_eq!(square().check(&flow), Err(refusal(8, 3)));
@@ -181,9 +183,9 @@ fn check_turns_back() {
 }
 
 #[test]
-fn run_turns_back() {
-    assert_turns_back(
-        Lent::run,
+fn run_refuses() {
+    assert_refuses(
+        JobInput::run,
         &[
             SIZE,
             WEIGHT,
@@ -197,8 +199,8 @@ fn run_turns_back() {
             PAIR_WEIGHT,
         ],
     );
-    assert_turns_back(
-        Lent::run,
+    assert_refuses(
+        JobInput::run,
         &[
             SAMPLES_SHORT,
             FLOW_SHORT,
@@ -211,15 +213,15 @@ fn run_turns_back() {
 
 #[test]
 fn run_does_not_look_at_the_flow_it_is_lent() {
-    let mut lent = Lent::accepted();
-    (FLOW_VALUE.spoil)(&mut lent);
-    assert_eq!(lent.run(), Ok(()));
+    let mut input = JobInput::accepted();
+    (FLOW_VALUE.apply)(&mut input);
+    assert_eq!(input.run(), Ok(()));
 }
 
 #[test]
-fn write_turns_back() {
-    assert_turns_back(
-        Lent::write,
+fn write_refuses() {
+    assert_refuses(
+        JobInput::write,
         &[
             SIZE,
             WEIGHT,
@@ -233,7 +235,7 @@ fn write_turns_back() {
             FLOW_VALUE,
         ],
     );
-    assert_turns_back(Lent::write, &[SAMPLES_SHORT, FLOW_SHORT, WEIGHTS_SHORT]);
+    assert_refuses(JobInput::write, &[SAMPLES_SHORT, FLOW_SHORT, WEIGHTS_SHORT]);
 }
 
 /// Weights in all calls that are lent them: 0 to 65,280 are taken, all others refused.
@@ -250,18 +252,23 @@ fn limits_of_the_pair_weights() {
         (-65_280, false),
         (i32::MIN, false),
     ] {
-        for call in [Lent::price, Lent::check, Lent::run, Lent::write] {
+        for call in [
+            JobInput::price,
+            JobInput::check,
+            JobInput::run,
+            JobInput::write,
+        ] {
             for index in 0..4 {
-                let mut lent = Lent::accepted();
-                lent.flow.fill(0);
-                lent.weights[index..].fill(value);
+                let mut input = JobInput::accepted();
+                input.flow.fill(0);
+                input.weights[index..].fill(value);
                 let expected = match taken {
                     true => Ok(()),
                     false => Err(refusal(2, index as u64)),
                 };
-                let weights = lent.weights.clone();
-                assert_eq!(call(&mut lent), expected);
-                assert_eq!(lent.weights, weights);
+                let weights = input.weights.clone();
+                assert_eq!(call(&mut input), expected);
+                assert_eq!(input.weights, weights);
             }
         }
     }
@@ -271,16 +278,21 @@ fn limits_of_the_pair_weights() {
 #[test]
 fn lengths_of_the_weight_buffer() {
     let refused = Err(refusal(19, 0));
-    for call in [Lent::price, Lent::check, Lent::run, Lent::write] {
+    for call in [
+        JobInput::price,
+        JobInput::check,
+        JobInput::run,
+        JobInput::write,
+    ] {
         for length in 0..10 {
-            let mut lent = Lent::accepted();
-            lent.weights.resize(length, 256);
-            lent.flow = SQUARE_FLOW.to_vec();
+            let mut input = JobInput::accepted();
+            input.weights.resize(length, 256);
+            input.flow = SQUARE_FLOW.to_vec();
             let expected = match length {
                 0 | 4 => Ok(()),
                 _ => refused,
             };
-            assert_eq!(call(&mut lent), expected);
+            assert_eq!(call(&mut input), expected);
         }
     }
     // Without pairs there are no weights.
@@ -336,12 +348,12 @@ fn flow_numbers_beyond_their_own_weights() {
 
 #[test]
 fn write_leaves_the_rest_of_its_output() {
-    let mut lent = Lent::accepted();
-    let tape = lent.tape.clone();
-    lent.tape = vec![0xA5; tape.len() + 3];
-    assert_eq!(lent.write(), Ok(()));
-    assert_eq!(lent.tape[..tape.len()], tape);
-    assert_eq!(lent.tape[tape.len()..], [0xA5; 3]);
+    let mut input = JobInput::accepted();
+    let tape = input.tape.clone();
+    input.tape = vec![0xA5; tape.len() + 3];
+    assert_eq!(input.write(), Ok(()));
+    assert_eq!(input.tape[..tape.len()], tape);
+    assert_eq!(input.tape[tape.len()..], [0xA5; 3]);
 }
 
 #[test]
@@ -363,14 +375,14 @@ fn sizes_beyond_the_limits() {
 }
 
 #[test]
-fn read_turns_back() {
-    assert_answers(|lent| lent.read().map(drop), flawed_reads());
+fn read_refuses() {
+    assert_answers(|input| input.read().map(drop), mutated_reads());
 }
 
-/// What a read of the square's tape without flow records gives, after `spoil`.
-fn read_square(spoil: impl Fn(&mut Vec<u8>)) -> Result<(), Refusal> {
+/// What a read of the square's tape without flow records gives, after `apply`.
+fn read_square(apply: impl Fn(&mut Vec<u8>)) -> Result<(), Refusal> {
     let mut tape = square().tape(&[]);
-    spoil(&mut tape);
+    apply(&mut tape);
     read_back(&tape, 4, 4).answer.map(drop)
 }
 

@@ -1,15 +1,15 @@
 //! The season report: the documents' values, refused jobs, limits, and the sum over what the
 //! cleaning program says of each job. Every text is made twice, by the definitions from the
-//! whole input, and by the loop nests from a stream.
+//! whole input, and by the optimized calls from a stream.
 
 use std::io::{self, Read};
 
 use relief_inputs::{
-    filler, flat, flawed_jobs, jointed, season_job, season_prefixes, two_by_one, Case, Random,
+    filler, flat, jointed, mutated_jobs, season_job, season_prefixes, two_by_one, Case, Random,
     Tape, TWO_BY_ONE_SEASON,
 };
 use relief_reference::program::{clean, TABLES};
-use relief_reference::season::{report, report_plain_within, report_within, Limits, LIMITS};
+use relief_reference::season::{optimized, report, report_within, Limits, LIMITS};
 use relief_reference::tape::Capacity;
 
 use crate::support::printed;
@@ -35,7 +35,7 @@ fn reported_within(limits: &Limits, input: &[u8]) -> String {
             bytes: input,
             piece,
         };
-        assert_eq!(report_plain_within(limits, stream).unwrap(), text);
+        assert_eq!(optimized::report_within(limits, stream).unwrap(), text);
     }
     text
 }
@@ -131,9 +131,9 @@ fn a_refused_job_after_the_two_by_one_job() {
 }
 
 #[test]
-fn a_job_with_every_two_flaws_after_the_two_by_one_job() {
+fn a_job_with_every_two_mutations_after_the_two_by_one_job() {
     let good = two_by_one().tape(&[]);
-    for (job, due) in flawed_jobs() {
+    for (job, due) in mutated_jobs() {
         let text = reported(&[&good[..], &job].concat());
         match due {
             Ok(()) => assert_eq!(text.lines().count(), 8),
@@ -271,7 +271,7 @@ fn two_by_one_and_first(tape: &Tape, length: usize) -> String {
 
 /// Every kind of refusal that a season can have but 13, 17 and 18: number and place, and the byte
 /// that leads to it.
-const FLAWS: [(u32, usize, usize, u8); 29] = [
+const MUTATIONS: [(u32, usize, usize, u8); 29] = [
     (12, 0, 0, 7),
     (12, 5, 5, 255),
     (12, 17, 17, 7),
@@ -308,7 +308,7 @@ fn every_refusal_at_the_first_and_at_later_jobs() {
     let good = two_by_one().tape(&[]);
     let square = square();
     assert_eq!(reported(&square).lines().count(), 8);
-    for (number, place, offset, byte) in FLAWS {
+    for (number, place, offset, byte) in MUTATIONS {
         let mut faulty = square.clone();
         assert_ne!(faulty[offset], byte);
         faulty[offset] = byte;
@@ -475,7 +475,7 @@ fn a_job_may_end_at_its_last_byte_but_not_behind() {
 #[test]
 fn a_fault_in_the_first_bytes_of_a_job_is_told() {
     let refused = |number, place| two_by_ones(1, Some((number, place)));
-    for (number, place, offset, byte) in FLAWS {
+    for (number, place, offset, byte) in MUTATIONS {
         let mut season = square().repeat(2);
         season[offset] = byte;
         // A kind is a fault by itself and terms with their record; flow numbers are judged when
@@ -718,7 +718,7 @@ fn the_binaries_print_the_text() {
     let text = format!("{TWO_BY_ONE_SEASON}job 2 refused 12 at 0\n");
     for binary in [
         env!("CARGO_BIN_EXE_season-reference"),
-        env!("CARGO_BIN_EXE_season-plain"),
+        env!("CARGO_BIN_EXE_season-optimized"),
     ] {
         assert_eq!(printed(binary, &job), TWO_BY_ONE_SEASON);
         assert_eq!(printed(binary, &[]), two_by_ones(0, None));

@@ -116,7 +116,7 @@ pub fn read_back_within(tape: &[u8], capacity: Capacity) -> ReadBack {
     let answer = read(tape, &mut samples, &mut weights, &mut flow);
     let (pixels, weighted, flowing) = match &answer {
         Ok(job) => {
-            let grid = job.terms.judge().expect("read judges the terms");
+            let grid = job.terms.validate().expect("read judges the terms");
             let all_if = |there| if there { grid.pair_count() } else { 0 };
             (
                 grid.pixel_count(),

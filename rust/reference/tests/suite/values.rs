@@ -159,7 +159,7 @@ fn runs_of_the_job_with_a_joint() {
         assert_run_of(jointed(), rounds, &[0, flow], outcome, moved, totals);
     }
     // Without weights both pairs have that of the terms.
-    let plain = Case {
+    let unweighted = Case {
         weights: Vec::new(),
         ..jointed()
     };
@@ -168,7 +168,7 @@ fn runs_of_the_job_with_a_joint() {
         allowance: 100,
     };
     let totals = (1_179_648, 1_179_648, 0);
-    assert_run_of(plain, rounds, &[-256, -256], Settled, 5, totals);
+    assert_run_of(unweighted, rounds, &[-256, -256], Settled, 5, totals);
 }
 
 /// Runs the 2 by 1 job and compares the flow it leaves and all of its figures.

@@ -140,13 +140,13 @@ pub fn read(
     Ok(Job {
         terms,
         rounds,
-        has_weights: yes("weights", weighted),
-        has_flow: yes("a flow", flowed),
+        has_weights: flag("weights", weighted),
+        has_flow: flag("a flow", flowed),
     })
 }
 
 /// What a tape was read with for whether something was there.
-fn yes(what: &str, number: u32) -> bool {
+fn flag(what: &str, number: u32) -> bool {
     match number {
         0 => false,
         1 => true,

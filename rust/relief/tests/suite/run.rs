@@ -66,9 +66,9 @@ fn weights() {
     };
     let joint = (17, 16, [-254, 0], [382, 386, 25_728], [0; 4]);
     assert_eq!(run_with(&[256, 0]), Ok(joint));
-    let plain = (5, 0, [-256, -256], [384, 640, 25_472], [0; 4]);
-    assert_eq!(run_with(&NONE), Ok(plain));
-    assert_eq!(run_with(&[256, 256]), Ok(plain));
+    let unweighted = (5, 0, [-256, -256], [384, 640, 25_472], [0; 4]);
+    assert_eq!(run_with(&NONE), Ok(unweighted));
+    assert_eq!(run_with(&[256, 256]), Ok(unweighted));
 }
 
 /// Two by two, each pair with another weight; the third is not reached.

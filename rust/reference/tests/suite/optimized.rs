@@ -1,13 +1,10 @@
-//! The loop nests over 32-bit buffers against the definitions.
+//! The optimized calls and rounds against the definitions.
 
 use relief_inputs::{chessboard, chessboard_flow, jointed, two_by_one, Case, Random};
-use relief_reference::plain::{
-    check_plain, price_plain, quick_round_plain, run_plain, steady_round_plain,
-};
 use relief_reference::problem::widened;
 use relief_reference::rounds::{quick_rounds, steady_step, T_UNIT};
 use relief_reference::terms::WEIGHT_LIMIT;
-use relief_reference::{check, price, run, Outcome};
+use relief_reference::{check, optimized, price, run, Outcome};
 
 use crate::support::{marked, Calls};
 
@@ -32,11 +29,11 @@ fn assert_check(case: &Case, flow: &[i32]) {
     } = case;
     let mut image = marked(samples.len());
     let mut expected_image = image.clone();
-    let figures = check_plain(terms, samples, weights, flow, &mut image);
+    let figures = optimized::check(terms, samples, weights, flow, &mut image);
     let expected = check(terms, samples, weights, flow, &mut expected_image);
     assert_eq!(figures, expected);
     assert_eq!(image, expected_image);
-    let priced = price_plain(terms, samples, weights, &image);
+    let priced = optimized::price(terms, samples, weights, &image);
     assert_eq!(priced, price(terms, samples, weights, &image));
 }
 
@@ -90,7 +87,7 @@ fn assert_run(case: &Case, [more_flow, more_work]: [isize; 2]) -> Option<Outcome
     let mut work = marked((2 * pairs).saturating_add_signed(more_work));
     let [mut expected_flow, mut expected_image, mut expected_work] =
         [&flow, &image, &work].map(Clone::clone);
-    let figures = run_plain(
+    let figures = optimized::run(
         terms, rounds, samples, weights, &mut flow, &mut image, &mut work,
     );
     let expected = run(
@@ -152,7 +149,7 @@ fn steady_round_equals_the_definition() {
                 weights,
                 ..
             } = &case;
-            let changed = steady_round_plain(terms, samples, weights, &mut flow, &mut image);
+            let changed = optimized::steady_round(terms, samples, weights, &mut flow, &mut image);
             let after = widened(&flow);
             assert_eq!(after, steady_step(&problem, &before));
             assert_eq!(changed, after != before);
@@ -165,7 +162,7 @@ fn steady_round_equals_the_definition() {
 fn assert_quick_rounds(case: &Case, count: u32) {
     let pair_count = case.grid().pair_count();
     let mut flow = vec![0; pair_count];
-    let mut ahead = vec![0; pair_count];
+    let mut extrapolated = vec![0; pair_count];
     let mut image = marked(case.samples.len());
     let mut t = T_UNIT;
     let Case {
@@ -175,8 +172,14 @@ fn assert_quick_rounds(case: &Case, count: u32) {
         ..
     } = case;
     for _ in 0..count {
-        t = quick_round_plain(
-            terms, samples, weights, t, &mut flow, &mut ahead, &mut image,
+        t = optimized::quick_round(
+            terms,
+            samples,
+            weights,
+            t,
+            &mut flow,
+            &mut extrapolated,
+            &mut image,
         );
     }
     assert_eq!(widened(&flow), quick_rounds(&case.problem(), count));

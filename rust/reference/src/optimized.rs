@@ -1,4 +1,4 @@
-//! Price, check, run and the rounds again, as loop nests over lent 32-bit buffers, for speed.
+//! Price, check, run and the rounds again, optimized: loop nests over lent 32-bit buffers.
 //!
 //! Price, check and run test all of their input. The rounds expect accepted terms and weights, and
 //! buffers of the exact lengths.
@@ -9,32 +9,29 @@
 use std::iter;
 use std::ops::Range;
 
-use crate::calls::{judge_check, judge_price, judge_run, Calls, Figures};
+use crate::calls::{validate_check, validate_price, validate_run, Calls, Figures};
 use crate::refusal::Refusal;
 use crate::rounds::{next_t, Outcome, T_UNIT};
 use crate::terms::{reading, Rounds, Terms};
 
 /// The loop nests.
-pub(crate) const PLAIN: Calls = Calls {
-    check: check_plain,
-    run: run_plain,
-};
+pub(crate) const OPTIMIZED: Calls = Calls { check, run };
 
-/// Calls a method of a job's loop nest, of which there are two: one where all pairs have the weight
-/// of the terms, and one that reads the weights lent.
-macro_rules! nested {
+/// Calls a method of the job, of which there are two: one where all pairs have the weight of the
+/// terms, and one that reads the weights lent.
+macro_rules! dispatch {
     ($terms:expr, $samples:expr, $weights:expr, $($call:tt)+) => {
         match $weights {
-            [] => Nest {
+            [] => AcceptedJob {
                 terms: $terms,
                 samples: $samples,
-                weights: Same($terms.weight as i32),
+                weights: Uniform($terms.weight as i32),
             }
             .$($call)+,
-            weights => Nest {
+            weights => AcceptedJob {
                 terms: $terms,
                 samples: $samples,
-                weights: Listed(weights),
+                weights: PerPair(weights),
             }
             .$($call)+,
         }
@@ -42,31 +39,31 @@ macro_rules! nested {
 }
 
 /// Judges a given image: what `price` answers.
-pub fn price_plain(
+pub fn price(
     terms: &Terms,
     samples: &[u8],
     weights: &[i32],
     image: &[i32],
 ) -> Result<Figures, Refusal> {
-    judge_price(terms, samples, weights, image)?;
-    let price = nested!(terms, samples, weights, price(image));
+    validate_price(terms, samples, weights, image)?;
+    let price = dispatch!(terms, samples, weights, price(image));
     Ok(Figures::of_price(price))
 }
 
 /// Judges a given flow and fills `image` with its image: what `check` answers.
-pub fn check_plain(
+pub fn check(
     terms: &Terms,
     samples: &[u8],
     weights: &[i32],
     flow: &[i32],
     image: &mut [i32],
 ) -> Result<Figures, Refusal> {
-    judge_check(terms, samples, weights, flow, image)?;
-    Ok(nested!(terms, samples, weights, check(flow, image)))
+    validate_check(terms, samples, weights, flow, image)?;
+    Ok(dispatch!(terms, samples, weights, check(flow, image)))
 }
 
 /// Does the rounds and fills `flow` and `image`: what `run` answers and leaves.
-pub fn run_plain(
+pub fn run(
     terms: &Terms,
     rounds: &Rounds,
     samples: &[u8],
@@ -75,42 +72,47 @@ pub fn run_plain(
     image: &mut [i32],
     work: &mut [i32],
 ) -> Result<Figures, Refusal> {
-    judge_run(terms, rounds, samples, weights, flow, image, work)?;
-    let figures = nested!(terms, samples, weights, run(rounds, flow, image, work));
+    validate_run(terms, rounds, samples, weights, flow, image, work)?;
+    let figures = dispatch!(terms, samples, weights, run(rounds, flow, image, work));
     Ok(figures)
 }
 
 /// Replaces `flow` by its step, leaves in `image` the image of the flow before the
 /// step, and says whether a value changed.
-pub fn steady_round_plain(
+pub fn steady_round(
     terms: &Terms,
     samples: &[u8],
     weights: &[i32],
     flow: &mut [i32],
     image: &mut [i32],
 ) -> bool {
-    nested!(terms, samples, weights, steady_round(flow, image))
+    dispatch!(terms, samples, weights, steady_round(flow, image))
 }
 
-/// One quick round at `t`: takes `flow` and `ahead` (document 01: P and R) to the
-/// next ones, leaves in `image` the image of the earlier `ahead`, and gives the
+/// One quick round at `t`: takes `flow` and `extrapolated` (document 01: P and R) to the
+/// next ones, leaves in `image` the image of the earlier `extrapolated`, and gives the
 /// next T.
-pub fn quick_round_plain(
+pub fn quick_round(
     terms: &Terms,
     samples: &[u8],
     weights: &[i32],
     t: u64,
     flow: &mut [i32],
-    ahead: &mut [i32],
+    extrapolated: &mut [i32],
     image: &mut [i32],
 ) -> u64 {
-    nested!(terms, samples, weights, quick_round(t, flow, ahead, image))
+    dispatch!(
+        terms,
+        samples,
+        weights,
+        quick_round(t, flow, extrapolated, image)
+    )
 }
 
-/// The weights of all pairs, as a loop nest takes them.
+/// The weights of all pairs, as the loops take them.
 trait Weights: Copy {
     /// Those of a run of pairs.
-    fn of(self, pairs: Range<usize>) -> impl Iterator<Item = i32>;
+    fn range(self, pairs: Range<usize>) -> impl Iterator<Item = i32>;
 
     /// The size of a difference times its pair's weight, divided by [`Weights::factor`].
     fn weighted(size: u32, weight: i32) -> u64;
@@ -121,10 +123,10 @@ trait Weights: Copy {
 
 /// One weight for all pairs.
 #[derive(Clone, Copy)]
-struct Same(i32);
+struct Uniform(i32);
 
-impl Weights for Same {
-    fn of(self, _pairs: Range<usize>) -> impl Iterator<Item = i32> {
+impl Weights for Uniform {
+    fn range(self, _pairs: Range<usize>) -> impl Iterator<Item = i32> {
         iter::repeat(self.0)
     }
 
@@ -139,10 +141,10 @@ impl Weights for Same {
 
 /// A weight for each pair.
 #[derive(Clone, Copy)]
-struct Listed<'a>(&'a [i32]);
+struct PerPair<'a>(&'a [i32]);
 
-impl Weights for Listed<'_> {
-    fn of(self, pairs: Range<usize>) -> impl Iterator<Item = i32> {
+impl Weights for PerPair<'_> {
+    fn range(self, pairs: Range<usize>) -> impl Iterator<Item = i32> {
         self.0[pairs].iter().copied()
     }
 
@@ -155,18 +157,18 @@ impl Weights for Listed<'_> {
     }
 }
 
-/// A job that has been judged.
-struct Nest<'a, W> {
+/// A job whose terms and buffers have been validated.
+struct AcceptedJob<'a, W> {
     terms: &'a Terms,
     samples: &'a [u8],
     weights: W,
 }
 
-impl<W: Weights> Nest<'_, W> {
+impl<W: Weights> AcceptedJob<'_, W> {
     fn price(&self, image: &[i32]) -> u64 {
         let mut variation = 0;
         self.for_each_run(image, |pairs, firsts, seconds| {
-            let weights = self.weights.of(pairs);
+            let weights = self.weights.range(pairs);
             for ((first, second), weight) in firsts.iter().zip(seconds).zip(weights) {
                 variation += W::weighted((first - second).unsigned_abs(), weight);
             }
@@ -188,12 +190,12 @@ impl<W: Weights> Nest<'_, W> {
     ) -> Figures {
         flow.fill(0);
         work.fill(0);
-        let ahead = &mut work[..flow.len()];
+        let extrapolated = &mut work[..flow.len()];
         let mut t = T_UNIT;
         for _ in 0..rounds.quick {
-            t = self.quick_round(t, flow, ahead, image);
+            t = self.quick_round(t, flow, extrapolated, image);
         }
-        ahead.fill(0);
+        extrapolated.fill(0);
 
         let allowance = rounds.allowance.into();
         let mut moved = 0;
@@ -215,7 +217,7 @@ impl<W: Weights> Nest<'_, W> {
     fn figures(&self, flow: &[i32], image: &[i32], outcome: Outcome, moved: u32) -> Figures {
         let (mut variation, mut coupling) = (0, 0);
         self.for_each_run(image, |pairs, firsts, seconds| {
-            let weights = self.weights.of(pairs.clone());
+            let weights = self.weights.range(pairs.clone());
             let numbers = flow[pairs].iter().zip(firsts).zip(seconds);
             for (((&value, first), second), weight) in numbers.zip(weights) {
                 let difference = first - second;
@@ -248,10 +250,10 @@ impl<W: Weights> Nest<'_, W> {
         self.fill_image(flow, image);
         let mut changed = false;
         self.for_each_run(image, |pairs, firsts, seconds| {
-            let weights = self.weights.of(pairs.clone());
+            let weights = self.weights.range(pairs.clone());
             let numbers = flow[pairs].iter_mut().zip(firsts).zip(seconds);
             for (((value, first), second), weight) in numbers.zip(weights) {
-                let stepped = held(*value + steady_share(first - second), weight);
+                let stepped = project(*value + steady_share(first - second), weight);
                 changed |= stepped != *value;
                 *value = stepped;
             }
@@ -264,30 +266,36 @@ impl<W: Weights> Nest<'_, W> {
         self.fill_image(flow, image);
         let mut moving = false;
         self.for_each_run(image, |pairs, firsts, seconds| {
-            let weights = self.weights.of(pairs.clone());
+            let weights = self.weights.range(pairs.clone());
             let numbers = flow[pairs].iter().zip(firsts).zip(seconds);
             moving = moving
                 || numbers
                     .zip(weights)
                     .any(|(((&value, first), second), weight)| {
-                        held(value + steady_share(first - second), weight) != value
+                        project(value + steady_share(first - second), weight) != value
                     });
         });
         moving
     }
 
-    fn quick_round(&self, t: u64, flow: &mut [i32], ahead: &mut [i32], image: &mut [i32]) -> u64 {
-        self.fill_image(ahead, image);
+    fn quick_round(
+        &self,
+        t: u64,
+        flow: &mut [i32],
+        extrapolated: &mut [i32],
+        image: &mut [i32],
+    ) -> u64 {
+        self.fill_image(extrapolated, image);
         let following_t = next_t(t);
         let (gain, scale) = ((t - T_UNIT) as i64, following_t as i64);
         self.for_each_run(image, |pairs, firsts, seconds| {
-            let weights = self.weights.of(pairs.clone());
-            let flows = flow[pairs.clone()].iter_mut().zip(&mut ahead[pairs]);
+            let weights = self.weights.range(pairs.clone());
+            let flows = flow[pairs.clone()].iter_mut().zip(&mut extrapolated[pairs]);
             let numbers = flows.zip(firsts).zip(seconds);
-            for ((((value, ahead), first), second), weight) in numbers.zip(weights) {
-                let stepped = held(*ahead + quick_share(first - second), weight);
+            for ((((value, extrapolated), first), second), weight) in numbers.zip(weights) {
+                let stepped = project(*extrapolated + quick_share(first - second), weight);
                 let momentum = gain * i64::from(stepped - *value) / scale;
-                *ahead = stepped + momentum as i32;
+                *extrapolated = stepped + momentum as i32;
                 *value = stepped;
             }
         });
@@ -339,8 +347,9 @@ impl<W: Weights> Nest<'_, W> {
     }
 }
 
-/// A flow number held to its weight. `clamp` would test the weight's sign at every pair.
-fn held(value: i32, weight: i32) -> i32 {
+/// A flow number projected onto the range of its weight. `clamp` would test the weight's sign at
+/// every pair.
+fn project(value: i32, weight: i32) -> i32 {
     value.max(-weight).min(weight)
 }
 

@@ -1,25 +1,25 @@
-//! The season report again, for speed: from a stream, by the loop nests, in buffers that are
+//! The season report again, optimized: from a stream, by the optimized calls, in buffers that are
 //! used again for each job.
 
 use std::io::{self, ErrorKind, Read};
 
 use super::{read_job, Limits, Totals, LIMITS};
-use crate::plain::PLAIN;
+use crate::optimized::OPTIMIZED;
 use crate::program::Workspace;
 use crate::refusal::Refusal;
 use crate::tape::Contents;
 
 /// Bytes that there is room for at each read of the stream.
-const PIECE: usize = 65_536;
+const CHUNK: usize = 65_536;
 
 /// The text for all that `source` gives. It is read no further than the text needs, but for
-/// what comes with the same piece.
-pub fn report_plain(source: impl Read) -> io::Result<String> {
-    report_plain_within(&LIMITS, source)
+/// what comes with the same chunk.
+pub fn report(source: impl Read) -> io::Result<String> {
+    report_within(&LIMITS, source)
 }
 
 /// The text with other limits.
-pub fn report_plain_within(limits: &Limits, source: impl Read) -> io::Result<String> {
+pub fn report_within(limits: &Limits, source: impl Read) -> io::Result<String> {
     let mut totals = Totals::default();
     let ended = add_jobs(&mut totals, limits, &mut Input::new(limits, source))?;
     Ok(totals.text(ended))
@@ -32,10 +32,10 @@ fn add_jobs(
     input: &mut Input<impl Read>,
 ) -> io::Result<Result<(), Refusal>> {
     let mut workspace = Workspace::new();
-    while totals.jobs < limits.jobs && input.goes_on()? {
+    while totals.jobs < limits.jobs && input.has_next_job()? {
         let read = input.read_job(limits, &mut workspace.job)?;
-        let treated = read.and_then(|()| workspace.treat(&PLAIN));
-        match treated {
+        let answer = read.and_then(|()| workspace.check_or_run(&OPTIMIZED));
+        match answer {
             Ok(figures) => totals.add(workspace.job.samples.len(), &figures),
             Err(refusal) => return Ok(Err(refusal)),
         }
@@ -46,7 +46,7 @@ fn add_jobs(
 /// A stream, and what has come from it for the next job.
 struct Input<R> {
     source: R,
-    /// The bytes that wait are those from `start` to `end`.
+    /// The buffered bytes are those from `start` to `end`.
     buffer: Vec<u8>,
     start: usize,
     end: usize,
@@ -58,44 +58,44 @@ impl<R: Read> Input<R> {
     fn new(limits: &Limits, source: R) -> Input<R> {
         Input {
             source,
-            buffer: vec![0; limits.job_bytes + PIECE],
+            buffer: vec![0; limits.job_bytes + CHUNK],
             start: 0,
             end: 0,
             ended: false,
         }
     }
 
-    fn waiting(&self) -> &[u8] {
+    fn buffered(&self) -> &[u8] {
         &self.buffer[self.start..self.end]
     }
 
     /// Whether there is a byte of another job.
-    fn goes_on(&mut self) -> io::Result<bool> {
-        if self.waiting().is_empty() && !self.ended {
-            self.read_piece()?;
+    fn has_next_job(&mut self) -> io::Result<bool> {
+        if self.buffered().is_empty() && !self.ended {
+            self.read_chunk()?;
         }
-        Ok(!self.waiting().is_empty())
+        Ok(!self.buffered().is_empty())
     }
 
     /// Takes the next job. Reading goes on where it ended whenever more has come.
     fn read_job(&mut self, limits: &Limits, job: &mut Contents) -> io::Result<Result<(), Refusal>> {
         job.clear();
         loop {
-            match read_job(limits, self.waiting(), job) {
+            match read_job(limits, self.buffered(), job) {
                 Ok(length) => {
                     self.start += length;
                     return Ok(Ok(()));
                 }
-                Err(refusal) if refusal.wants_more() && !self.ended => self.read_piece()?,
+                Err(refusal) if refusal.is_unexpected_end() && !self.ended => self.read_chunk()?,
                 Err(refusal) => return Ok(Err(refusal)),
             }
         }
     }
 
-    /// Reads what has come, or waits for more. At most a job's first bytes are waiting then, so
-    /// that there is room for a piece.
-    fn read_piece(&mut self) -> io::Result<()> {
-        if self.buffer.len() - self.end < PIECE {
+    /// Reads what has come, or waits for more. At most a job's first bytes are buffered then, so
+    /// that there is room for a chunk.
+    fn read_chunk(&mut self) -> io::Result<()> {
+        if self.buffer.len() - self.end < CHUNK {
             self.buffer.copy_within(self.start..self.end, 0);
             self.end -= self.start;
             self.start = 0;
