@@ -62,10 +62,10 @@ def sample(value, maxval):
 
 def main():
     options = arguments()
-    with script.naming(NAME, script.source_name(options.source)):
+    with script.reporting_errors(NAME, script.source_name(options.source)):
         figures, rows = read(script.read(options.source))
     samples = [[sample(value, options.maxval) for value in row] for row in rows]
-    with script.naming(NAME, script.target_name(options.target)):
+    with script.reporting_errors(NAME, script.target_name(options.target)):
         script.write(options.target, pgm.text(samples, options.maxval).encode())
     print(HEADING, figures, sep="\n", file=sys.stderr)
 

@@ -84,13 +84,13 @@ def tape(rows, weights, terms):
 def main():
     options = arguments()
     picture = script.source_name(options.source)
-    with script.naming(NAME, picture):
+    with script.reporting_errors(NAME, picture):
         rows, maxval = read(script.read(options.source))
     weights = []
     if options.weights is not None:
-        with script.naming(NAME, script.source_name(options.weights)):
+        with script.reporting_errors(NAME, script.source_name(options.weights)):
             weights = read_weights(script.read(options.weights), rows, options.weight)
-    with script.naming(NAME, script.target_name(options.target)):
+    with script.reporting_errors(NAME, script.target_name(options.target)):
         script.write(options.target, tape(rows, weights, options))
     if maxval < 255:
         print(f"{NAME}: {picture}: maxval {maxval}: samples scaled to the codes 0..255, in whose levels weight and box are;"

@@ -34,7 +34,7 @@ def number(least, most):
 
 
 @contextlib.contextmanager
-def naming(script, file):
+def reporting_errors(script, file):
     """Ends the script with a line that names the file where a file or what it holds is at fault."""
     try:
         yield

@@ -46,7 +46,7 @@ class Scripts(unittest.TestCase):
     def names(self):
         return sorted(path.name for path in self.folder.iterdir())
 
-    def fails(self, message, name, *words, data=b"", **more):
+    def assert_fails(self, message, name, *words, data=b"", **more):
         """One line on standard error, exit status 1, nothing written, no file more."""
         before = {path: path.read_bytes() for path in self.folder.iterdir() if path.is_file()}
         done = self.run_script(name, *words, data=data, **more)
@@ -54,9 +54,9 @@ class Scripts(unittest.TestCase):
         self.assertEqual((done.returncode, done.stdout), (1, b""))
         self.assertEqual({path: path.read_bytes() for path in self.folder.iterdir() if path.is_file()}, before)
 
-    def tape(self, picture, *words, said=""):
+    def tape(self, picture, *words, stderr=""):
         done = self.run_script("pgm2tape.py", *words, data=picture)
-        self.assertEqual((done.returncode, done.stderr.decode()), (0, said))
+        self.assertEqual((done.returncode, done.stderr.decode()), (0, stderr))
         return done.stdout
 
     def codes(self, picture, **more):
@@ -85,13 +85,13 @@ class Tapes(Scripts):
     def test_maxval(self):
         self.assertEqual(self.codes(b"P2 4 1 255\n0 1 128 255\n"), [0, 1, 128, 255])
         self.assertEqual(self.codes(b"P5 4 1 255\n\0\1\x80\xff"), [0, 1, 128, 255])
-        self.assertEqual(self.codes(b"P2 4 1 63\n0 1 32 63\n", said=scaled("standard input", 63)), [0, 4, 130, 255])
-        self.assertEqual(self.codes(b"P5 4 1 63\n\0\1\x20\x3f", said=scaled("standard input", 63)), [0, 4, 130, 255])
-        self.assertEqual(self.codes(b"P2 2 1 1\n1 0\n", said=scaled("standard input", 1)), [255, 0])
+        self.assertEqual(self.codes(b"P2 4 1 63\n0 1 32 63\n", stderr=scaled("standard input", 63)), [0, 4, 130, 255])
+        self.assertEqual(self.codes(b"P5 4 1 63\n\0\1\x20\x3f", stderr=scaled("standard input", 63)), [0, 4, 130, 255])
+        self.assertEqual(self.codes(b"P2 2 1 1\n1 0\n", stderr=scaled("standard input", 1)), [255, 0])
         for maxval in 256, 65535:
             for kind in "P2", "P5":
-                self.fails(f"standard input: maxval {maxval}: samples of 16 bits are not taken, 255 is the most",
-                           "pgm2tape.py", data=f"{kind} 1 1 {maxval}\n0 ".encode())
+                self.assert_fails(f"standard input: maxval {maxval}: samples of 16 bits are not taken, 255 is the most",
+                                  "pgm2tape.py", data=f"{kind} 1 1 {maxval}\n0 ".encode())
 
     def test_scaling_back(self):
         for maxval in range(1, 256):
@@ -123,9 +123,9 @@ class Tapes(Scripts):
             (b"P5 4097 1 255\n" + bytes(4097), "4097 pixels: the cleaning program takes 4096 at most"),
         ]:
             with self.subTest(data[:20]):
-                self.fails("standard input: " + message, "pgm2tape.py", data=data)
+                self.assert_fails("standard input: " + message, "pgm2tape.py", data=data)
                 (self.folder / "in.pgm").write_bytes(data)
-                self.fails("in.pgm: " + message, "pgm2tape.py", "in.pgm", "out.tape")
+                self.assert_fails("in.pgm: " + message, "pgm2tape.py", "in.pgm", "out.tape")
 
     def test_faulty_terms(self):
         for words, message in [
@@ -138,7 +138,7 @@ class Tapes(Scripts):
             (["a", "b", "c"], "unrecognized arguments: c"),
         ]:
             with self.subTest(words):
-                self.fails(message, "pgm2tape.py", *words, data=b"P2 1 1 255\n0\n")
+                self.assert_fails(message, "pgm2tape.py", *words, data=b"P2 1 1 255\n0\n")
 
 
 class Weights(Scripts):
@@ -199,7 +199,7 @@ class Weights(Scripts):
         tape = self.tape(scan, "--weights", "white.pgm")
         self.assertEqual(self.tape(white, "--weights", "-", "scan.pgm"), tape)
         for words in ["--weights", "-"], ["--weights", "-", "-", "out.tape"]:
-            self.fails("picture and --weights are both standard input", "pgm2tape.py", *words, data=scan)
+            self.assert_fails("picture and --weights are both standard input", "pgm2tape.py", *words, data=scan)
 
     def test_faulty_pictures(self):
         for data, message in [
@@ -213,11 +213,11 @@ class Weights(Scripts):
         ]:
             with self.subTest(data[:20]):
                 (self.folder / "weights.pgm").write_bytes(data)
-                self.fails("weights.pgm: " + message, "pgm2tape.py", "--weights", "weights.pgm", "-", "out.tape",
-                           data=b"P2 2 1 255\n0 2\n")
-        self.fails("no/such: No such file or directory", "pgm2tape.py", "--weights", "no/such",
-                   data=b"P2 2 1 255\n0 2\n")
-        self.fails("standard input: empty, not a PGM picture", "pgm2tape.py", "--weights", "no/such")
+                self.assert_fails("weights.pgm: " + message, "pgm2tape.py", "--weights", "weights.pgm", "-", "out.tape",
+                                  data=b"P2 2 1 255\n0 2\n")
+        self.assert_fails("no/such: No such file or directory", "pgm2tape.py", "--weights", "no/such",
+                          data=b"P2 2 1 255\n0 2\n")
+        self.assert_fails("standard input: empty, not a PGM picture", "pgm2tape.py", "--weights", "no/such")
 
     @unittest.skipUnless(PROGRAM, "RELIEF_BIN is not set")
     def test_black_keeps_its_reading(self):
@@ -248,8 +248,8 @@ class Pictures(Scripts):
         self.assertEqual(self.picture(answer=answer), b"P2\n3 2\n255\n0 0 1\n254 255 255\n")
         self.assertEqual(self.picture("--maxval", "1", answer=answer), b"P2\n3 2\n1\n0 0 0\n1 1 1\n")
         for maxval in "0", "65536", "-1", "x":
-            self.fails(f"argument --maxval: {maxval} is not a whole number from 1 to 65535",
-                       "answer2pgm.py", "--maxval", maxval, data=ANSWER)
+            self.assert_fails(f"argument --maxval: {maxval} is not a whole number from 1 to 65535",
+                              "answer2pgm.py", "--maxval", maxval, data=ANSWER)
 
     def test_a_code_covers_its_level(self):
         for code in range(256):
@@ -273,39 +273,39 @@ class Pictures(Scripts):
             (heading + b"x\n", "an image value is not a number from 0 to 65535"),
         ]:
             with self.subTest(data[-20:]):
-                self.fails("standard input: " + message, "answer2pgm.py", data=data)
+                self.assert_fails("standard input: " + message, "answer2pgm.py", data=data)
                 (self.folder / "in.txt").write_bytes(data)
-                self.fails("in.txt: " + message, "answer2pgm.py", "in.txt", "out.pgm")
+                self.assert_fails("in.txt: " + message, "answer2pgm.py", "in.txt", "out.pgm")
 
     @unittest.skipUnless(PROGRAM, "RELIEF_BIN is not set")
     def test_through_the_program(self):
         for maxval in 1, 63, 254, 255:
             text = pgm.text([[0, maxval // 3, maxval], [maxval, 1, maxval // 2]], maxval).encode()
-            said = scaled("standard input", maxval) if maxval < 255 else ""
-            tape = self.tape(text, "--weight", "0", said=said)
+            stderr = scaled("standard input", maxval) if maxval < 255 else ""
+            tape = self.tape(text, "--weight", "0", stderr=stderr)
             answer = subprocess.run([PROGRAM], input=tape, capture_output=True, check=True).stdout
             self.assertEqual(self.picture("--maxval", str(maxval), answer=answer), text)
 
     @unittest.skipUnless(PROGRAM, "RELIEF_BIN is not set")
     def test_refusal_of_the_program(self):
         answer = subprocess.run([PROGRAM], input=b"", capture_output=True, check=True).stdout
-        self.fails("standard input: the cleaning program refused the job: refused 18 at 0"
-                   " (README.md lists the refusals)", "answer2pgm.py", data=answer)
+        self.assert_fails("standard input: the cleaning program refused the job: refused 18 at 0"
+                          " (README.md lists the refusals)", "answer2pgm.py", data=answer)
 
 
 class Files(Scripts):
     def test_missing(self):
         for name in "pgm2tape.py", "answer2pgm.py":
-            self.fails("no/such: No such file or directory", name, "no/such", "out")
-            self.fails(".: Is a directory", name, ".", "out")
+            self.assert_fails("no/such: No such file or directory", name, "no/such", "out")
+            self.assert_fails(".: Is a directory", name, ".", "out")
 
     def test_unwritable(self):
         (self.folder / "in").write_bytes(ANSWER)
-        self.fails("no/out: No such file or directory", "answer2pgm.py", "in", "no/out")
-        self.fails("in/out: Not a directory", "answer2pgm.py", "in", "in/out")
-        self.fails(".: Is a directory", "answer2pgm.py", "in", ".")
+        self.assert_fails("no/out: No such file or directory", "answer2pgm.py", "in", "no/out")
+        self.assert_fails("in/out: Not a directory", "answer2pgm.py", "in", "in/out")
+        self.assert_fails(".: Is a directory", "answer2pgm.py", "in", ".")
         if os.path.exists("/dev/full"):
-            self.fails("/dev/full: No space left on device", "answer2pgm.py", "in", "/dev/full")
+            self.assert_fails("/dev/full: No space left on device", "answer2pgm.py", "in", "/dev/full")
             with open("/dev/full", "wb") as full:
                 command = [sys.executable, "-B", str(TOP / "examples/answer2pgm.py"), "in"]
                 done = subprocess.run(command, stdout=full, stderr=subprocess.PIPE, cwd=self.folder)
@@ -317,7 +317,7 @@ class Files(Scripts):
         (self.folder / "in").write_bytes(ANSWER)
         (self.folder / "out").write_bytes(b"kept")
         (self.folder / "out").chmod(0o444)
-        self.fails("out: Permission denied", "answer2pgm.py", "in", "out")
+        self.assert_fails("out: Permission denied", "answer2pgm.py", "in", "out")
 
     def test_half_written(self):
         """A limit on the size of files ends the writing half way."""
@@ -329,7 +329,7 @@ class Files(Scripts):
             resource.setrlimit(resource.RLIMIT_FSIZE, (5, 5))
 
         for target in "out", "new":
-            self.fails(f"{target}: File too large", "answer2pgm.py", "in", target, preexec_fn=limit)
+            self.assert_fails(f"{target}: File too large", "answer2pgm.py", "in", target, preexec_fn=limit)
 
     def test_replaced(self):
         (self.folder / "in").write_bytes(ANSWER)

@@ -43,7 +43,7 @@ WEIGHTS = 640, 1024  # 128 and 205 times the noise, in levels
 THRESHOLDS = 0.01, 0.001, 0.0001
 MARGIN = 16  # pixels that are mirrored around the scan, to keep scikit-image's borders away from it
 TURNS = 3  # of each run beside scikit-image
-MOST = 256  # quick rounds, and iterations of scikit-image
+MAX_ROUNDS = 256  # quick rounds, and iterations of scikit-image
 REFERENCE_ROUNDS = 800
 
 
@@ -61,7 +61,7 @@ def timed(call):
     return answer, time.process_time() - begin
 
 
-def in_turn(things, turn):
+def alternate(things, turn):
     """The things in their order, and in the other order each second time."""
     return things if turn % 2 == 0 else things[::-1]
 
@@ -76,7 +76,7 @@ def print_overhead(codes):
     terms, pairs = boundary.Terms(SIZE, SIZE, weight, *BOX), boundary.pair_count(SIZE, SIZE)
     image, flow, work = (np.ones(count, np.int32) for count in (SIZE * SIZE, pairs, 2 * pairs))
     none, cleaned = np.zeros(0, np.int32), relief.clean(codes, weight, BOX, quick=10, steady=0)
-    given_flow, given_image = cleaned.flow.flat, cleaned.image
+    checked_flow, priced_image = cleaned.flow.flat, cleaned.image
 
     def clean(*rounds):
         return lambda: relief.clean(codes, weight, BOX, *rounds)
@@ -87,10 +87,10 @@ def print_overhead(codes):
     cases = (
         ("clean, default rounds", 11, clean(), run(relief.QUICK, relief.STEADY)),
         ("clean, 10 quick rounds", 101, clean(10, 0), run(10, 0)),
-        ("check", 301, lambda: relief.check(codes, given_flow, weight, BOX),
-         lambda: boundary.check(terms, codes, none, given_flow, image)),
-        ("price", 301, lambda: relief.price(codes, given_image, weight, BOX),
-         lambda: boundary.price(terms, codes, none, given_image)),
+        ("check", 301, lambda: relief.check(codes, checked_flow, weight, BOX),
+         lambda: boundary.check(terms, codes, none, checked_flow, image)),
+        ("price", 301, lambda: relief.price(codes, priced_image, weight, BOX),
+         lambda: boundary.price(terms, codes, none, priced_image)),
     )
     print(f"the package beside the C call, weight {weight}: milliseconds, median (least) of so many runs of each by turns;")
     print("added: the median over the turns of the two calls' ratio, and the ratio of the least times")
@@ -98,7 +98,7 @@ def print_overhead(codes):
     for name, turns, *calls in cases:
         seconds = [[], []]
         for turn in range(turns):
-            for side in in_turn((0, 1), turn):
+            for side in alternate((0, 1), turn):
                 seconds[side].append(timed(calls[side])[1])
         shown = "".join(f"{f'{1e3 * statistics.median(side):.2f} ({1e3 * min(side):.2f})':>20}" for side in seconds)
         added = statistics.median(package / bare for package, bare in zip(*seconds)), min(seconds[0]) / min(seconds[1])
@@ -123,22 +123,22 @@ def reference(codes, weight):
         return np.clip(values, low, high, out=values)
 
     flow, momentum = (np.zeros((SIZE - 1, SIZE)), np.zeros((SIZE, SIZE - 1))), 1.0
-    ahead = flow
+    extrapolated = flow
     for _ in range(REFERENCE_ROUNDS):
-        at = image(*ahead)
-        falls = at[:-1] - at[1:], at[:, :-1] - at[:, 1:]
-        step = [np.clip(number + fall / 8, -weight, weight) for number, fall in zip(ahead, falls)]
-        longer = (1 + math.sqrt(1 + 4 * momentum**2)) / 2
-        ahead = [new + (momentum - 1) / longer * (new - old) for new, old in zip(step, flow)]
-        flow, momentum = step, longer
+        current = image(*extrapolated)
+        falls = current[:-1] - current[1:], current[:, :-1] - current[:, 1:]
+        step = [np.clip(number + fall / 8, -weight, weight) for number, fall in zip(extrapolated, falls)]
+        next_momentum = (1 + math.sqrt(1 + 4 * momentum**2)) / 2
+        extrapolated = [new + (momentum - 1) / next_momentum * (new - old) for new, old in zip(step, flow)]
+        flow, momentum = step, next_momentum
     return relief.check(codes, tuple(np.rint(part).astype(np.int32) for part in flow), weight, BOX), as_image(image(*flow))
 
 
-def counts(most, ratio):
+def counts(maximum, ratio):
     """Numbers of rounds up to the most, each so many times the one before."""
     found = [1]
-    while found[-1] < most:
-        found.append(min(max(found[-1] + 1, round(found[-1] * ratio)), most))
+    while found[-1] < maximum:
+        found.append(min(max(found[-1] + 1, round(found[-1] * ratio)), maximum))
     return found
 
 
@@ -155,12 +155,12 @@ def methods(codes, weight):
         return relief.price(codes, as_image(values), weight, BOX)
 
     return (
-        ("relief, quick rounds alone", counts(MOST, 1.25),
+        ("relief, quick rounds alone", counts(MAX_ROUNDS, 1.25),
          lambda rounds: relief.clean(codes, weight, BOX, rounds, 0), lambda result: result.price),
         (f"relief, {relief.QUICK} quick rounds, then steady", counts(relief.STEADY, 1.5)[5:],
          lambda rounds: relief.clean(codes, weight, BOX, relief.QUICK, rounds), lambda result: result.price),
-        ("scikit-image", counts(MOST, 1.25), bregman(scan), judged),
-        (f"scikit-image, margin of {MARGIN} mirrored pixels", counts(MOST, 1.25), bregman(wide),
+        ("scikit-image", counts(MAX_ROUNDS, 1.25), bregman(scan), judged),
+        (f"scikit-image, margin of {MARGIN} mirrored pixels", counts(MAX_ROUNDS, 1.25), bregman(wide),
          lambda values: judged(values[MARGIN:-MARGIN, MARGIN:-MARGIN])),
     )
 
@@ -169,7 +169,7 @@ def price_over_time(codes, weight):
     """For each method's name its points: for each number of rounds the seconds of all turns, and the price."""
     found = {}
     for turn in range(TURNS):
-        for name, numbers, make, price_of in in_turn(methods(codes, weight), turn):
+        for name, numbers, make, price_of in alternate(methods(codes, weight), turn):
             points = found.setdefault(name, {})
             for rounds in numbers:
                 answer, seconds = timed(lambda: make(rounds))
@@ -177,21 +177,21 @@ def price_over_time(codes, weight):
     return found
 
 
-def above(price, floor):
+def excess(price, floor):
     """How far a price is above the floor, as a share of the floor."""
     return (price - floor) / floor
 
 
-def reached(points, floor, within):
+def time_to_reach(points, floor, within):
     """The time of the first point whose price is so near to the floor, or how near the nearest is."""
     for rounds, (seconds, price) in points.items():
-        if above(price, floor) <= within:
+        if excess(price, floor) <= within:
             return f"{statistics.median(seconds):.2f} ({min(seconds):.2f} to {max(seconds):.2f}), {rounds} rounds"
-    nearest = min(above(price, floor) for _, price in points.values())
+    nearest = min(excess(price, floor) for _, price in points.values())
     return f"not reached, nearest {100 * nearest:.3f} %"
 
 
-def print_beside(codes):
+def print_comparison(codes):
     """Time to come near the least price, beside scikit-image. Gives for each weight and method seconds and distances."""
     print(f"time until the price is within so much of the best floor known, beside scikit-image {skimage.__version__}:")
     print(f"seconds, median (least to greatest) of {TURNS} runs; in scikit-image a round is an iteration")
@@ -203,17 +203,17 @@ def print_beside(codes):
         found = price_over_time(codes, weight)
         least = min(price for points in found.values() for _, price in points.values())
         own = format_bound(distance_bound(relief.price(codes, near, weight, BOX) - floor, codes.size), 4)
-        print(f"weight {weight}: floor {floor}, least price {least}, {100 * above(least, floor):.5f} % above it;")
+        print(f"weight {weight}: floor {floor}, least price {least}, {100 * excess(least, floor):.5f} % above it;")
         print(f"  found: beside the reference, itself within {own} of the best image; all in levels, root mean square")
         for name, result in ("reference, rounded", judged), *((f"{run.job.quick} + 4000 rounds", run) for run in long):
             apart = np.sqrt(((result.image - near).astype(np.int64)**2).mean()) / 256
-            print(f"  {name:18} {result.outcome} {result.moved}, price {100 * above(result.price, floor):.4f} % above it,"
-                  f" own floor {100 * above(floor, result.floor):.4f} % below it;",
+            print(f"  {name:18} {result.outcome} {result.moved}, price {100 * excess(result.price, floor):.4f} % above it,"
+                  f" own floor {100 * excess(floor, result.floor):.4f} % below it;",
                   f"bound {format_bound(result.rms_bound, 4)}, found {apart:.4f}")
         print(f"  {'':42}", *(f"{f'within {100 * within:g} %':>34}" for within in THRESHOLDS))
         for name, points in found.items():
-            print(f"  {name:42}", *(f"{reached(points, floor, within):>34}" for within in THRESHOLDS))
-        curves[weight] = {name: [(statistics.median(seconds), above(price, floor)) for seconds, price in points.values()]
+            print(f"  {name:42}", *(f"{time_to_reach(points, floor, within):>34}" for within in THRESHOLDS))
+        curves[weight] = {name: [(statistics.median(seconds), excess(price, floor)) for seconds, price in points.values()]
                           for name, points in found.items()}
     return curves
 
@@ -281,7 +281,7 @@ def main():
     if options.added:
         return
     print_load()
-    curves = print_beside(codes)
+    curves = print_comparison(codes)
     print_load()
     if options.plot:
         plot(curves, options.plot)

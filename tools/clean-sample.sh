@@ -21,12 +21,12 @@ rm -f target/examples/facade{,-joints}{.txt,-cleaned.pgm}
 
 # cleans the sample of this name, and shows the answer below a title
 clean() {
-    local answer=target/examples/$1.txt picture=target/examples/$1-cleaned.pgm said
+    local answer=target/examples/$1.txt picture=target/examples/$1-cleaned.pgm message
     "$program" < "examples/$1.tape" > "$answer" || { rm -f "$answer"; exit 1; }
     # what the script says beside its picture: the answer's first two lines, or what is wrong
-    said=$(python3 examples/answer2pgm.py "$answer" "$picture" 2>&1) || { echo "$said" >&2; exit 1; }
+    message=$(python3 examples/answer2pgm.py "$answer" "$picture" 2>&1) || { echo "$message" >&2; exit 1; }
     echo "$2:"
-    echo "$said"
+    echo "$message"
     echo "with a line of values in sub-units for each row: $answer; as a picture: $picture"
 }
 

@@ -61,7 +61,7 @@ def rms(one, other):
 
 def solve(readings, weight, low, high, rounds=500):
     """The best raster of depths in levels, by FGP in floating point, and a bound on its own distance (root mean square)."""
-    most = weight / 256
+    limit = weight / 256
 
     def image(flow):
         values = list(readings)
@@ -70,15 +70,15 @@ def solve(readings, weight, low, high, rounds=500):
             values[j] += number
         return [min(max(value, low), high + 255 / 256) for value in values]
 
-    flow, ahead, momentum = [0.0] * len(PAIRS), [0.0] * len(PAIRS), 1.0
+    flow, extrapolated, momentum = [0.0] * len(PAIRS), [0.0] * len(PAIRS), 1.0
     for _ in range(rounds):
-        at = image(ahead)
-        step = [min(max(r + (at[i] - at[j]) / 8, -most), most) for (i, j), r in zip(PAIRS, ahead)]
-        longer = (1 + math.sqrt(1 + 4 * momentum ** 2)) / 2
-        ahead = [p + (momentum - 1) / longer * (p - q) for p, q in zip(step, flow)]
-        flow, momentum = step, longer
+        current = image(extrapolated)
+        step = [min(max(r + (current[i] - current[j]) / 8, -limit), limit) for (i, j), r in zip(PAIRS, extrapolated)]
+        next_momentum = (1 + math.sqrt(1 + 4 * momentum ** 2)) / 2
+        extrapolated = [p + (momentum - 1) / next_momentum * (p - q) for p, q in zip(step, flow)]
+        flow, momentum = step, next_momentum
     best = image(flow)
-    slack = sum(2 * (most * abs(best[i] - best[j]) - p * (best[i] - best[j])) for (i, j), p in zip(PAIRS, flow))
+    slack = sum(2 * (limit * abs(best[i] - best[j]) - p * (best[i] - best[j])) for (i, j), p in zip(PAIRS, flow))
     return best, math.sqrt(max(slack, 0) / len(best))
 
 

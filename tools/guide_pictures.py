@@ -46,8 +46,8 @@ def side_by_side(panels, path, size):
 def weights(codes, path):
     """One detail with too little weight, about the right one, and too much."""
     panels = {"scan": codes[DETAIL]}
-    for weight, says in (WEIGHT // 4, "too little"), (WEIGHT, "128 × noise"), (16 * WEIGHT, "too much"):
-        panels[f"weight {weight}: {says}"] = relief.clean(codes, weight, BOX).levels[DETAIL]
+    for weight, label in (WEIGHT // 4, "too little"), (WEIGHT, "128 × noise"), (16 * WEIGHT, "too much"):
+        panels[f"weight {weight}: {label}"] = relief.clean(codes, weight, BOX).levels[DETAIL]
     side_by_side(panels, path, (13, 3.0))
 
 

@@ -56,14 +56,14 @@ refuses() {
     local function=$1 what=$2 missing
     shift 2
     programs=$((programs + 1))
-    if "$@" > "$folder/said" 2>&1; then
+    if "$@" > "$folder/linker-output" 2>&1; then
         fail "$what links"
         return
     fi
-    missing=$(grep -oE 'undefined (reference to|symbol:) .?relief_\w+' "$folder/said" | grep -oE '\w+$' | sort -u |
+    missing=$(grep -oE 'undefined (reference to|symbol:) .?relief_\w+' "$folder/linker-output" | grep -oE '\w+$' | sort -u |
         paste -sd ' ' || true)
     if [ "$missing" != "$function" ]; then
-        cat "$folder/said" >&2
+        cat "$folder/linker-output" >&2
         fail "$what fails for ${missing:-no function}, not for $function"
     fi
 }
