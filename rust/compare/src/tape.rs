@@ -160,14 +160,15 @@ fn tapes(count: u64) -> impl Iterator<Item = (Random, Tape)> {
 fn prefixes() -> impl Iterator<Item = (TapeInput, Answer<()>)> {
     tapes(40).flat_map(|(mut random, tape)| {
         let prefixes = tape.clone().prefixes();
-        prefixes.map(move |(bytes, answer)| (lent(&mut random, &tape, bytes), answer))
+        prefixes.map(move |(bytes, answer)| (input_for(&mut random, &tape, bytes), answer))
     })
 }
 
 /// Tapes with records behind the samples in every order, with the answer that is due.
 fn orders() -> impl Iterator<Item = (TapeInput, Answer<()>)> {
     let mut random = Random::new(0x02DE2);
-    record_orders(5).map(move |(tape, answer)| (filled(&mut random, tape, [3, 2, 2]), answer))
+    record_orders(5)
+        .map(move |(tape, answer)| (with_random_buffers(&mut random, tape, [3, 2, 2]), answer))
 }
 
 /// A tape with each mutation alone and with each two of them, with the answer that is due.
@@ -175,7 +176,10 @@ fn mutations() -> impl Iterator<Item = (TapeInput, Answer<()>)> {
     let mut random = Random::new(0x2FA18);
     mutated_reads().into_iter().map(move |(input, answer)| {
         let lengths = [input.samples.len(), input.weights.len(), input.flow.len()];
-        (filled(&mut random, input.tape, lengths), answer)
+        (
+            with_random_buffers(&mut random, input.tape, lengths),
+            answer,
+        )
     })
 }
 
@@ -183,19 +187,19 @@ fn mutations() -> impl Iterator<Item = (TapeInput, Answer<()>)> {
 fn changes(step: usize) -> impl Iterator<Item = TapeInput> {
     let all = tapes(16).flat_map(|(mut random, tape)| {
         let changes = tape.clone().changes();
-        changes.map(move |bytes| lent(&mut random, &tape, bytes))
+        changes.map(move |bytes| input_for(&mut random, &tape, bytes))
     });
     all.step_by(step)
 }
 
 /// `bytes` with buffers of any contents that hold the job of `tape`, or somewhat more.
-fn lent(random: &mut Random, tape: &Tape, bytes: Vec<u8>) -> TapeInput {
-    let lengths = [tape.pixels, tape.pairs, tape.pairs].map(|due| due + random.below(3));
-    filled(random, bytes, lengths)
+fn input_for(random: &mut Random, tape: &Tape, bytes: Vec<u8>) -> TapeInput {
+    let lengths = [tape.pixels, tape.pairs, tape.pairs].map(|needed| needed + random.below(3));
+    with_random_buffers(random, bytes, lengths)
 }
 
 /// A tape with buffers of these lengths and any contents: samples, weights and flow.
-fn filled(random: &mut Random, tape: Vec<u8>, lengths: [usize; 3]) -> TapeInput {
+fn with_random_buffers(random: &mut Random, tape: Vec<u8>, lengths: [usize; 3]) -> TapeInput {
     let [samples, weights, flow] = lengths;
     TapeInput {
         tape,
@@ -209,9 +213,10 @@ fn damages(step: usize) -> impl Iterator<Item = TapeInput> {
     let mut random = Random::new(0xDA3A6E);
     (0..200_000).step_by(step).map(move |_| {
         let tape = Tape::random(&mut random, 40);
-        let lengths = [tape.pixels, tape.pairs, tape.pairs].map(|due| about(&mut random, due));
+        let lengths =
+            [tape.pixels, tape.pairs, tape.pairs].map(|needed| vary_length(&mut random, needed));
         let bytes = tape.damaged(&mut random);
-        filled(&mut random, bytes, lengths)
+        with_random_buffers(&mut random, bytes, lengths)
     })
 }
 
@@ -249,9 +254,11 @@ fn to_write(random: &mut Random, mut input: JobInput) -> JobInput {
     input
 }
 
-/// A length at, above or below that which is due.
-fn about(random: &mut Random, due: usize) -> usize {
-    let more = due + random.below(9);
-    let less = random.below(due + 1);
-    random.pick(&[due, due, due, due, due, due, due, more, more, less])
+/// A length at, above or below that which is needed.
+fn vary_length(random: &mut Random, needed: usize) -> usize {
+    let more = needed + random.below(9);
+    let less = random.below(needed + 1);
+    random.pick(&[
+        needed, needed, needed, needed, needed, needed, needed, more, more, less,
+    ])
 }

@@ -19,7 +19,7 @@ pub fn record_orders(most: usize) -> impl Iterator<Item = (Vec<u8>, Answer<()>)>
             orders(most).map(move |kinds| {
                 let records = kinds.iter().flat_map(|&kind| record(kind));
                 let tape = start.iter().copied().chain(records).collect();
-                (tape, due(&kinds, start.len(), whole))
+                (tape, expected_answer(&kinds, start.len(), whole))
             })
         })
 }
@@ -54,7 +54,7 @@ fn record(kind: u8) -> Vec<u8> {
 
 /// The answer to these kinds from `offset` on, where `whole` are those that may stand there: 14 at
 /// the first that goes on with none of them, 15 behind one of them.
-fn due(kinds: &[u8], mut offset: usize, whole: &[&[u8]]) -> Answer<()> {
+fn expected_answer(kinds: &[u8], mut offset: usize, whole: &[&[u8]]) -> Answer<()> {
     let refused = |number, offset| {
         Err(Refusal {
             number,

@@ -6,7 +6,7 @@ use relief_reference::rounds::{quick_rounds, steady_step, T_UNIT};
 use relief_reference::terms::WEIGHT_LIMIT;
 use relief_reference::{check, optimized, price, run, Outcome};
 
-use crate::support::{marked, Calls};
+use crate::support::{sentinels, Calls};
 
 /// Many sizes, one row and one column among them.
 fn cases(seed: u64) -> impl Iterator<Item = (Random, Case)> {
@@ -27,7 +27,7 @@ fn assert_check(case: &Case, flow: &[i32]) {
         weights,
         ..
     } = case;
-    let mut image = marked(samples.len());
+    let mut image = sentinels(samples.len());
     let mut expected_image = image.clone();
     let figures = optimized::check(terms, samples, weights, flow, &mut image);
     let expected = check(terms, samples, weights, flow, &mut expected_image);
@@ -82,9 +82,9 @@ fn assert_run(case: &Case, [more_flow, more_work]: [isize; 2]) -> Option<Outcome
         weights,
     } = case;
     let pairs = case.grid().pair_count();
-    let mut flow = marked(pairs.saturating_add_signed(more_flow));
-    let mut image = marked(samples.len());
-    let mut work = marked((2 * pairs).saturating_add_signed(more_work));
+    let mut flow = sentinels(pairs.saturating_add_signed(more_flow));
+    let mut image = sentinels(samples.len());
+    let mut work = sentinels((2 * pairs).saturating_add_signed(more_work));
     let [mut expected_flow, mut expected_image, mut expected_work] =
         [&flow, &image, &work].map(Clone::clone);
     let figures = optimized::run(
@@ -140,7 +140,7 @@ fn steady_round_equals_the_definition() {
     for (mut random, case) in cases(0x57EAD) {
         let problem = case.problem();
         let mut flow = case.flow(&mut random);
-        let mut image = marked(case.samples.len());
+        let mut image = sentinels(case.samples.len());
         for _ in 0..3 {
             let before = widened(&flow);
             let Case {
@@ -163,7 +163,7 @@ fn assert_quick_rounds(case: &Case, count: u32) {
     let pair_count = case.grid().pair_count();
     let mut flow = vec![0; pair_count];
     let mut extrapolated = vec![0; pair_count];
-    let mut image = marked(case.samples.len());
+    let mut image = sentinels(case.samples.len());
     let mut t = T_UNIT;
     let Case {
         terms,

@@ -10,7 +10,7 @@ use relief_inputs::{
 use relief_reference::tape::Capacity;
 use relief_reference::{check, price, run, write, Refusal, Rounds, Terms};
 
-use crate::support::{marked, read_back, read_back_within, refusal, Calls};
+use crate::support::{read_back, read_back_within, refusal, sentinels, Calls};
 
 /// Everything that the calls are lent.
 #[derive(Clone, Debug, PartialEq, Eq)]
@@ -39,7 +39,7 @@ impl JobInput {
     fn of(case: Case) -> JobInput {
         JobInput {
             image: vec![2_048; case.grid().pixel_count()],
-            work: marked(2 * case.grid().pair_count()),
+            work: sentinels(2 * case.grid().pair_count()),
             flow: SQUARE_FLOW.to_vec(),
             tape: case.tape(&SQUARE_FLOW),
             terms: case.terms,

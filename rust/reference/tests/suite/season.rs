@@ -15,14 +15,14 @@ use relief_reference::tape::Capacity;
 use crate::support::printed;
 
 /// A stream that gives at most so many bytes at a time.
-struct Pieces<'a> {
+struct Chunks<'a> {
     bytes: &'a [u8],
-    piece: usize,
+    size: usize,
 }
 
-impl Read for Pieces<'_> {
+impl Read for Chunks<'_> {
     fn read(&mut self, buffer: &mut [u8]) -> io::Result<usize> {
-        let length = self.piece.min(buffer.len());
+        let length = self.size.min(buffer.len());
         self.bytes.read(&mut buffer[..length])
     }
 }
@@ -30,11 +30,8 @@ impl Read for Pieces<'_> {
 /// The text of a season within `limits`, which is the same from a stream.
 fn reported_within(limits: &Limits, input: &[u8]) -> String {
     let text = report_within(limits, input);
-    for piece in [1, 7, usize::MAX] {
-        let stream = Pieces {
-            bytes: input,
-            piece,
-        };
+    for size in [1, 7, usize::MAX] {
+        let stream = Chunks { bytes: input, size };
         assert_eq!(optimized::report_within(limits, stream).unwrap(), text);
     }
     text

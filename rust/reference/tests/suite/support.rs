@@ -16,7 +16,7 @@ pub struct Answer {
     pub work: Vec<i32>,
 }
 
-/// The calls on a job, in marked buffers, and the problem that it is.
+/// The calls on a job, in buffers of sentinels, and the problem that it is.
 pub trait Calls {
     fn problem(&self) -> Problem;
     /// The ends of the box in sub-units.
@@ -41,7 +41,7 @@ impl Calls for Case {
     }
 
     fn check(&self, flow: &[i32]) -> Result<Answer, Refusal> {
-        let mut image = marked(self.grid().pixel_count());
+        let mut image = sentinels(self.grid().pixel_count());
         let Case {
             terms,
             samples,
@@ -59,9 +59,9 @@ impl Calls for Case {
 
     fn run(&self) -> Result<Answer, Refusal> {
         let grid = self.grid();
-        let mut flow = marked(grid.pair_count());
-        let mut image = marked(grid.pixel_count());
-        let mut work = marked(2 * grid.pair_count());
+        let mut flow = sentinels(grid.pair_count());
+        let mut image = sentinels(grid.pixel_count());
+        let mut work = sentinels(2 * grid.pair_count());
         let figures = run(
             &self.terms,
             &self.rounds,
@@ -89,13 +89,13 @@ pub struct ReadBack {
 }
 
 /// The byte in every place of a sample buffer before a read.
-pub const SAMPLE_MARK: u8 = 0xA5;
+pub const SAMPLE_SENTINEL: u8 = 0xA5;
 /// The number in every place of the other buffers before a call.
-pub const MARK: i32 = i32::MIN;
+pub const SENTINEL: i32 = i32::MIN;
 
-/// A buffer of `length` marks.
-pub fn marked(length: usize) -> Vec<i32> {
-    vec![MARK; length]
+/// A buffer of `length` sentinels.
+pub fn sentinels(length: usize) -> Vec<i32> {
+    vec![SENTINEL; length]
 }
 
 /// Reads `tape` into buffers for so many samples, and so many pairs in both others.
@@ -108,11 +108,11 @@ pub fn read_back(tape: &[u8], samples: usize, pairs: usize) -> ReadBack {
     read_back_within(tape, capacity)
 }
 
-/// Reads `tape` into marked buffers, and sees to it that only the fronts are filled.
+/// Reads `tape` into buffers of sentinels, and sees to it that only the fronts are filled.
 pub fn read_back_within(tape: &[u8], capacity: Capacity) -> ReadBack {
-    let mut samples = vec![SAMPLE_MARK; capacity.samples];
-    let mut weights = marked(capacity.weights);
-    let mut flow = marked(capacity.flow);
+    let mut samples = vec![SAMPLE_SENTINEL; capacity.samples];
+    let mut weights = sentinels(capacity.weights);
+    let mut flow = sentinels(capacity.flow);
     let answer = read(tape, &mut samples, &mut weights, &mut flow);
     let (pixels, weighted, flowing) = match &answer {
         Ok(job) => {
@@ -128,15 +128,15 @@ pub fn read_back_within(tape: &[u8], capacity: Capacity) -> ReadBack {
     };
     ReadBack {
         answer,
-        samples: front(samples, pixels, SAMPLE_MARK),
-        weights: front(weights, weighted, MARK),
-        flow: front(flow, flowing, MARK),
+        samples: front(samples, pixels, SAMPLE_SENTINEL),
+        weights: front(weights, weighted, SENTINEL),
+        flow: front(flow, flowing, SENTINEL),
     }
 }
 
-/// The first values of a buffer, behind which there are only marks.
-fn front<T: PartialEq>(mut buffer: Vec<T>, length: usize, mark: T) -> Vec<T> {
-    assert!(buffer[length..].iter().all(|value| *value == mark));
+/// The first values of a buffer, behind which there are only sentinels.
+fn front<T: PartialEq>(mut buffer: Vec<T>, length: usize, sentinel: T) -> Vec<T> {
+    assert!(buffer[length..].iter().all(|value| *value == sentinel));
     buffer.truncate(length);
     buffer
 }
