@@ -14,7 +14,7 @@ use Rattle.lists.specs.Lists.{at}
 use Rattle.model.proofs.Accepted.{check-accepted, check-feasible, run-accepted}
 use Rattle.model.proofs.Answers.{check-answer, run-answer}
 use Rattle.model.proofs.Range.{widest-fits}
-use Rattle.model.proofs.Bounds.{slack-by-pixels}
+use Rattle.figures.proofs.Bounds.{slack-by-pixels}
 use Rattle.certificate.proofs.Grid.{ending-flow}
 use Rattle.calls.specs.Slack.{mostSlack}
 use Rattle.figures.proofs.Jobs.{with-bytes}

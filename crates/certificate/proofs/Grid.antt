@@ -18,8 +18,8 @@ use Rattle.model.specs.Calls.{Outcome, checked, settled, spent, Answer, imageOf
 use Rattle.model.specs.Accepted.{CheckAllowed, RunAllowed}
 use Rattle.model.proofs.Sizes.{iterate-size}
 use Rattle.model.proofs.Range.{ends-ordered}
-use Rattle.model.proofs.Pairs.{neighbours, first-inside, second-inside}
-use Rattle.model.proofs.Degree.{degree-at-most-4}
+use Rattle.layout.proofs.Pairs.{pixels-inside}
+use Rattle.layout.proofs.Degree.{degree-at-most-4}
 use Rattle.model.proofs.Answers.{check-answer, check-image, runFigures, run-answer, run-flow, run-image, held-image}
 use Rattle.model.proofs.Accepted.{told, check-feasible, check-accepted, check-number, run-accepted, run-number}
 use Rattle.model.specs.Demand.{Figures, TwoFlows, CheckDemand, RunDemand}
@@ -34,8 +34,8 @@ pub grid-sound : (t : Terms) (samples : List ℕ) (weights : List ℤ) → t .lo
 grid-sound t samples weights box =
     record {
       box = ends-ordered box;
-      first-in = λ j l. first-inside (t .width) (t .height) _ (neighbours (t .width) (t .height) j _ l);
-      second-in = λ j l. second-inside (t .width) (t .height) _ (neighbours (t .width) (t .height) j _ l);
+      first-in = λ j l. pixels-inside (t .width) (t .height) j _ l .first-in;
+      second-in = λ j l. pixels-inside (t .width) (t .height) j _ l .second-in;
     }
 
 -- a buffer that holds a flow's image, and the figures of that flow

@@ -15,7 +15,7 @@ use Rattle.integers.proofs.Total.{total-cong, total-zeros, total-append, total-
 use Rattle.model.specs.declared.Terms.{Terms}
 use Rattle.model.specs.Problem.{Pair, pull}
 use Rattle.model.specs.Grid.{pixel, gridPairs, grid}
-use Rattle.model.proofs.Pairs.{grid-count, vertical-pair, horizontal-at, horizontal-pixel, column-inside}
+use Rattle.layout.proofs.Pairs.{grid-count, vertical-pair, horizontal-at, horizontal-pixel, column-inside}
 use Rattle.image.specs.Stencil.{rightPair, gathered}
 
 -- ---- sums in which one term counts, or none

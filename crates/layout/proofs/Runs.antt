@@ -13,7 +13,7 @@ use lib.ListN.{length, getD}
 use Rattle.lists.specs.Lists.{table, chain}
 use Rattle.lists.proofs.Tables.{table-append, table-cong, table-self}
 use Rattle.model.specs.Problem.{Pair}
-use Rattle.model.proofs.Pairs.{grid-count, vertical-pair, horizontal-pair}
+use Rattle.layout.proofs.Pairs.{grid-count, vertical-pair, horizontal-pair}
 use Rattle.layout.specs.declared.Shape.{Shape}
 use Rattle.layout.specs.declared.Run.{Run}
 use Rattle.layout.specs.Limits.{ShapeLimits}

@@ -22,7 +22,7 @@ use Rattle.model.specs.Tape.{tapeOf, writeRows}
 use Rattle.model.specs.Accepted.{TermsAllowed, WeightsAllowed, CheckAllowed, PriceAllowed, RunAllowed, WriteAllowed}
 use Rattle.lists.proofs.First.{firstWhere-first}
 use Rattle.model.proofs.Refusals.{accepted, passed, accepted-rows, Numbered, refused-number}
-use Rattle.model.proofs.Bounds.{SizeLimits, size-limits, both-true}
+use Rattle.model.proofs.Limits.{SizeLimits, size-limits, both-true}
 
 -- ---- the rows
 

@@ -24,7 +24,7 @@ use Rattle.model.specs.Calls.{pairsOf, imageOf}
 use Rattle.model.specs.Accepted.{TermsAllowed, WeightsAllowed}
 use Rattle.model.proofs.Answers.{held-image}
 use Rattle.model.proofs.Weights.{weight-is}
-use Rattle.model.proofs.Pairs.{neighbours, first-inside, second-inside}
+use Rattle.layout.proofs.Pairs.{pixels-inside}
 use Rattle.layout.specs.Runs.{shapeOf}
 use Rattle.layout.specs.Limits.{ShapeLimits}
 use Rattle.stencil.specs.Limits.{most}
@@ -68,8 +68,8 @@ module _ (t : Terms) (samples : List ℕ) (weights flow : List ℤ) {values : Li
       firstValue (shapeOf t) values j -ℤ secondValue (shapeOf t) values j ≡ fall (grid t samples weights) (image (grid t samples weights) (at flow)) j
   unfolding fall
   fall-is j l =
-      let n = neighbours (t .width) (t .height) j _ l in
-      ap₂ (λ (a b : ℤ). a -ℤ b) (value-at (firstOf (grid t samples weights) j) (first-inside (t .width) (t .height) _ n)) (value-at (secondOf (grid t samples weights) j) (second-inside (t .width) (t .height) _ n))
+      let n = pixels-inside (t .width) (t .height) j _ l in
+      ap₂ (λ (a b : ℤ). a -ℤ b) (value-at (firstOf (grid t samples weights) j) (n .first-in)) (value-at (secondOf (grid t samples weights) j) (n .second-in))
 
   module _ (share : ℤ → ℤ) (own : WeightsAllowed t weights) where
     -- a pair's number after a step

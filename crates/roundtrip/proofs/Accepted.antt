@@ -25,7 +25,7 @@ use Rattle.model.specs.Verdict.{firstRefusal}
 use Rattle.model.specs.Calls.{pixelsOf, pairsOf}
 use Rattle.model.specs.Tape.{known, decoded, encoded, Progress, nothing, allowedAfter, allowed, absorbed, entryRows, Parse, whole, parseFrom, tapeOf}
 use Rattle.model.proofs.Refusals.{accepted-row}
-use Rattle.model.proofs.Bounds.{both-true}
+use Rattle.model.proofs.Limits.{both-true}
 use Rattle.model.proofs.Accepted.{all-or-none, neither, weight-passes}
 use Rattle.model.specs.declared.Lent.{Lent}
 use Rattle.steps.specs.declared.Step.{Step}

@@ -15,7 +15,7 @@ use Rattle.model.specs.Grid.{weightOf, lowEnd, highEnd, gridPairs, grid}
 use Rattle.model.specs.Rounds.{stepped, step}
 use Rattle.model.specs.Calls.{pairsOf, imageOf}
 use Rattle.lists.proofs.Tables.{length-table}
-use Rattle.model.proofs.Pairs.{grid-count}
+use Rattle.layout.proofs.Pairs.{grid-count}
 use Rattle.model.proofs.Range.{widest-fits, low-size, high-size}
 use Rattle.model.proofs.Weights.{weight-most}
 use Rattle.layout.specs.Runs.{shapeOf}

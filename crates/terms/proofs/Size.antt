@@ -6,8 +6,8 @@ use native.Mathlib.Nat.{mul-le-mul-left}
 use native.Mathlib.Omega.{arith}
 use lib.ListN.{length}
 use Rattle.model.specs.Grid.{sizeAllowed, gridPairs}
-use Rattle.model.proofs.Pairs.{grid-count}
-use Rattle.model.proofs.Bounds.{size-limits}
+use Rattle.layout.proofs.Pairs.{grid-count}
+use Rattle.model.proofs.Limits.{size-limits}
 
 pub record Allowed (w h : ℕ) : Type 0 where
   pub broad : 1 ≤ w

@@ -7,8 +7,8 @@ use lib.IntN.{pos}
 use Rattle.lists.specs.Lists.{at}
 use Rattle.model.specs.Problem.{misfit}
 use Rattle.model.specs.Grid.{grid}
-use Rattle.model.proofs.Bounds as Bounds
-use Rattle.model.proofs.Bounds.{largest-fits}
+use Rattle.figures.proofs.Bounds as Bounds
+use Rattle.figures.proofs.Bounds.{largest-fits}
 use Rattle.figures.proofs.Jobs.{with-bytes, own-weights, raster-limits, misfit-limits}
 use Rattle.figures.proofs.Objectives.{variation, misfit-at, variation-at, price-is, price-fits}
 use Rattle.figures.proofs.image_price.Statement.{statement}

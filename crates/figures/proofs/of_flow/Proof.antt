@@ -11,8 +11,8 @@ use Rattle.integers.proofs.Machine.{read}
 use Rattle.lists.specs.Lists.{at}
 use Rattle.model.specs.Problem.{Problem, pairCount, fall, misfit, price, image, floor, slack}
 use Rattle.model.specs.Grid.{grid}
-use Rattle.model.proofs.Bounds as Bounds
-use Rattle.model.proofs.Bounds.{largest, largest-fits, image-inside, floor-bound}
+use Rattle.figures.proofs.Bounds as Bounds
+use Rattle.figures.proofs.Bounds.{largest, largest-fits, image-inside, floor-bound}
 use Rattle.certificate.proofs.Distance.{floor-below}
 use Rattle.certificate.proofs.Grid.{grid-sound}
 use Rattle.layout.specs.Runs.{shapeOf}

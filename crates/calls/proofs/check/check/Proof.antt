@@ -11,7 +11,7 @@ use Rattle.model.specs.Calls.{checked, checkVerdict, imageOf}
 use Rattle.model.specs.Accepted.{CheckAllowed}
 use Rattle.model.proofs.Answers.{check-answer, check-image}
 use Rattle.model.proofs.Accepted.{told, check-feasible, check-accepted, check-number}
-use Rattle.model.proofs.Pairs.{grid-count}
+use Rattle.layout.proofs.Pairs.{grid-count}
 use Rattle.certificate.proofs.Grid.{check-demand}
 use Rattle.image.proofs.Model.{image-is}
 use Rattle.figures.proofs.Jobs.{flow-most}

@@ -1,7 +1,7 @@
 -- `terms::counts::pairs` meets its contract. Assumes nothing.
 use mathlib.Core.Path.{sym}
 use native.Mathlib.Omega.{arith}
-use Rattle.model.proofs.Pairs.{grid-count}
+use Rattle.layout.proofs.Pairs.{grid-count}
 use Rattle.terms.proofs.Size.{allowed-size}
 use Rattle.terms.proofs.counts.pairs.Statement.{statement}
 use Rattle.terms.proofs.counts.pairs.Tie as tie

@@ -8,7 +8,7 @@ use borrow.Author.Needs.{needs}
 use borrow.Author.Tests.{leb-true, not-true, not-false}
 use lib.Dec.{leb}
 use Rattle.model.specs.Grid.{sizeAllowed}
-use Rattle.model.proofs.Bounds.{both-true}
+use Rattle.model.proofs.Limits.{both-true}
 use Rattle.terms.proofs.limits.size_allowed.Statement.{statement}
 use Rattle.terms.proofs.limits.size_allowed.Tie as tie
 

@@ -1,5 +1,5 @@
--- The pairs of the grid: how many there are, which two pixels pair j has, and that they are neighbours inside the
--- raster. Assumes nothing.
+-- The pairs of the grid: how many there are, which two pixels pair j has, and that they lie inside the raster.
+-- Assumes nothing.
 use mathlib.Core.Path.{_≡_, sym, ap, ap₂, _∙_, subst}
 use mathlib.Core.List.{_++_}
 use mathlib.Core.Logic.{_⊎_, inl, inr, ⊎-elim}
@@ -88,17 +88,6 @@ module _ (w h : ℕ) (d : Pair) where
         ∙ horizontal-pair w h d (k / (w - 1)) (k % (w - 1)) row-inside column-inside
         ∙ ap (λ (n : ℕ). record { first = n; second = n + 1 }) horizontal-pixel
 
--- A pair of neighbours inside the raster: a pixel at some row and column, and the one below it or to its right
-pub record Neighbours (w h : ℕ) (p : Pair) : Type 0 where
-  pub row : ℕ
-  pub column : ℕ
-  pub row-in : row < h
-  pub column-in : column < w
-  pub first-is : p .first ≡ pixel w row column
-  pub second-is :
-      ((row + 1 < h) × (p .second ≡ pixel w (row + 1) column))
-      ⊎ ((column + 1 < w) × (p .second ≡ pixel w row (column + 1)))
-
 -- pair j of the grid is vertical or horizontal
 pub vertical-or-horizontal : (w h j : ℕ) → j < length (gridPairs w h) →
     (j < w * (h - 1)) ⊎ ((k : ℕ) × (k < h * (w - 1)) × (j ≡ w * (h - 1) + k))
@@ -110,64 +99,34 @@ vertical-or-horizontal w h j l = split (decLt j (w * (h - 1)))
         let c : w * (h - 1) ≤ j = omega (arith, g) in
         inr (j - w * (h - 1), omega (arith, grid-count w h), omega arith)
 
--- Every pair of the grid is of two neighbours inside the raster
-pub neighbours : (w h j : ℕ) (d : Pair) → j < length (gridPairs w h) → Neighbours w h (getD (gridPairs w h) j d)
-neighbours w h j d l = ⊎-elim vertical horizontal (vertical-or-horizontal w h j l)
-  where
-    vertical : j < w * (h - 1) → Neighbours w h (getD (gridPairs w h) j d)
-    vertical v = subst (Neighbours w h) (sym (vertical-pair w h d j v))
-        (record {
-          row = j / w;
-          column = j % w;
-          row-in = omega (arith, above);
-          column-in = mod-lt j broad-enough;
-          first-is = sym (div-add-mod' j w);
-          second-is = inl (omega (arith, above), omega (arith, div-add-mod' j w));
-        })
-      where
-        broad-enough : zero < w
-        broad-enough = ⊎-elim (λ (e : w ≡ 0). absurd (none e)) (λ p. p) (eq-zero-or-pos w)
-          where
-            none : w ≡ 0 → ⊥
-            none e = let z : j < 0 * (h - 1) = subst (λ (n : ℕ). j < n * (h - 1)) e v in omega arith
-
-        above : j / w < h - 1
-        above = div-lt-iff-lt-mul broad-enough .1 (omega arith)
-
-    horizontal : (k : ℕ) × (k < h * (w - 1)) × (j ≡ w * (h - 1) + k) → Neighbours w h (getD (gridPairs w h) j d)
-    horizontal (k, b, e) =
-        subst (λ (n : ℕ). Neighbours w h (getD (gridPairs w h) n d)) (sym e)
-        (subst (Neighbours w h) (sym (horizontal-at w h d k b))
-        (record {
-          row = k / (w - 1);
-          column = k % (w - 1);
-          row-in = row-inside w h d k b;
-          column-in = omega (arith, column-inside w h d k b);
-          first-is = sym (horizontal-pixel w h d k b);
-          second-is =
-              inr (omega (arith, column-inside w h d k b), omega (arith, horizontal-pixel w h d k b));
-        }))
-
--- so both pixels are in the raster, and they differ
-pixel-inside : (w h row column : ℕ) → row < h → column < w → pixel w row column < w * h
+-- The pixel at a row and a column lies in the raster
+pub pixel-inside : (w h row column : ℕ) → row < h → column < w → pixel w row column < w * h
 pixel-inside w h row column r c =
     let q : suc row * w ≤ h * w = mul-le-mul-right w r in
     omega arith
 
-module _ (w h : ℕ) (p : Pair) (n : Neighbours w h p) where
-  pub first-inside : p .first < w * h
-  first-inside = subst (λ (i : ℕ). i < w * h) (sym (n .first-is)) (pixel-inside w h (n .row) (n .column) (n .row-in) (n .column-in))
+-- Both pixels of every pair lie in the raster
+pub record Inside (w h : ℕ) (p : Pair) : Type 0 where
+  pub first-in : p .first < w * h
+  pub second-in : p .second < w * h
 
-  pub second-inside : p .second < w * h
-  second-inside = ⊎-elim
-      (λ (b : (n .row + 1 < h) × (p .second ≡ pixel w (n .row + 1) (n .column))).
-      subst (λ (i : ℕ). i < w * h) (sym (b .1)) (pixel-inside w h (n .row + 1) (n .column) (b .0) (n .column-in)))
-      (λ (b : (n .column + 1 < w) × (p .second ≡ pixel w (n .row) (n .column + 1))).
-      subst (λ (i : ℕ). i < w * h) (sym (b .1)) (pixel-inside w h (n .row) (n .column + 1) (n .row-in) (b .0)))
-      (n .second-is)
+pub pixels-inside : (w h j : ℕ) (d : Pair) → j < length (gridPairs w h) → Inside w h (getD (gridPairs w h) j d)
+pixels-inside w h j d l = ⊎-elim down across (vertical-or-horizontal w h j l)
+  where
+    down : j < w * (h - 1) → Inside w h (getD (gridPairs w h) j d)
+    down v =
+        let e : w * (h - 1) + w ≡ w * h = below h v in
+        subst (Inside w h) (sym (vertical-pair w h d j v)) (record { first-in = omega arith; second-in = omega arith })
+      where
+        below : (h : ℕ) → j < w * (h - 1) → w * (h - 1) + w ≡ w * h
+        below zero b = absurd (omega arith)
+        below (suc h) b = let e : suc h - 1 ≡ h = omega arith in ap (λ (n : ℕ). w * n + w) e ∙ omega arith
 
-  pub pixels-differ : p .first < p .second
-  pixels-differ = ⊎-elim
-      (λ (b : (n .row + 1 < h) × (p .second ≡ pixel w (n .row + 1) (n .column))). omega (arith, n .first-is, n .column-in))
-      (λ (b : (n .column + 1 < w) × (p .second ≡ pixel w (n .row) (n .column + 1))). omega (arith, n .first-is))
-      (n .second-is)
+    across : (k : ℕ) × (k < h * (w - 1)) × (j ≡ w * (h - 1) + k) → Inside w h (getD (gridPairs w h) j d)
+    across (k, b, e) =
+        let c = column-inside w h d k b in
+        let first = pixel-inside w h (k / (w - 1)) (k % (w - 1)) (row-inside w h d k b) (omega arith) in
+        let second = pixel-inside w h (k / (w - 1)) (k % (w - 1) + 1) (row-inside w h d k b) (omega arith) in
+        subst (λ (n : ℕ). Inside w h (getD (gridPairs w h) n d)) (sym e)
+        (subst (Inside w h) (sym (horizontal-at w h d k b))
+        (record { first-in = omega (arith, horizontal-pixel w h d k b); second-in = omega (arith, horizontal-pixel w h d k b) }))

@@ -1,14 +1,11 @@
 -- Sizes within limits never overflow 64 bits: on an allowed job every price of an image of the box, and every floor of a
 -- flow within the weights, is at most `perPixel` for each pixel in size, so at most `largest`, and three times that is
 -- below 2⁶³. Assumes nothing.
-use mathlib.Core.Path.{_≡_, refl, sym, subst}
-use mathlib.Core.Bool.{Bool, true, false, _&&_, true≢false}
+use mathlib.Core.Path.{_≡_, sym, subst}
 use mathlib.Core.List.{List}
 use Prim.Native.Nat.{ℕ, _*_, _^_, _≤_, _<_}
 use native.Mathlib.Nat.{mul-le-mul, mul-le-mul-right, le-trans}
 use native.Mathlib.Omega.{arith}
-use borrow.Author.Tests.{leb-true}
-use lib.Dec.{leb}
 use lib.IntN.{ℤ, pos, natAbs, _+ℤ_, _-ℤ_, _*ℤ_}
 use lib.ListN.{length, getD}
 use lib.Signed.{_≤ℤ_}
@@ -18,41 +15,13 @@ use Rattle.integers.proofs.Order.{≤ℤ-trans}
 use Rattle.integers.proofs.Absolute.{natAbs-product, natAbs-sum, natAbs-difference, natAbs-square, natAbs-within, natAbs→upper}
 use Rattle.integers.proofs.Clamp.{clamp-≥, clamp-≤}
 use Rattle.integers.proofs.Total.{natAbs-total}
 use Rattle.model.specs.Problem.{pairCount, firstOf, secondOf, fall, misfit, price, Feasible, pull, image, floor, slack, InBox}
-use Rattle.model.specs.Grid.{Terms, weightOf, sizeAllowed, readingOf, lowEnd, highEnd, gridPairs, grid}
+use Rattle.model.specs.declared.Terms.{Terms}
+use Rattle.model.specs.Grid.{weightOf, readingOf, lowEnd, highEnd, gridPairs, grid}
 use Rattle.model.specs.Accepted.{TermsAllowed, WeightsAllowed}
 use Rattle.model.proofs.Range.{widest, widest-fits, weight-reach, reading-least, reading-size, low-least, high-size, ends-ordered}
 use Rattle.model.proofs.Weights.{weight-most}
-use Rattle.model.proofs.Pairs.{pair-count, neighbours, first-inside, second-inside}
-
--- ---- what the tests of the terms say
-
--- both hold where their conjunction does
-pub both-true : (a b : Bool) → (a && b) ≡ true → (a ≡ true) × (b ≡ true)
-both-true true b h = (refl, h)
-both-true false b h = absurd (true≢false (sym h))
-
-pub record SizeLimits (w h : ℕ) : Type 0 where
-  pub width-least : 1 ≤ w
-  pub width-most : w ≤ 4096
-  pub height-least : 1 ≤ h
-  pub height-most : h ≤ 4096
-  pub pixels-most : w * h ≤ 1048576
-
-pub size-limits : (w h : ℕ) → sizeAllowed w h ≡ true → SizeLimits w h
-unfolding sizeAllowed
-size-limits w h e =
-    let width = leb 1 w && leb w 4096 in
-    let height = leb 1 h && leb h 4096 in
-    let (sides, area) = both-true (width && height) (leb (w * h) 1048576) e in
-    let (broad, tall) = both-true width height sides in
-    record {
-      width-least = leb-true 1 w (both-true (leb 1 w) (leb w 4096) broad .0);
-      width-most = leb-true w 4096 (both-true (leb 1 w) (leb w 4096) broad .1);
-      height-least = leb-true 1 h (both-true (leb 1 h) (leb h 4096) tall .0);
-      height-most = leb-true h 4096 (both-true (leb 1 h) (leb h 4096) tall .1);
-      pixels-most = leb-true (w * h) 1048576 area;
-    }
+use Rattle.layout.proofs.Pairs.{pair-count, pixels-inside}
 
 -- ---- the bound
 
@@ -113,9 +82,9 @@ module _ (t : Terms) (samples : List ℕ) (weights : List ℤ) (ok : Allowed t s
     pub fall-bound : (j : ℕ) → j < pairCount (grid t samples weights) → natAbs (fall (grid t samples weights) x j) ≤ widest
     unfolding fall
     fall-bound j l =
-        let n = neighbours (t .width) (t .height) j (record { first = 0; second = 0 }) l in
-        let a : firstOf (grid t samples weights) j < t .width * t .height = first-inside (t .width) (t .height) _ n in
-        let b : secondOf (grid t samples weights) j < t .width * t .height = second-inside (t .width) (t .height) _ n in
+        let n = pixels-inside (t .width) (t .height) j (record { first = 0; second = 0 }) l in
+        let a : firstOf (grid t samples weights) j < t .width * t .height = n .first-in in
+        let b : secondOf (grid t samples weights) j < t .width * t .height = n .second-in in
         natAbs-within (value-least x inside _ a) (value-most x inside _ a) (value-least x inside _ b) (value-most x inside _ b)
 
     -- the data term plus twice a sum over pairs of terms that a weight times a fall bounds
