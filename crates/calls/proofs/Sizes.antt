@@ -14,10 +14,10 @@ use Rattle.lists.specs.Lists.{at}
 use Rattle.model.proofs.Accepted.{check-accepted, check-feasible, run-accepted}
 use Rattle.model.proofs.Answers.{check-answer, run-answer}
 use Rattle.model.proofs.Range.{widest-fits}
-use Rattle.figures.proofs.Bounds.{slack-by-pixels}
+use Rattle.calls.proofs.Bounds.{slack-by-pixels}
 use Rattle.certificate.proofs.Grid.{ending-flow}
 use Rattle.calls.specs.Slack.{mostSlack}
-use Rattle.figures.proofs.Jobs.{with-bytes}
+use Rattle.calls.proofs.Jobs.{with-bytes}
 
 -- so the slacks of 65,535 jobs of 4,096 pixels add up to less than 2 ^ 64
 pub most-slack-fits : mostSlack ≤ 10 * 2 ^ 32

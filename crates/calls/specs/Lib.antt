@@ -1,2 +1,5 @@
--- What the calls' contracts cite beside the model's definitions: how large a slack can be.
+-- What the calls' contracts cite beside the model's definitions.
+--     Ready   what the figures ask
+--     Slack   how large a slack can be
+pub mod Ready
 pub mod Slack

@@ -1,5 +1,6 @@
 // Check judges a flow and fills its image.
 
+use crate::figures;
 use image::whole::fill_image;
 use model::Answer;
 use model::Terms;

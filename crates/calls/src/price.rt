@@ -1,5 +1,6 @@
 // Price judges an image.
 
+use crate::figures;
 use model::Answer;
 use model::Terms;
 use model::Verdict;

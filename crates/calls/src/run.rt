@@ -1,19 +1,43 @@
 // Run does a job's rounds and fills its flow and image.
 
+use crate::figures;
+use crate::figures::Figures;
 use model::Answer;
 use model::Rounds;
 use model::Terms;
 use model::Verdict;
-use solver::buffers;
-use solver::quick::quick_rounds;
-use solver::steady::steady_rounds;
+use solver::solve::solve;
 use stencil::pixel;
 ghost use mathlib.Core.Path.{_≡_};
+ghost use mathlib.Core.Bool.{cond};
 ghost use mathlib.Core.Logic.{_↔_};
-ghost use Rattle.model.specs.Calls.{runAnswer, runFlow, runImage, runWork};
+ghost use lib.IntN.{pos};
+ghost use Rattle.model.specs.Calls as Calls;
+ghost use Rattle.model.specs.Calls.{figures, runAnswer, runFlow, runImage, runWork};
 ghost use Rattle.model.specs.Accepted.{RunAllowed};
 ghost use Rattle.model.specs.Demand.{RunDemand};
 ghost use Rattle.model.specs.Answers.{answerOf};
+
+// The answer of a run, from how its rounds ended and the figures of the flow that they ended with.
+fn answer_of(settled: bool, moved: u32, f: Figures) -> Answer
+    ensures { λ a. ⌜ answerOf a ≡ figures (cond settled Calls.settled Calls.spent) moved (pos (f .price)) (f .floor) (pos (f .slack)) ⌝ }
+{
+    if settled {
+        Answer::Settled {
+            moved,
+            price: f.price,
+            floor: f.floor,
+            slack: f.slack,
+        }
+    } else {
+        Answer::Spent {
+            moved,
+            price: f.price,
+            floor: f.floor,
+            slack: f.slack,
+        }
+    }
+}
 
 pub fn run(
     t: Terms,
@@ -46,24 +70,18 @@ pub fn run(
     let lower = pixel::low_end(t.low);
     let upper = pixel::high_end(t.high);
     let quick = r.quick;
-    quick_rounds(t, lower, upper, quick, samples, weights, flow, image, work);
-    buffers::clear(work);
-    let end = steady_rounds(t, lower, upper, r.allowance, samples, weights, flow, image);
+    let end = solve(
+        t,
+        lower,
+        upper,
+        quick,
+        r.allowance,
+        samples,
+        weights,
+        flow,
+        image,
+        work,
+    );
     let f = figures::of_flow(t, samples, weights, flow, image);
-    let moved = end.moved;
-    if end.settled {
-        Answer::Settled {
-            moved,
-            price: f.price,
-            floor: f.floor,
-            slack: f.slack,
-        }
-    } else {
-        Answer::Spent {
-            moved,
-            price: f.price,
-            floor: f.floor,
-            slack: f.slack,
-        }
-    }
+    answer_of(end.settled, end.moved, f)
 }

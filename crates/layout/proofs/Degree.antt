@@ -1,5 +1,5 @@
 -- A pixel of the grid lies in at most 4 pairs. Assumes nothing.
-use mathlib.Core.Path.{_≡_, sym, ap, _∙_, subst₂}
+use mathlib.Core.Path.{sym, ap, _∙_, subst₂}
 use mathlib.Core.Bool.{Bool}
 use mathlib.Core.List.{List}
 use Prim.Native.Nat.{ℕ, zero, _+_, _-_, _*_, _/_, _≤_, _<_}

@@ -1,9 +1,9 @@
 -- The runs of a raster's pairs: each lies inside the raster, the next begins where it ends, and one after the other they are
 -- the pairs. Assumes nothing.
-use mathlib.Core.Path.{_≡_, refl, sym, ap, ap₂, _∙_, subst}
+use mathlib.Core.Path.{_≡_, refl, sym, ap, ap₂, _∙_}
 use mathlib.Core.Bool.{cond}
 use mathlib.Core.List.{List, [], _++_}
-use Prim.Native.Nat.{ℕ, zero, suc, _+_, _-_, _*_, _/_, _≤_, _<_, min}
+use Prim.Native.Nat.{ℕ, zero, suc, _+_, _-_, _*_, _≤_, _<_}
 use native.Mathlib.Nat.{mul-le-mul-left, mul-le-mul-right, le-of-eq}
 use native.Mathlib.Decide.{decLt}
 use native.Mathlib.Omega.{arith}
@@ -17,7 +17,7 @@ use Rattle.layout.proofs.Pairs.{grid-count, vertical-pair, horizontal-p
 use Rattle.layout.specs.declared.Shape.{Shape}
 use Rattle.layout.specs.declared.Run.{Run}
 use Rattle.layout.specs.Limits.{ShapeLimits}
-use Rattle.layout.specs.Runs.{pixelCount, pairList, firstPixel, secondPixel, vertical, columnRuns, columnRun, rowRun, runCount, runAt}
+use Rattle.layout.specs.Runs.{pixelCount, pairList, vertical, columnRuns, columnRun, rowRun, runCount, runAt}
 
 -- a pair that stands for none
 abbrev none : Pair

@@ -19,7 +19,7 @@ use Rattle.lists.proofs.Fill.{filled, filled-none, filled-rest, filled-back}
 use Rattle.model.specs.Problem.{Pair}
 use Rattle.layout.specs.declared.Shape.{Shape}
 use Rattle.layout.specs.declared.Run.{Run}
-use Rattle.layout.specs.Runs.{pixelCount, pairList, runCount, runAt}
+use Rattle.layout.specs.Runs.{pairList, runCount, runAt}
 use Rattle.layout.specs.Limits.{ShapeLimits}
 use Rattle.layout.proofs.Runs.{RunOf, run-is, start, run-first, run-next, run-last, pairs-most}
 use Rattle.passes.specs.Limits.{Within, WeightLimits, ValueLimits, RunLimits, RasterLimits, FlowLimits}

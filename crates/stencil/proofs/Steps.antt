@@ -1,5 +1,5 @@
 -- A stepped number's size. Assumes nothing.
-use mathlib.Core.Path.{_≡_, sym, ap, _∙_, subst}
+use mathlib.Core.Path.{sym, ap, _∙_, subst}
 use Prim.Native.Nat.{_≤_}
 use native.Mathlib.Nat.{le-of-eq}
 use lib.IntN.{ℤ, natAbs, negℤ, _+ℤ_, _-ℤ_}

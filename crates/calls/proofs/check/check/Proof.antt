@@ -14,8 +14,8 @@ use Rattle.model.proofs.Accepted.{told, check-feasible, check-accepted, check-n
 use Rattle.layout.proofs.Pairs.{grid-count}
 use Rattle.certificate.proofs.Grid.{check-demand}
 use Rattle.image.proofs.Model.{image-is}
-use Rattle.figures.proofs.Jobs.{flow-most}
-use Rattle.figures.proofs.Objectives.{figured}
+use Rattle.calls.proofs.Jobs.{flow-most}
+use Rattle.calls.proofs.Objectives.{figured}
 use Rattle.calls.proofs.check.check.Statement.{statement}
 use Rattle.calls.proofs.check.check.Tie as tie
 

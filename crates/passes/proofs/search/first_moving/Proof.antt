@@ -1,7 +1,7 @@
 -- `passes::search::first_moving` meets its contract: run after run, to the first that has a moving pair. Assumes nothing.
-use mathlib.Core.Path.{_≡_, sym, ap, _∙_, subst}
+use mathlib.Core.Path.{_≡_, sym, _∙_, subst}
 use mathlib.Core.Bool.{Bool}
-use Prim.Native.Nat.{ℕ, _+_, _-_, _≤_, _<_}
+use Prim.Native.Nat.{ℕ, _+_, _-_, _≤_}
 use native.Mathlib.Omega.{arith}
 use borrow.Author.Needs.{needs}
 use lib.ListN.{length}
@@ -12,7 +12,6 @@ use Rattle.lists.specs.Lists.{at}
 use Rattle.lists.proofs.Search.{Passed, passed-none}
 use Rattle.model.specs.Rounds.{nearestEighth}
 use Rattle.layout.specs.declared.Run.{Run}
-use Rattle.layout.specs.Runs.{runCount}
 use Rattle.layout.proofs.Runs.{RunOf, start, run-first}
 use Rattle.stencil.specs.Pair.{moves}
 use Rattle.passes.specs.declared.search.Moving.the-variants.{At}

@@ -1,7 +1,7 @@
--- `figures::objective` meets its contract. Assumes nothing.
+-- `calls::figures::objective` meets its contract. Assumes nothing.
 use borrow.Author.Needs.{needs}
-use Rattle.figures.proofs.objective.Statement.{statement}
-use Rattle.figures.proofs.objective.Tie as tie
+use Rattle.calls.proofs.figures.objective.Statement.{statement}
+use Rattle.calls.proofs.figures.objective.Tie as tie
 
 mul-result : tie.Need-mul-result
 mul-result c = search needs

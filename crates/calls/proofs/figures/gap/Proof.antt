@@ -1,4 +1,4 @@
--- `figures::gap` meets its contract. Assumes nothing.
+-- `calls::figures::gap` meets its contract. Assumes nothing.
 use mathlib.Core.Path.{_≡_, ap₂, _∙_}
 use native.Mathlib.Omega.{arith}
 use borrow.Author.Needs.{needs}
@@ -9,8 +9,8 @@ use mir.Val.{toZ, ofZ}
 use mir.ValLaws.{toZ-ofZ}
 use Rattle.integers.proofs.Parts.{parts, whole, by-≤, of-≤}
 use Rattle.integers.proofs.Machine.{read}
-use Rattle.figures.proofs.gap.Statement.{statement}
-use Rattle.figures.proofs.gap.Tie as tie
+use Rattle.calls.proofs.figures.gap.Statement.{statement}
+use Rattle.calls.proofs.figures.gap.Tie as tie
 
 natural-wide-requires : tie.Need-natural-wide-requires
 natural-wide-requires c κs = search needs

@@ -23,10 +23,10 @@ use Rattle.lists.proofs.Tables.{getD-inside}
 use Rattle.model.proofs.Weights.{weight-is}
 use Rattle.layout.specs.Runs.{shapeOf}
 use Rattle.passes.specs.Pairs.{weightAt, variationAt, firstValue, secondValue}
-use Rattle.figures.specs.Ready.{scaleOf}
+use Rattle.calls.specs.Ready.{scaleOf}
 use Rattle.model.specs.Calls.{Outcome, figures, figuresOf, pixelsOf, pairsOf}
-use Rattle.figures.proofs.Bounds as Bounds
-use Rattle.figures.proofs.Bounds.{largest, price-bound, floor-bound}
+use Rattle.calls.proofs.Bounds as Bounds
+use Rattle.calls.proofs.Bounds.{largest, price-bound, floor-bound}
 
 -- a sum over as many terms
 pub sized : (g : ℕ → ℤ) {x : ℤ} {n m : ℕ} → x ≡ total n g → n ≡ m → x ≡ total m g

@@ -1,4 +1,4 @@
--- `figures::of_flow` meets its contract. Assumes nothing.
+-- `calls::figures::of_flow` meets its contract. Assumes nothing.
 use mathlib.Core.Path.{_≡_, ap, ap₂, _∙_}
 use Prim.Native.Nat.{ℕ, _+_, _*_, _≤_}
 use native.Mathlib.Omega.{arith}
@@ -11,19 +11,19 @@ use Rattle.integers.proofs.Machine.{read}
 use Rattle.lists.specs.Lists.{at}
 use Rattle.model.specs.Problem.{Problem, pairCount, fall, misfit, price, image, floor, slack}
 use Rattle.model.specs.Grid.{grid}
-use Rattle.figures.proofs.Bounds as Bounds
-use Rattle.figures.proofs.Bounds.{largest, largest-fits, image-inside, floor-bound}
+use Rattle.calls.proofs.Bounds as Bounds
+use Rattle.calls.proofs.Bounds.{largest, largest-fits, image-inside, floor-bound}
 use Rattle.certificate.proofs.Distance.{floor-below}
 use Rattle.certificate.proofs.Grid.{grid-sound}
 use Rattle.layout.specs.Runs.{shapeOf}
 use Rattle.passes.specs.Limits.{FlowLimits}
 use Rattle.passes.specs.Pairs.{weightAt}
 use Rattle.passes.proofs.Model.{misfit-is, variation-is, product-is}
-use Rattle.figures.specs.Ready.{scaleOf}
-use Rattle.figures.proofs.Jobs.{with-bytes, own-weights, misfit-limits, flow-limits, image-inside-box}
-use Rattle.figures.proofs.Objectives.{variation, sized, price-is, price-fits, floor-is, floor-fits}
-use Rattle.figures.proofs.of_flow.Statement.{statement}
-use Rattle.figures.proofs.of_flow.Tie as tie
+use Rattle.calls.specs.Ready.{scaleOf}
+use Rattle.calls.proofs.Jobs.{with-bytes, own-weights, misfit-limits, flow-limits, image-inside-box}
+use Rattle.calls.proofs.Objectives.{variation, sized, price-is, price-fits, floor-is, floor-fits}
+use Rattle.calls.proofs.figures.of_flow.Statement.{statement}
+use Rattle.calls.proofs.figures.of_flow.Tie as tie
 
 -- ---- the shape is at hand
 

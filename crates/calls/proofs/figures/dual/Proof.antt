@@ -1,4 +1,4 @@
--- `figures::dual` meets its contract. Assumes nothing.
+-- `calls::figures::dual` meets its contract. Assumes nothing.
 use mathlib.Core.Path.{_≡_, ap, ap₂, _∙_}
 use native.Mathlib.Omega.{arith}
 use borrow.Author.Needs.{needs}
@@ -8,8 +8,8 @@ use mir.Val.{toZ, ofZ}
 use mir.ValLaws.{toZ-ofZ}
 use Rattle.integers.proofs.Absolute.{natAbs-product}
 use Rattle.integers.proofs.Machine.{read}
-use Rattle.figures.proofs.dual.Statement.{statement}
-use Rattle.figures.proofs.dual.Tie as tie
+use Rattle.calls.proofs.figures.dual.Statement.{statement}
+use Rattle.calls.proofs.figures.dual.Tie as tie
 
 natural-wide-requires : tie.Need-natural-wide-requires
 natural-wide-requires c κs = search needs

@@ -12,7 +12,7 @@ ghost use lib.Signed.{_≤ℤ_};
 ghost use Rattle.lists.specs.Lists.{at};
 ghost use Rattle.model.specs.Problem;
 ghost use Rattle.model.specs.Grid.{grid};
-ghost use Rattle.figures.specs.Ready.{PriceReady, FlowReady, scaleOf};
+ghost use Rattle.calls.specs.Ready.{PriceReady, FlowReady, scaleOf};
 
 pub struct Figures {
     pub price: u64,

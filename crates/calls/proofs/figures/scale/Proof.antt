@@ -1,11 +1,11 @@
--- `figures::scale` meets its contract. Assumes nothing.
+-- `calls::figures::scale` meets its contract. Assumes nothing.
 use mathlib.Core.Path.{sym, ap}
 use mathlib.Core.Bool.{Bool, cond}
 use native.Mathlib.Omega.{arith}
 use borrow.Author.Tests.{eq-eqb, ne-eqb}
 use lib.ListN.{length}
-use Rattle.figures.proofs.scale.Statement.{statement}
-use Rattle.figures.proofs.scale.Tie as tie
+use Rattle.calls.proofs.figures.scale.Statement.{statement}
+use Rattle.calls.proofs.figures.scale.Tie as tie
 
 returns : tie.Need-returns
 returns c = sym (ap (λ (b : Bool). cond b (c .before .args .weight) 1) (eq-eqb (length (c .before .args .weights .now)) 0 (omega arith)))

@@ -16,8 +16,8 @@ use Rattle.model.specs.Accepted.{TermsAllowed, WeightsAllowed}
 use Rattle.model.proofs.Weights.{weight-most}
 use Rattle.lists.proofs.Tables.{length-table}
 use Rattle.model.proofs.Range.{widest-fits}
-use Rattle.figures.proofs.Bounds as Bounds
-use Rattle.figures.proofs.Bounds.{value-least, value-most, image-inside}
+use Rattle.calls.proofs.Bounds as Bounds
+use Rattle.calls.proofs.Bounds.{value-least, value-most, image-inside}
 use Rattle.layout.specs.Runs.{shapeOf}
 use Rattle.stencil.specs.Limits.{most}
 use Rattle.passes.specs.Limits.{Within, WeightLimits, RasterLimits, FlowLimits, MisfitLimits}

@@ -1,4 +1,4 @@
--- `figures::image_price` meets its contract. Assumes nothing.
+-- `calls::figures::image_price` meets its contract. Assumes nothing.
 use mathlib.Core.Path.{_≡_, ap, _∙_}
 use Prim.Native.Nat.{ℕ, _+_, _*_}
 use native.Mathlib.Omega.{arith}
@@ -7,12 +7,12 @@ use lib.IntN.{pos}
 use Rattle.lists.specs.Lists.{at}
 use Rattle.model.specs.Problem.{misfit}
 use Rattle.model.specs.Grid.{grid}
-use Rattle.figures.proofs.Bounds as Bounds
-use Rattle.figures.proofs.Bounds.{largest-fits}
-use Rattle.figures.proofs.Jobs.{with-bytes, own-weights, raster-limits, misfit-limits}
-use Rattle.figures.proofs.Objectives.{variation, misfit-at, variation-at, price-is, price-fits}
-use Rattle.figures.proofs.image_price.Statement.{statement}
-use Rattle.figures.proofs.image_price.Tie as tie
+use Rattle.calls.proofs.Bounds as Bounds
+use Rattle.calls.proofs.Bounds.{largest-fits}
+use Rattle.calls.proofs.Jobs.{with-bytes, own-weights, raster-limits, misfit-limits}
+use Rattle.calls.proofs.Objectives.{variation, misfit-at, variation-at, price-is, price-fits}
+use Rattle.calls.proofs.figures.image_price.Statement.{statement}
+use Rattle.calls.proofs.figures.image_price.Tie as tie
 
 -- ---- the shape is at hand
 

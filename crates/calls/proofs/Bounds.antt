@@ -1,7 +1,7 @@
 -- Sizes within limits never overflow 64 bits: on an allowed job every price of an image of the box, and every floor of a
 -- flow within the weights, is at most `perPixel` for each pixel in size, so at most `largest`, and three times that is
 -- below 2⁶³. Assumes nothing.
-use mathlib.Core.Path.{_≡_, sym, subst}
+use mathlib.Core.Path.{sym, subst}
 use mathlib.Core.List.{List}
 use Prim.Native.Nat.{ℕ, _*_, _^_, _≤_, _<_}
 use native.Mathlib.Nat.{mul-le-mul, mul-le-mul-right, le-trans}
