@@ -5,11 +5,11 @@ use crate::bytes::two_at;
 use crate::tally::Tally;
 use model::Entry;
 use model::Verdict;
+use terms::all_or_none;
 ghost use mathlib.Core.Path.{_≡_};
 ghost use Prim.Native.Nat.{_+_, _≤_, _<_};
 ghost use lib.ListN.{length, getD};
 ghost use Rattle.model.specs.Verdict.{firstRefusal};
-ghost use Rattle.model.specs.Calls.{allOrNone};
 ghost use Rattle.model.specs.Tape.{bodyLength, decoded, bodyRows, tooShort};
 ghost use Rattle.records.specs.Tally.{allSampled, may};
 ghost use Rattle.records.specs.Record.{formOf, wholeAt, gotAt};
@@ -25,13 +25,6 @@ fn sampled(t: Tally) -> bool
     ensures { λ r. ⌜ r ≡ allSampled t ⌝ }
 {
     (t.header == 3) & (t.samples == t.pixels)
-}
-
-// Whether none or all of the pairs have been counted.
-fn all_or_none(count: usize, pairs: usize) -> bool
-    ensures { λ r. ⌜ r ≡ allOrNone count pairs ⌝ }
-{
-    (count == 0) | (count == pairs)
 }
 
 // Order: 1, 2, 3, all samples, then all pair weights or none, then all flow numbers or none, then 0.

@@ -11,6 +11,7 @@ pub use beyond::first_beyond;
 pub use beyond::is_beyond;
 pub use counts::pairs;
 pub use counts::pixels;
+pub use limits::all_or_none;
 pub use limits::box_allowed;
 pub use limits::quick_allowed;
 pub use limits::size_allowed;

@@ -4,7 +4,7 @@ ghost use mathlib.Core.Path.{_≡_};
 ghost use mathlib.Core.Bool.{not, _&&_};
 ghost use lib.Dec.{leb, ltb};
 ghost use Rattle.model.specs.Grid.{sizeAllowed, weightAllowed, boxAllowed};
-ghost use Rattle.model.specs.Calls.{wrongLength};
+ghost use Rattle.model.specs.Calls.{allOrNone, wrongLength};
 
 fn side_allowed(side: u32) -> bool
     ensures { λ r. ⌜ r ≡ (leb 1 side && leb side 4096) ⌝ }
@@ -43,9 +43,16 @@ pub fn quick_allowed(quick: u32) -> bool
     !(4096 < quick)
 }
 
+// Whether so many are none or all of what is due.
+pub fn all_or_none(count: usize, due: usize) -> bool
+    ensures { λ r. ⌜ r ≡ allOrNone count due ⌝ }
+{
+    (count == 0) | (count == due)
+}
+
 // Whether a lent length is neither 0, which is none, nor the one that is due.
 pub fn wrong_length(lent: usize, due: usize) -> bool
     ensures { λ r. ⌜ r ≡ wrongLength lent due ⌝ }
 {
-    !((lent == 0) | (lent == due))
+    !all_or_none(lent, due)
 }
