@@ -28,11 +28,10 @@ use Rattle.model.proofs.Refusals.{accepted-row}
 use Rattle.model.proofs.Limits.{both-true}
 use Rattle.model.proofs.Accepted.{all-or-none, neither, weight-passes}
 use Rattle.model.specs.declared.Lent.{Lent}
-use Rattle.steps.specs.declared.Step.{Step}
-use Rattle.records.proofs.Digits.{four-fits}
+use Rattle.roundtrip.proofs.Digits.{four-fits}
 use Rattle.lists.proofs.Tables.{length-none}
 use Rattle.lists.proofs.Chains.{listed, listed-more, listed-none, Each, each-none, each-more}
-use Rattle.steps.proofs.Turns.{entryAt, nextAt, termsVerdict, Passed, Turn, turn}
+use Rattle.roundtrip.proofs.Turns.{entryAt, nextAt, termsVerdict, Passed, Turn, turn}
 use Rattle.roundtrip.proofs.Entries.{take-next}
 
 -- ---- the bytes of what has been read
@@ -349,7 +348,7 @@ module _ (tape : List ℕ) (lent : Lent) (byte : (i : ℕ) → getD tape i 0 < 2
   laid alone zero o p q g e = let z : _≡_ {A = ℕ} 0 1 = cc in absurd (omega arith)
   laid alone (suc k) o p q g e = go (turn tape lent k o p) e (laid alone k)
     where
-      go : {s : Step} {r : Parse} → Turn tape lent k o p s r → r ≡ whole q →
+      go : {v : Verdict} {end : Bool} {r : Parse} → Turn tape lent k o p v end r → r ≡ whole q →
           ((o : ℕ) (p q : Progress) → Good o p → parseFrom k tape lent o p ≡ whole q → Job q) → Job q
       go (Turn.refuse n f _) w ih = let z : _≡_ {A = ℕ} 0 1 = cc in absurd (omega arith)
       go (Turn.done h z) w ih = subst Job (cc) (ending o p g h alone z)

@@ -14,9 +14,9 @@ use Rattle.model.specs.declared.Entry.{Entry}
 use Rattle.model.specs.declared.Entry.the-variants.{End, Size, WeightBox, RoundLimits, Sample, Flow, PairWeight}
 use Rattle.lists.specs.Lists.{table}
 use Rattle.model.specs.Tape.{known, bodyLength, decoded, encoded}
-use Rattle.records.proofs.Digits.{two-there, two-back, four-there, four-back}
+use Rattle.roundtrip.proofs.Digits.{two-there, two-back, four-there, four-back}
 use Rattle.lists.proofs.Parts.{part-table}
-use Rattle.steps.proofs.Turns.{entryAt, nextAt}
+use Rattle.roundtrip.proofs.Turns.{entryAt, nextAt}
 
 -- the bytes of the record that was read are those that it was read from
 pub encoded-decoded : (kind : ℕ) (b : ℕ → ℕ) → known kind ≡ true → ((i : ℕ) → b i < 256) →

@@ -1,5 +1,6 @@
 -- What reading gives once the records have been read: 8 is judged when the whole tape has passed. Assumes nothing.
 use mathlib.Core.Path.{_≡_, refl, ap, _∙_, subst}
+use mathlib.Core.Bool.{Bool}
 use mathlib.Core.List.{List, [], _∷_}
 use Prim.Native.Nat.{ℕ, zero, suc, _≤_, _<_}
 use native.Mathlib.Omega.{arith}
@@ -13,8 +14,7 @@ use Rattle.model.specs.Calls.{firstBeyond, flowRow}
 use Rattle.model.specs.Tape.{Progress, nothing, Parse, turned, whole, parseFrom, unless, judged, parse, readOf, readAnswer, readSamples, readWeights, readFlow, samplesAfter, weightsAfter, flowAfter, lentBy}
 use Rattle.model.proofs.Refusals.{accepted, refused, passed, accepted-row, refused-number}
 use Rattle.model.specs.declared.Lent.{Lent}
-use Rattle.steps.specs.declared.Step.{Step}
-use Rattle.steps.proofs.Turns.{Turn, turn}
+use Rattle.roundtrip.proofs.Turns.{Turn, turn}
 
 -- the first number beyond its pair's weight
 abbrev first : Progress → ℕ
@@ -63,7 +63,7 @@ unfolding parseFrom
 turned-number tape lent zero o p e = let number = ap (λ (r : Parse). readOf r .number) e in omega (arith, number)
 turned-number tape lent (suc k) o p {n} {q} e = go (turn tape lent k o p) e (λ o p. turned-number tape lent k o p)
   where
-    go : {s : Step} {r : Parse} → Turn tape lent k o p s r → r ≡ turned n q →
+    go : {v : Verdict} {end : Bool} {r : Parse} → Turn tape lent k o p v end r → r ≡ turned n q →
         ((o : ℕ) (p : Progress) → parseFrom k tape lent o p ≡ turned n q → 0 < n) → 0 < n
     go (Turn.refuse m l h) w ih = let same : m ≡ n = cc in omega arith
     go (Turn.done h z) w ih = let z : _≡_ {A = ℕ} 0 1 = cc in absurd (omega arith)

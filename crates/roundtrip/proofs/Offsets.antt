@@ -38,11 +38,11 @@ module _ (t : Terms) (r : Rounds) (s : List ℕ) (w f : List ℤ) where
   abbrev pub flow : List ℕ
   flow = chain (length f) flowAt
 
-  abbrev pub StretchLengths : Type 0
-  StretchLengths = (length samples ≡ length s * 2) × (length weights ≡ length w * 3) × (length flow ≡ length f * 5)
+  abbrev pub SectionLengths : Type 0
+  SectionLengths = (length samples ≡ length s * 2) × (length weights ≡ length w * 3) × (length flow ≡ length f * 5)
 
-  pub stretch-lengths : StretchLengths
-  stretch-lengths = (
+  pub section-lengths : SectionLengths
+  section-lengths = (
     length-chain 2 sampleAt (λ _. refl) (length s),
     length-chain 3 weightAt (λ _. refl) (length w),
     length-chain 5 flowAt (λ _. refl) (length f),
@@ -57,7 +57,7 @@ module _ (t : Terms) (r : Rounds) (s : List ℕ) (w f : List ℤ) where
         length-append (header ++ samples ++ weights) flow,
         length-append (header ++ samples) weights,
         length-append header samples,
-        stretch-lengths,
+        section-lengths,
       )
 
   -- what begins behind the header, behind the samples, behind the weights and behind the flow

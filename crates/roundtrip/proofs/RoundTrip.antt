@@ -32,7 +32,7 @@ use Rattle.roundtrip.proofs.Offsets.{tape-length, sample-here, weight-h
 use Rattle.roundtrip.proofs.WriteRows.{accepted-answer, written-answer, written-output}
 use Rattle.roundtrip.proofs.Accepted.{Job, accepted-job}
 use Rattle.roundtrip.proofs.Judged.{accepted-parse, passed-parse, whole-parse, answer-by, samples-by, weights-by, flow-by}
-use Rattle.roundtrip.proofs.Walk.{walk-on, walk-end, Passes, walk-stretch}
+use Rattle.roundtrip.proofs.Walk.{walk-on, walk-end, Passes, walk-section}
 
 small-fits : (z : ℤ) → natAbs z < 2 ^ 31 → SFits w32 z
 small-fits (pos n) h = record { sfits = h }
@@ -57,9 +57,9 @@ module _ (t : Terms) (r : Rounds) (s : List ℕ) (w f : List ℤ) (job : JobAllo
   header-read k =
       let here = header-here t r s w f in
       let terms = terms-pass t 0 .1 (job .terms) in
-      let roomy = ap₂ _||_ (ap₂ _||_ (le-ltb _ _ (long .0)) (le-ltb _ _ (long .1))) (le-ltb _ _ (long .2)) in
+      let hold = ap₂ _||_ (ap₂ _||_ (le-ltb _ _ (long .0)) (le-ltb _ _ (long .1))) (le-ltb _ _ (long .2)) in
       walk-on tape lent (suc (suc k)) 0 nothing (Size (t .width) (t .height)) _ (here .0) refl
-      (passed _ _ (terms .0) ∙ passed _ _ roomy ∙ accepted)
+      (passed _ _ (terms .0) ∙ passed _ _ hold ∙ accepted)
       (omega (arith, job .terms .width-most), omega (arith, job .terms .height-most)) (λ z. absurd (omega arith))
       ∙ walk-on tape lent (suc k) 5 _ (WeightBox (t .weight) (t .low) (t .high)) _ (here .1) refl
       (passed _ _ (terms .1) ∙ passed _ _ (terms .2) ∙ accepted)
@@ -141,9 +141,9 @@ module _ (t : Terms) (r : Rounds) (s : List ℕ) (w f : List ℤ) (job : JobAllo
       omega (arith, tape-length t r s w f) in
       ap (λ (n : ℕ). from n 0 nothing) fuel
       ∙ header-read (length s + (length w + (length f + suc spare)))
-      ∙ walk-stretch tape lent _ 2 _ s 0 15 sample-passes (length w + (length f + suc spare))
-      ∙ walk-stretch tape lent _ 3 _ w (pos 0) (15 + length s * 2) own-passes (length f + suc spare)
-      ∙ walk-stretch tape lent _ 5 _ f (pos 0) (15 + length s * 2 + length w * 3) number-passes (suc spare)
+      ∙ walk-section tape lent _ 2 _ s 0 15 sample-passes (length w + (length f + suc spare))
+      ∙ walk-section tape lent _ 3 _ w (pos 0) (15 + length s * 2) own-passes (length f + suc spare)
+      ∙ walk-section tape lent _ 5 _ f (pos 0) (15 + length s * 2 + length w * 3) number-passes (suc spare)
       ∙ end-read spare
 
 -- no number is beyond its pair's weight

@@ -1,4 +1,4 @@
--- Reading goes on over a record whose bytes stand at its offset, and so over a stretch of records. Assumes nothing.
+-- Reading goes on over a record whose bytes stand at its offset, and so over a section of records. Assumes nothing.
 use mathlib.Core.Path.{_≡_, refl, sym, ap, ap₂, _∙_}
 use mathlib.Core.Bool.{Bool, true, false, not, _&&_}
 use mathlib.Core.List.{List, [], _∷_, _++_}
@@ -15,7 +15,7 @@ use Rattle.model.specs.Verdict.{firstRefusal}
 use Rattle.model.specs.Tape.{known, bodyLength, encoded, Progress, allowed, absorbed, recordRows, entryRows, Parse, whole, parseFrom}
 use Rattle.model.proofs.Refusals.{accepted, passed}
 use Rattle.model.specs.declared.Lent.{Lent}
-use Rattle.steps.proofs.Turns.{nextAt, termsVerdict, Passed, unrolled-on, unrolled-end}
+use Rattle.roundtrip.proofs.Turns.{nextAt, termsVerdict, Passed, unrolled-on, unrolled-end}
 use Rattle.roundtrip.proofs.Entries.{Ranged, kindOf, kind-here, entry-here}
 
 -- the rows of a record accept it
@@ -95,7 +95,7 @@ module _ (tape : List ℕ) (lent : Lent) (k o : ℕ) (p : Progress) (e : Entry) 
     pub walk-end : kindOf e ≡ 0 → length rest ≡ 0 → parseFrom (suc k) tape lent o p ≡ whole p
     walk-end z l = unrolled-end tape lent k o p (record-passes (lent .followed) tape o (allowed p) (passes (λ _. l))) judged (kind ∙ z)
 
--- A stretch of records, one of `size` bytes for each element of a list; `read` is what has been read with the first of them
+-- A section of records, one of `size` bytes for each element of a list; `read` is what has been read with the first of them
 module _ (tape : List ℕ) (lent : Lent) {A : Type 0} (entry : A → Entry) (size : ℕ) (read : List A → Progress) where
   -- what lets the record of an element be read at a place, after those of others
   pub record Passes (place : ℕ) (former : List A) (x : A) : Type 0 where
@@ -107,7 +107,7 @@ module _ (tape : List ℕ) (lent : Lent) {A : Type 0} (entry : A → Entry) (siz
     pub sized : length (encoded (entry x)) ≡ size
     pub grows : absorbed (read former) (entry x) ≡ read (former ++ (x ∷ []))
 
-  -- a stretch from offset o on
+  -- a section from offset o on
   module _ (xs : List A) (d : A) (o : ℕ) (passes : (i : ℕ) → i < length xs → Passes (o + i * size) (take i xs) (getD xs i d)) where
     abbrev from : ℕ → ℕ → List A → Parse
     from k i former = parseFrom k tape lent (o + i * size) (read former)
@@ -126,7 +126,7 @@ module _ (tape : List ℕ) (lent : Lent) {A : Type 0} (entry : A → Entry) (siz
         (p .grows ∙ ap read (sym (take-suc xs i d l)))
         ∙ walk-rest m (suc i) k (omega arith)
 
-    pub walk-stretch : (k : ℕ) →
+    pub walk-section : (k : ℕ) →
         parseFrom (length xs + k) tape lent o (read []) ≡ parseFrom k tape lent (o + length xs * size) (read xs)
-    walk-stretch k =
+    walk-section k =
         ap (λ (n : ℕ). parseFrom (length xs + k) tape lent n (read [])) (omega arith) ∙ walk-rest (length xs) 0 k (omega arith)

@@ -1,7 +1,0 @@
--- Laws of one record.
---     Signed      what the code reads back of a signed number of 32 bits
---     Digits      numbers in bytes, there and back
---     Rows        the rows of a record, as the code goes down them
-pub mod Signed
-pub mod Digits
-pub mod Rows

@@ -1,5 +1,0 @@
--- What the contracts of a record cite beside the model's definitions.
---     Tally       what has been read so far, as the code counts it
---     Record      one record at an offset: its numbers, or a refusal with its offset
-pub mod Tally
-pub mod Record

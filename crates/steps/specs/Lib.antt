@@ -1,2 +1,0 @@
--- One record taken into the tally.
-pub mod Step

@@ -1,0 +1,31 @@
+-- `tape_records::encode::put_flow_number` meets its contract. Assumes nothing.
+use mathlib.Core.Path.{subst}
+use mathlib.Core.List.{_∷_}
+use native.Mathlib.Omega.{arith}
+use lib.IntN.{ℤ}
+use mir.Facts.{toZ-ofZ}
+use Rattle.model.specs.Tape.{fourBytes}
+use Rattle.output.specs.Put.{Put}
+use Rattle.output.proofs.Laid.{put-then}
+use borrow.Author.Needs.{needs}
+use Rattle.tape_records.proofs.encode.put_flow_number.Statement.{statement}
+use Rattle.tape_records.proofs.encode.put_flow_number.Tie as tie
+
+put-byte-requires : tie.Need-put-byte-requires
+put-byte-requires c κs = search needs
+
+put-four-bytes-requires : tie.Need-put-four-bytes-requires
+put-four-bytes-requires c κs = search needs
+
+same-length : tie.Need-same-length
+same-length c = search needs
+
+returns : tie.Need-returns
+returns c =
+    let a = c .before .before .before .before .before .before .before .before .before .args in
+    subst (λ (z : ℤ). Put (a .o) (a .kind ∷ fourBytes z) (a .output .now) (c .before .before .put-four-bytes .result) (c .before .before .put-four-bytes .last .0))
+    (toZ-ofZ (c .before .before .before .before .before .before .before .before .before .fits .value))
+    (put-then (c .before .before .before .before .before .before .put-byte .ensures) (c .before .before .put-four-bytes .ensures) (omega arith))
+
+pub put-flow-number-spec : {M : Type 1} → statement M
+put-flow-number-spec = tie.close (tie.spec put-byte-requires put-four-bytes-requires same-length returns)

@@ -1,0 +1,23 @@
+-- `tape_records::encode::put_pair_weight` meets its contract. Assumes nothing.
+use native.Mathlib.Omega.{arith}
+use Rattle.output.proofs.Laid.{put-then}
+use borrow.Author.Needs.{needs}
+use Rattle.tape_records.proofs.encode.put_pair_weight.Statement.{statement}
+use Rattle.tape_records.proofs.encode.put_pair_weight.Tie as tie
+
+put-byte-requires : tie.Need-put-byte-requires
+put-byte-requires c κs = search needs
+
+put-two-bytes-requires : tie.Need-put-two-bytes-requires
+put-two-bytes-requires c κs = search needs
+
+same-length : tie.Need-same-length
+same-length c = search needs
+
+returns : tie.Need-returns
+returns c =
+    put-then (c .before .before .before .before .before .before .put-byte .ensures) (c .before .before .put-two-bytes .ensures)
+    (omega arith)
+
+pub put-pair-weight-spec : {M : Type 1} → statement M
+put-pair-weight-spec = tie.close (tie.spec put-byte-requires put-two-bytes-requires same-length returns)

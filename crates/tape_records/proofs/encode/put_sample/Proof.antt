@@ -1,0 +1,21 @@
+-- `tape_records::encode::put_sample` meets its contract. Assumes nothing.
+use native.Mathlib.Omega.{arith}
+use Rattle.output.proofs.Laid.{put-then}
+use borrow.Author.Needs.{needs}
+use Rattle.tape_records.proofs.encode.put_sample.Statement.{statement}
+use Rattle.tape_records.proofs.encode.put_sample.Tie as tie
+
+put-byte-requires : tie.Need-put-byte-requires
+put-byte-requires c κs = search needs
+
+put-byte-requires-2 : tie.Need-put-byte-requires-2
+put-byte-requires-2 c κs = search needs
+
+same-length : tie.Need-same-length
+same-length c = search needs
+
+returns : tie.Need-returns
+returns c = put-then (c .before .before .before .before .before .before .put-byte .ensures) (c .before .before .put-byte2 .ensures) (omega arith)
+
+pub put-sample-spec : {M : Type 1} → statement M
+put-sample-spec = tie.close (tie.spec put-byte-requires put-byte-requires-2 same-length returns)

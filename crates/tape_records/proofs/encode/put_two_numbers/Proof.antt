@@ -1,0 +1,26 @@
+-- `tape_records::encode::put_two_numbers` meets its contract. Assumes nothing.
+use native.Mathlib.Omega.{arith}
+use Rattle.output.proofs.Laid.{put-then}
+use borrow.Author.Needs.{needs}
+use Rattle.tape_records.proofs.encode.put_two_numbers.Statement.{statement}
+use Rattle.tape_records.proofs.encode.put_two_numbers.Tie as tie
+
+put-byte-requires : tie.Need-put-byte-requires
+put-byte-requires c κs = search needs
+
+put-two-bytes-requires : tie.Need-put-two-bytes-requires
+put-two-bytes-requires c κs = search needs
+
+put-two-bytes-requires-2 : tie.Need-put-two-bytes-requires-2
+put-two-bytes-requires-2 c κs = search needs
+
+same-length : tie.Need-same-length
+same-length c = search needs
+
+returns : tie.Need-returns
+returns c =
+    put-then (put-then (c .before .before .before .before .before .before .before .before .before .before .put-byte .ensures) (c .before .before .before .before .before .before .put-two-bytes .ensures) (omega arith)) (c .before .before .put-two-bytes2 .ensures) (omega arith)
+
+pub put-two-numbers-spec : {M : Type 1} → statement M
+put-two-numbers-spec =
+    tie.close (tie.spec put-byte-requires put-two-bytes-requires put-two-bytes-requires-2 same-length returns)

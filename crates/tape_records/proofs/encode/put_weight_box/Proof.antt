@@ -1,0 +1,23 @@
+-- `tape_records::encode::put_weight_box` meets its contract. Assumes nothing.
+use native.Mathlib.Omega.{arith}
+use Rattle.output.proofs.Laid.{put-then}
+use borrow.Author.Needs.{needs}
+use Rattle.tape_records.proofs.encode.put_weight_box.Statement.{statement}
+use Rattle.tape_records.proofs.encode.put_weight_box.Tie as tie
+
+returns : tie.Need-returns
+returns c =
+    put-then
+    (put-then (put-then (c .before .before .before .before .before .before .before .before .before .before .before .before .before .before .put-byte .ensures) (c .before .before .before .before .before .before .before .before .before .before .put-two-bytes .ensures) (omega arith)) (c .before .before .before .before .before .before .put-byte2 .ensures) (omega arith))
+    (c .before .before .put-byte3 .ensures) (omega arith)
+
+pub put-weight-box-spec : {M : Type 1} → statement M
+put-weight-box-spec =
+    tie.close
+    (tie.spec
+    (λ c κs. search needs)
+    (λ c κs. search needs)
+    (λ c κs. search needs)
+    (λ c κs. search needs)
+    (λ c. search needs)
+    returns)

@@ -1,2 +1,0 @@
--- What write promises, from what it gave and left.
-pub mod Promised

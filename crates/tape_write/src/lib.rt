@@ -1,3 +1,0 @@
-// Writing a job to a tape.
-//     write    write
-pub mod write;

@@ -1,0 +1,20 @@
+-- `tape_writer::put::put_header` meets its contract. Assumes nothing.
+use native.Mathlib.Omega.{arith}
+use Rattle.output.proofs.Laid.{put-then}
+use borrow.Author.Needs.{needs}
+use Rattle.tape_writer.proofs.put.put_header.Statement.{statement}
+use Rattle.tape_writer.proofs.put.put_header.Tie as tie
+
+returns : tie.Need-returns
+returns c =
+    put-then (put-then (c .before .before .before .before .before .before .before .before .before .before .put-record .ensures) (c .before .before .before .before .before .before .put-record2 .ensures) (omega arith)) (c .before .before .put-record3 .ensures) (omega arith)
+
+pub put-header-spec : {M : Type 1} → statement M
+put-header-spec =
+    tie.close
+    (tie.spec
+    (λ c κs. search needs)
+    (λ c κs. search needs)
+    (λ c κs. search needs)
+    (λ c. search needs)
+    returns)
