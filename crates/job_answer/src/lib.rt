@@ -3,11 +3,11 @@
 use job::treat::treat;
 use model::Answer;
 use model::ReadResult;
-use records::tally::Tally;
-use tape_read::read::take_numbers;
+use tape_reader::read::read_numbers;
+use tape_records::state::ParserState;
 ghost use lib.ListN.{length};
 ghost use Rattle.model.specs.Tape.{lentBy, parse};
-ghost use Rattle.tape_scan.specs.Scan.{WholeRecords};
+ghost use Rattle.tape_reader.specs.Scan.{WholeRecords};
 ghost use Rattle.job.specs.Tables.{Holds};
 ghost use Rattle.job_answer.specs.Answered.{AnswerTo};
 
@@ -20,7 +20,7 @@ pub enum Answered {
 // 8 is judged, then the job is treated.
 pub fn answer_of(
     tape: &[u8],
-    t: Tally,
+    t: ParserState,
     samples: &mut [u8],
     weights: &mut [i32],
     flow: &mut [i32],
@@ -30,7 +30,7 @@ pub fn answer_of(
     requires { ⌜ WholeRecords (now tape) (lentBy (now samples) (now weights) (now flow)) t × Holds (length (now samples)) (length (now flow)) (length (now image)) (length (now work)) ⌝ }
     ensures { λ r. ⌜ AnswerTo (parse (now (tape .entry)) (lentBy (now (samples .entry)) (now (weights .entry)) (now (flow .entry)))) (length (now (samples .entry))) r ⌝ }
 {
-    let got = take_numbers(tape, t, samples, weights, flow);
+    let got = read_numbers(tape, t, samples, weights, flow);
     match got {
         ReadResult::Refused { number, place } => Answered::Refused(number, place),
         ReadResult::Job {

@@ -16,20 +16,20 @@ use Rattle.model.specs.Grid.{weightOf}
 use Rattle.model.specs.Calls.{firstBeyond, flowRow}
 use Rattle.model.specs.Tape.{Progress, turned, whole, judged, unless, parse, tooShort, lentBy}
 use Rattle.model.specs.Season.{bytesOf}
-use Rattle.records.specs.declared.tally.Tally.{Tally}
-use Rattle.steps.specs.declared.Step.{Step}
-use Rattle.steps.specs.Step.{stepOf}
-use Rattle.tape_scan.specs.Scan.{recordsOf, WholeRecords, Reached}
-use Rattle.tape_scan.proofs.Reached as scan
+use Rattle.tape_records.specs.declared.state.ParserState.{ParserState}
+use Rattle.tape_reader.specs.declared.transition.Transition.{Transition}
+use Rattle.tape_reader.specs.Transition.{transitionAt}
+use Rattle.tape_reader.specs.Scan.{recordsOf, WholeRecords, Reached}
+use Rattle.tape_reader.proofs.Reached as scan
 use Rattle.roundtrip.proofs.Accepted.{accepted-job}
 use Rattle.roundtrip.proofs.Judged.{passed-parse}
 use Rattle.job_answer.proofs.Slacks.{front-bytes}
 use Rattle.job_take.specs.Taken.{lentIn, Short, Refused, CountedAs, Counted, TakenFrom}
 use Rattle.job_take.specs.declared.Taken.{Taken}
 
-module _ (bytes : List ℕ) (lent : Lent) {t : Tally} {o : ℕ} (r : Reached bytes lent t o) where
+module _ (bytes : List ℕ) (lent : Lent) {t : ParserState} {o : ℕ} (r : Reached bytes lent t o) where
   -- the scan stops at a record that is refused
-  module _ {n q : ℕ} (e : Step.Refused n q ≡ stepOf bytes o t lent) where
+  module _ {n q : ℕ} (e : Transition.Refused n q ≡ transitionAt bytes o t lent) where
     pub stopped-short : tooShort n ≡ true → Short bytes lent n q t o
     unfolding parse
     stopped-short s = record { reached = r; refused = ap judged (scan.refused bytes lent r e); short = s }
@@ -39,9 +39,9 @@ module _ (bytes : List ℕ) (lent : Lent) {t : Tally} {o : ℕ} (r : Reached byt
     stopped-refused f s = record { refused = λ behind. ap judged (scan.refused-longer bytes lent r f e s behind); faulty = s }
 
 -- .. or at the end record
-module _ (bytes samples : List ℕ) (weights flow : List ℤ) {t : Tally} {o : ℕ}
+module _ (bytes samples : List ℕ) (weights flow : List ℤ) {t : ParserState} {o : ℕ}
     (r : Reached bytes (lentIn (length samples) (length weights) (length flow)) t o)
-    (e : Step.Done ≡ stepOf bytes o t (lentIn (length samples) (length weights) (length flow))) where
+    (e : Transition.Done ≡ transitionAt bytes o t (lentIn (length samples) (length weights) (length flow))) where
   abbrev lent : Lent
   lent = lentIn (length samples) (length weights) (length flow)
 

@@ -8,8 +8,8 @@ use Rattle.model.specs.declared.Lent.{Lent}
 use Rattle.model.specs.declared.Totals.{Totals}
 use Rattle.model.specs.Tape.{Progress, Parse, turned, whole, parse, tooShort}
 use Rattle.model.specs.Season.{bytesOf, treated}
-use Rattle.records.specs.declared.tally.Tally.{Tally}
-use Rattle.tape_scan.specs.Scan.{Reached}
+use Rattle.tape_records.specs.declared.state.ParserState.{ParserState}
+use Rattle.tape_reader.specs.Scan.{Reached}
 use Rattle.job.specs.Tables.{Holds}
 use Rattle.totals.specs.Counted.{Bounded, withJob}
 use Rattle.job_take.specs.declared.Taken.{Taken}
@@ -26,7 +26,7 @@ pub record Ready (totals : Totals) (samples flow image work : ℕ) : Type 0 wher
   pub holds : Holds samples flow image work
 
 -- the bytes end before the job does; its records up to this offset are whole
-pub record Short (bytes : List ℕ) (lent : Lent) (number place : ℕ) (t : Tally) (at : ℕ) : Type 0 where
+pub record Short (bytes : List ℕ) (lent : Lent) (number place : ℕ) (t : ParserState) (at : ℕ) : Type 0 where
   pub reached : Reached bytes lent t at
   pub refused : parse bytes lent ≡ turned number place
   pub short : tooShort number ≡ true

@@ -4,20 +4,20 @@ use job_answer::Answered;
 use job_answer::answer_of;
 use model::Lent;
 use model::Totals;
-use records::record::too_short;
-use records::tally::Tally;
-use tape_scan::scan::Scanned;
-use tape_scan::scan::scan_tape;
+use tape_reader::scan::Scanned;
+use tape_reader::scan::scan_tape;
+use tape_records::parse::too_short;
+use tape_records::state::ParserState;
 use totals::counted;
 ghost use lib.ListN.{length};
 ghost use Rattle.model.specs.Tape.{lentBy, parse};
-ghost use Rattle.tape_scan.specs.Scan.{Reached, WholeRecords};
+ghost use Rattle.tape_reader.specs.Scan.{Reached, WholeRecords};
 ghost use Rattle.job_take.specs.Taken.{Ready, lentIn, CountedAs, TakenFrom};
 
 pub enum Taken {
     // the bytes end before the job does: what reading them refuses, what has been read before, and
     // where the next record begins
-    Short(u32, usize, Tally, usize),
+    Short(u32, usize, ParserState, usize),
     // the job is refused
     Refused(u32, usize),
     // the totals with the job counted, and how many bytes it has
@@ -27,7 +27,7 @@ pub enum Taken {
 // A job whose records have passed: 8 is judged, it is treated and counted.
 fn count_job(
     tape: &[u8],
-    t: Tally,
+    t: ParserState,
     totals: Totals,
     samples: &mut [u8],
     weights: &mut [i32],
@@ -52,7 +52,7 @@ fn count_job(
 pub fn take_job(
     bytes: &[u8],
     at: usize,
-    before: Tally,
+    before: ParserState,
     totals: Totals,
     samples: &mut [u8],
     weights: &mut [i32],

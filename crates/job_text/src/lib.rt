@@ -3,7 +3,7 @@
 use answer_text::answer::put_answer;
 use job::treat::treat;
 use model::ReadResult;
-use tape_read::read::read;
+use tape_reader::read::read;
 use text::line::put_refusal;
 ghost use mathlib.Core.Path.{_≡_};
 ghost use lib.ListN.{length};

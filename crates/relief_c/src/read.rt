@@ -3,7 +3,7 @@
 use model::ReadResult;
 use model::Rounds;
 use model::Terms;
-use tape_read::read::read;
+use tape_reader::read::read;
 ghost use mathlib.Core.Path.{_≡_};
 ghost use mathlib.Core.Logic.{_↔_};
 ghost use Prim.Native.Nat.{_*_};

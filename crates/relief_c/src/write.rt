@@ -3,7 +3,7 @@
 use model::Rounds;
 use model::Terms;
 use model::WriteResult;
-use tape_write::write::write;
+use tape_writer::write::write;
 ghost use mathlib.Core.Path.{_≡_};
 ghost use mathlib.Core.Logic.{_↔_};
 ghost use lib.ListN.{take};

@@ -11,8 +11,8 @@ use Rattle.model.specs.declared.Lent.{Lent}
 use Rattle.model.specs.declared.Verdict.{Verdict}
 use Rattle.model.specs.Tape.{nothing}
 use Rattle.model.specs.Season.{totalsOf}
-use Rattle.records.specs.Tally.{tallyOf}
-use Rattle.tape_scan.proofs.Reached as scan
+use Rattle.tape_records.specs.State.{stateOf}
+use Rattle.tape_reader.proofs.Reached as scan
 use Rattle.totals.proofs.Season.{bounded-none}
 use Rattle.stream.specs.Report.{reportFrom}
 use Rattle.job_take.specs.Taken.{lentIn}
@@ -48,7 +48,7 @@ pub record Kept (lent : Lent) (buffer : List ℕ) (s : State) : Type 0 where
 
 module _ (lent : Lent) where
   pub begins : (buffer : List ℕ) →
-      Kept lent buffer (record { window = record { start = 0; end = 0; ended = false }; at = 0; tally = tallyOf nothing; totals = totalsOf [] })
+      Kept lent buffer (record { window = record { start = 0; end = 0; ended = false }; at = 0; tally = stateOf nothing; totals = totalsOf [] })
   begins buffer =
       record {
         input = [];

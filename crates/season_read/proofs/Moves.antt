@@ -9,9 +9,9 @@ use lib.Seq.{take-append-le, drop-drop}
 use Rattle.model.specs.declared.Lent.{Lent}
 use Rattle.model.specs.declared.Totals.{Totals}
 use Rattle.model.specs.Tape.{nothing}
-use Rattle.records.specs.declared.tally.Tally.{Tally}
-use Rattle.records.specs.Tally.{tallyOf}
-use Rattle.tape_scan.proofs.Reached as scan
+use Rattle.tape_records.specs.declared.state.ParserState.{ParserState}
+use Rattle.tape_records.specs.State.{stateOf}
+use Rattle.tape_reader.proofs.Reached as scan
 use Rattle.stream.specs.Report.{reportFrom}
 use Rattle.stream.specs.AtHand.{GoesOn, Wants}
 use Rattle.window.specs.declared.Window.{Window}
@@ -42,7 +42,7 @@ module _ (lent : Lent) (buffer : List ℕ) (s : State) (st : Stands lent buffer 
         record {
           window = record { start = w .start + n; end = w .end; ended = w .ended };
           at = 0;
-          tally = tallyOf nothing;
+          tally = stateOf nothing;
           totals = after;
         }
 
@@ -70,7 +70,7 @@ module _ (lent : Lent) (buffer : List ℕ) (s : State) (st : Stands lent buffer 
         }
 
   -- with more bytes
-  module _ {t : Tally} {at : ℕ} (h : Wants bytes (w .ended) lent t at) {later : List ℕ} {i : Input} (g : Grown buffer w later i) where
+  module _ {t : ParserState} {at : ℕ} (h : Wants bytes (w .ended) lent t at) {later : List ℕ} {i : Input} (g : Grown buffer w later i) where
     abbrev longer : State
     longer = record { window = i .window; at = at; tally = t; totals = s .totals }
 

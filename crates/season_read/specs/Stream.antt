@@ -5,7 +5,7 @@ use mathlib.Core.List.{List, [], _++_}
 use Prim.Native.Nat.{ℕ, _+_, _-_, _*_, _≤_, _<_}
 use Rattle.model.specs.declared.Lent.{Lent}
 use Rattle.model.specs.Season.{totalsOf}
-use Rattle.tape_scan.specs.Scan.{Reached}
+use Rattle.tape_reader.specs.Scan.{Reached}
 use Rattle.job.specs.Tables.{Holds}
 use Rattle.totals.specs.Counted.{Bounded}
 use Rattle.stream.specs.Report.{reportFrom}

@@ -2,10 +2,10 @@
 
 use model::Totals;
 use model::Verdict;
-use records::tally::Tally;
-use records::tally::fresh;
 use stream::next::Next;
 use stream::next::next_of;
+use tape_records::state::ParserState;
+use tape_records::state::initial;
 use totals::none;
 use window::Window;
 use window::more_bytes;
@@ -20,7 +20,7 @@ ghost use Rattle.season_read.specs.Stream.{Stands, StepOf, ReportOf, Tab
 pub struct State {
     pub window: Window,
     pub at: usize,
-    pub tally: Tally,
+    pub tally: ParserState,
     pub totals: Totals,
 }
 
@@ -78,7 +78,7 @@ fn advance(
                 end,
                 ended: w.ended,
             };
-            let tally = fresh();
+            let tally = initial();
             Step::Go(State {
                 window,
                 at: 0,
@@ -135,7 +135,7 @@ pub fn read_season(
     let mut s = State {
         window,
         at: 0,
-        tally: fresh(),
+        tally: initial(),
         totals: none(),
     };
     while s.totals.jobs < 65535 {

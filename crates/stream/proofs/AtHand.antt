@@ -12,8 +12,8 @@ use Rattle.model.specs.declared.Totals.{Totals}
 use Rattle.model.specs.declared.Verdict.{Verdict}
 use Rattle.model.specs.Tape.{turned, parse}
 use Rattle.model.specs.Season.{bytesOf}
-use Rattle.records.specs.declared.tally.Tally.{Tally}
-use Rattle.tape_scan.specs.Scan.{Reached}
+use Rattle.tape_records.specs.declared.state.ParserState.{ParserState}
+use Rattle.tape_reader.specs.Scan.{Reached}
 use Rattle.roundtrip.proofs.Offsets.{tape-length}
 use Rattle.stream.specs.Report.{Report, reportFrom}
 use Rattle.job_take.specs.Taken.{Short, Refused, Counted}
@@ -57,7 +57,7 @@ module _ (bytes : List ℕ) (lent : Lent) (t : Totals) (few : t .jobs < 65535) w
           let nothing-read : parse [] lent ≡ turned n q = sym (ap (λ (l : List ℕ). parse l lent) none) ∙ r .refused [] in
           true≢false (sym (no-bytes lent nothing-read) ∙ r .faulty)
 
-  module _ {n q : ℕ} {u : Tally} {o : ℕ} (s : Short front lent n q u o) where
+  module _ {n q : ℕ} {u : ParserState} {o : ℕ} (s : Short front lent n q u o) where
     pub next-past : {ended : Bool} → 65536 < length bytes → Reports bytes ended lent t (ends t 17 0)
     next-past l rest _ =
         refused-report lent t few (bytes ++ rest) (λ z. omega (arith, z, l, length-append bytes rest))

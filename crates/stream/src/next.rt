@@ -3,16 +3,16 @@
 use job_take::Taken;
 use job_take::take_job;
 use model::Totals;
-use records::tally::Tally;
+use tape_records::state::ParserState;
 ghost use Prim.Native.Nat.{_≤_};
 ghost use lib.ListN.{length};
-ghost use Rattle.tape_scan.specs.Scan.{Reached};
+ghost use Rattle.tape_reader.specs.Scan.{Reached};
 ghost use Rattle.job_take.specs.Taken.{Ready, lentIn};
 ghost use Rattle.stream.specs.AtHand.{NextOf};
 
 pub enum Next {
     // more bytes are wanted: what has been read of the job, and where its next record begins
-    More(Tally, usize),
+    More(ParserState, usize),
     // no job is left
     Over,
     // the job is refused
@@ -27,7 +27,7 @@ pub fn next_of(
     bytes: &[u8],
     ended: bool,
     at: usize,
-    before: Tally,
+    before: ParserState,
     totals: Totals,
     samples: &mut [u8],
     weights: &mut [i32],

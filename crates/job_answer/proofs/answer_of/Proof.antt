@@ -18,7 +18,7 @@ use Rattle.job_answer.proofs.answer_of.Statement.{statement}
 use Rattle.job_answer.proofs.answer_of.Tie as tie
 
 -- the bytes of the tape
-bytes : (c : tie.After-take-numbers) → (i : ℕ) → getD (c .before .before .before .before .before .before .args .tape .now) i 0 < 256
+bytes : (c : tie.After-read-numbers) → (i : ℕ) → getD (c .before .before .before .before .before .before .args .tape .now) i 0 < 256
 bytes c i = omega (arith, c .before .before .before .before .before .shared-slice-known .given i)
 
 -- the job that was read
@@ -32,12 +32,12 @@ job-read c =
     let v = c .got2 .given .0 in
     taken (a .tape .now) (a .samples .now) (a .weights .now) (a .flow .now)
     (bytes (c .before .before .before .before .before .before)) (v .0) (v .1 .0) (v .1 .1 .0) (v .1 .1 .1 .0)
-    (ap readAnswerOf (sym (c .got2 .given .1)) ∙ c .before .before .before .before .before .before .take-numbers .ensures .0)
+    (ap readAnswerOf (sym (c .got2 .given .1)) ∙ c .before .before .before .before .before .before .read-numbers .ensures .0)
 
 treat-requires : tie.Need-treat-requires
 treat-requires c κs =
     let s = c .before .before .before .before .before .before in
-    let kept = s .before .before .before .before .before .before .take-numbers .kept in
+    let kept = s .before .before .before .before .before .before .read-numbers .kept in
     tables (job-read s) (s .before .before .before .before .before .before .before .before .before .before .before .before .pre .1)
     (kept .1 .1 .0) (kept .1 .1 .1 .0) (kept .1 .1 .1 .1 .0)
 
@@ -51,7 +51,7 @@ returns c =
     let a = s .before .before .before .before .before .before .args in
     turned-back (a .tape .now) (a .samples .now) (a .weights .now) (a .flow .now) (bytes s) (g .got .given .0 .0)
     (g .got .given .0 .1 .0)
-    (ap readAnswerOf (sym (g .got .given .1)) ∙ s .take-numbers .ensures .0)
+    (ap readAnswerOf (sym (g .got .given .1)) ∙ s .read-numbers .ensures .0)
 
 returns-2 : tie.Need-returns-2
 returns-2 c =
@@ -61,12 +61,12 @@ returns-2 c =
     let start = d .before .before .before .before .before .before in
     let a = start .args in
     let k = job-read g in
-    let sampled = d .take-numbers .ensures .1 .0 in
-    let weighed = d .take-numbers .ensures .1 .1 .0 in
-    let flows = d .take-numbers .ensures .1 .1 .1 in
+    let sampled = d .read-numbers .ensures .1 .0 in
+    let weighed = d .read-numbers .ensures .1 .1 .0 in
+    let flows = d .read-numbers .ensures .1 .1 .1 in
     let given = read-answer k (a .image .now) (a .work .now) (start .pre .1) sampled weighed flows (s .treat .ensures .0) in
     let v = g .got2 .given .0 in
-    let left = d .take-numbers .last in
+    let left = d .read-numbers .last in
     let small =
     slack-most (v .0) (v .1 .0) (v .1 .1 .0) (v .1 .1 .1 .0) (left .1 .1 .0) (left .1 .1 .1 .0) (left .1 .1 .1 .1 .0)
     (a .image .now) (a .work .now) (omega (arith, s .before .before .before .before .before .before .known-told2 .given))

@@ -4,8 +4,8 @@ use Prim.Native.Nat.{_<_}
 use native.Mathlib.Omega.{arith}
 use lib.ListN.{length}
 use lib.Seq.{length-take-le}
-use Rattle.tape_scan.specs.declared.scan.Scanned.{Scanned}
-use Rattle.tape_scan.specs.Scan.{StopsAt}
+use Rattle.tape_reader.specs.declared.scan.Scanned.{Scanned}
+use Rattle.tape_reader.specs.Scan.{StopsAt}
 use Rattle.job_take.specs.Taken.{lentIn}
 use Rattle.job_take.proofs.Jobs.{stopped-short, stopped-refused, inside, records, ended}
 use borrow.Author.Needs.{needs}

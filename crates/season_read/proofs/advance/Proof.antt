@@ -3,7 +3,7 @@ use mathlib.Core.Path.{_≡_, subst, subst⁻¹}
 use Prim.Native.Nat.{_+_}
 use native.Mathlib.Omega.{arith}
 use lib.ListN.{length}
-use Rattle.records.specs.declared.tally.Tally.{Tally}
+use Rattle.tape_records.specs.declared.state.ParserState.{ParserState}
 use Rattle.stream.specs.declared.next.Next.{Next}
 use Rattle.job_take.specs.Taken.{lentIn}
 use Rattle.stream.specs.AtHand.{NextOf}
@@ -58,7 +58,7 @@ returns-4 c =
     let s = k .before .before .before .before .before .before .before .before .before .before .before .before in
     let a = s .args in
     subst⁻¹
-    (λ (t : Tally).
+    (λ (t : ParserState).
     Goes (lentIn (length (a .samples .now)) (length (a .weights .now)) (length (a .flow .now))) (a .buffer .now) (a .s)
     (a .buffer .now)
     (record {
@@ -68,7 +68,7 @@ returns-4 c =
       tally = t;
       totals = g .n2 .given .0 .0;
     }))
-    (c .fresh .ensures)
+    (c .initial .ensures)
     (counted-goes (lentIn (length (a .samples .now)) (length (a .weights .now)) (length (a .flow .now))) (a .buffer .now) (a .s)
     (s .pre .0) (said k (g .n2 .given .1)) (s .pre .1))
 

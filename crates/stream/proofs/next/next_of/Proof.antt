@@ -7,7 +7,7 @@ use native.Mathlib.Omega.{arith}
 use lib.ListN.{length, take, length-take}
 use lib.Seq.{length-take-le, take-length, take-all, take-take}
 use borrow.Author.Tests.{not-true, not-false}
-use Rattle.tape_scan.proofs.Reached.{moved}
+use Rattle.tape_reader.proofs.Reached.{moved}
 use Rattle.job_take.specs.declared.Taken.{Taken}
 use Rattle.job_take.specs.Taken.{lentIn, TakenFrom}
 use Rattle.stream.proofs.AtHand.{next-counted, next-refused, next-past, next-more, next-ended, next-over}
