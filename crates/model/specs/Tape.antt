@@ -40,37 +40,62 @@ signed n = cond (ltb n (2 ^ 31)) (pos n) (subℕ n (2 ^ 32))
 abbrev pub fromFour : ℕ → ℕ → ℕ → ℕ → ℤ
 fromFour b0 b1 b2 b3 = signed (b0 + 256 * (b1 + 256 * (b2 + 256 * b3)))
 
--- ---- Records
+-- ---- Kinds of records (SPECIFICATION 5.1, 5.3)
 
--- A record (`Entry`, declared in src/lib.rt) is its kind with its numbers: 0 end, 1 size, 2 weight and box, 3 rounds,
--- 4 one sample, 5 one flow number, 6 one pair's weight (SPECIFICATION 5.1)
+-- How much has been read: how many of the records 1, 2, 3 (the header), of all `pixels` samples, and of all `pairs` pairs how
+-- many weights and how many flow numbers
+pub record Counts : Type 0 where
+  pub header : ℕ
+  pub samples : ℕ
+  pub pixels : ℕ
+  pub weights : ℕ
+  pub flows : ℕ
+  pub pairs : ℕ
 
--- the length of the body, for kinds 0 to 6
-abbrev pub bodyLengths : List ℕ
-bodyLengths = 0 ∷ 4 ∷ 4 ∷ 4 ∷ 1 ∷ 4 ∷ 2 ∷ []
+-- the header and all samples; these and all pair weights or none
+abbrev pub sampled : Counts → Bool
+sampled c = eqb (c .header) 3 && eqb (c .samples) (c .pixels)
 
-abbrev pub bodyLength : ℕ → ℕ
-bodyLength kind = getD bodyLengths kind 0
+abbrev pub weighed : Counts → Bool
+weighed c = sampled c && allOrNone (c .weights) (c .pairs)
+
+-- What a kind of record fixes: the length of its body; where it may come, by what has been read; and the record (`Entry`, declared in
+-- src/lib.rt) with its numbers, from the bytes b 0, b 1, .. of the body
+pub record Kind : Type 0 where
+  pub body : ℕ
+  pub comes : Counts → Bool
+  pub entry : (ℕ → ℕ) → Entry
+
+abbrev pub kindRow : ℕ → (Counts → Bool) → ((ℕ → ℕ) → Entry) → Kind
+kindRow body comes entry = record { body = body; comes = comes; entry = entry }
+
+-- Kinds 0 end, 1 size, 2 weight and box, 3 rounds, 4 one sample, 5 one flow number, 6 one pair's weight. Order: 1, 2, 3, all
+-- samples, then all pair weights or none, then all flow numbers or none, then 0
+unfoldable pub kinds : List Kind
+kinds =
+    kindRow 0 (λ c. weighed c && allOrNone (c .flows) (c .pairs)) (λ b. End)
+    ∷ kindRow 4 (λ c. eqb (c .header) 0) (λ b. Size (fromTwo (b 0) (b 1)) (fromTwo (b 2) (b 3)))
+    ∷ kindRow 4 (λ c. eqb (c .header) 1) (λ b. WeightBox (fromTwo (b 0) (b 1)) (b 2) (b 3))
+    ∷ kindRow 4 (λ c. eqb (c .header) 2) (λ b. RoundLimits (fromTwo (b 0) (b 1)) (fromTwo (b 2) (b 3)))
+    ∷ kindRow 1 (λ c. eqb (c .header) 3 && ltb (c .samples) (c .pixels)) (λ b. Sample (b 0))
+    ∷ kindRow 4 (λ c. weighed c && ltb (c .flows) (c .pairs)) (λ b. Flow (fromFour (b 0) (b 1) (b 2) (b 3)))
+    ∷ kindRow 2 (λ c. sampled c && ltb (c .weights) (c .pairs) && eqb (c .flows) 0) (λ b. PairWeight (fromTwo (b 0) (b 1)))
+    ∷ []
 
 abbrev pub known : ℕ → Bool
-known kind = ltb kind (length bodyLengths)
+known n = ltb n (length kinds)
 
--- the record of a known kind whose body's bytes are b 0, b 1, ..
+-- what kind n fixes; a kind that is not known never comes
+abbrev pub kindAt : ℕ → Kind
+kindAt n = getD kinds n (kindRow 0 (λ _. false) (λ _. End))
+
+abbrev pub bodyLength : ℕ → ℕ
+bodyLength n = kindAt n .body
+
 abbrev pub decoded : ℕ → (ℕ → ℕ) → Entry
-decoded kind b =
-    getD
-    (End
-    ∷ Size (fromTwo (b 0) (b 1)) (fromTwo (b 2) (b 3))
-    ∷ WeightBox (fromTwo (b 0) (b 1)) (b 2) (b 3)
-    ∷ RoundLimits (fromTwo (b 0) (b 1)) (fromTwo (b 2) (b 3))
-    ∷ Sample (b 0)
-    ∷ Flow (fromFour (b 0) (b 1) (b 2) (b 3))
-    ∷ PairWeight (fromTwo (b 0) (b 1))
-    ∷ [])
-    kind
-    End
+decoded n = kindAt n .entry
 
--- ---- The order allowed (SPECIFICATION 5.3)
+-- ---- What has been read
 
 -- terms of this size alone, and terms with this weight and this box
 abbrev pub sized : ℕ → ℕ → Terms
@@ -101,28 +126,19 @@ nothing =
       flow = [];
     }
 
--- Order: 1, 2, 3, all samples, then all pair weights or none, then all flow numbers or none, then 0. So this kind may come
--- where `header` of the records 1, 2, 3, `samples` of all `pixels` samples, and of all `pairs` pairs `weights` weights and
--- `flows` flow numbers have been read
-unfoldable pub allowedAfter : (header samples pixels weights flows pairs kind : ℕ) → Bool
-allowedAfter header samples pixels weights flows pairs kind =
-    let sampled : Bool = eqb header 3 && eqb samples pixels in
-    getD
-    ((sampled && allOrNone weights pairs && allOrNone flows pairs)
-    ∷ eqb header 0
-    ∷ eqb header 1
-    ∷ eqb header 2
-    ∷ (eqb header 3 && ltb samples pixels)
-    ∷ (sampled && allOrNone weights pairs && ltb flows pairs)
-    ∷ (sampled && ltb weights pairs && eqb flows 0)
-    ∷ [])
-    kind
-    false
+abbrev pub countsOf : Progress → Counts
+countsOf p =
+    record {
+      header = p .header;
+      samples = length (p .samples);
+      pixels = pixelsOf (p .terms);
+      weights = length (p .weights);
+      flows = length (p .flow);
+      pairs = pairsOf (p .terms);
+    }
 
 abbrev pub allowed : Progress → ℕ → Bool
-allowed p =
-    allowedAfter (p .header) (length (p .samples)) (pixelsOf (p .terms)) (length (p .weights)) (length (p .flow))
-    (pairsOf (p .terms))
+allowed p n = kindAt n .comes (countsOf p)
 
 -- what has been read once this record has been, too
 abbrev pub absorbed : Progress → Entry → Progress

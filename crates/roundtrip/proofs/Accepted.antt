@@ -23,7 +23,7 @@ use Rattle.lists.specs.Lists.{chain}
 use Rattle.model.specs.Grid.{sizeAllowed, weightAllowed, boxAllowed}
 use Rattle.model.specs.Verdict.{firstRefusal}
 use Rattle.model.specs.Calls.{pixelsOf, pairsOf}
-use Rattle.model.specs.Tape.{known, decoded, encoded, Progress, nothing, allowedAfter, allowed, absorbed, entryRows, Parse, whole, parseFrom, tapeOf}
+use Rattle.model.specs.Tape.{known, decoded, encoded, Progress, nothing, kinds, allowed, absorbed, entryRows, Parse, whole, parseFrom, tapeOf}
 use Rattle.model.proofs.Refusals.{accepted-row}
 use Rattle.model.proofs.Limits.{both-true}
 use Rattle.model.proofs.Accepted.{all-or-none, neither, weight-passes}
@@ -32,6 +32,7 @@ use Rattle.roundtrip.proofs.Digits.{four-fits}
 use Rattle.lists.proofs.Tables.{length-none}
 use Rattle.lists.proofs.Chains.{listed, listed-more, listed-none, Each, each-none, each-more}
 use Rattle.roundtrip.proofs.Turns.{entryAt, nextAt, termsVerdict, Passed, Turn, turn}
+use Rattle.roundtrip.proofs.EachKind.{each-kind}
 use Rattle.roundtrip.proofs.Entries.{take-next}
 
 -- ---- the bytes of what has been read
@@ -270,22 +271,18 @@ module _ (lent : Lent) (p : Progress) (s : Sound lent p) (o : ℕ) where
   -- any record that is allowed
   grown : (kind : ℕ) (b : ℕ → ℕ) → known kind ≡ true → allowed p kind ≡ true → ¬ (kind ≡ 0) →
       firstRefusal (entryRows o lent (decoded kind b)) ≡ Verdict.Accept → ((i : ℕ) → b i < 256) → Grown (decoded kind b)
-  unfolding allowedAfter
-  grown zero b k a z v h = absurd (z refl)
-  grown (suc zero) b k a z v h = grown-size _ _ (eqb-true _ 0 a) v
-  grown (suc (suc zero)) b k a z v h = grown-weight _ _ _ (eqb-true _ 1 a) v
-  grown (suc (suc (suc zero))) b k a z v h = grown-rounds _ _ (eqb-true _ 2 a) v (omega (arith, h 2, h 3))
-  grown (suc (suc (suc (suc zero)))) b k a z v h =
-      let c = both-true (eqb (p .header) 3) _ a in
-      grown-sample (b 0) (eqb-true _ 3 (c .0)) (ltb-true _ _ (c .1))
-  grown (suc (suc (suc (suc (suc zero))))) b k a z v h =
-      let c = behind p _ _ a in
-      grown-flow _ (c .header) (c .samples) (four-fits (h 0) (h 1) (h 2) (h 3))
-  grown (suc (suc (suc (suc (suc (suc zero)))))) b k a z v h =
-      let c = behind p _ _ a in
-      grown-pair-weight _ (c .header) (c .samples) (eqb-true _ 0 (c .flow)) v
-  grown (suc (suc (suc (suc (suc (suc (suc n))))))) b k a z v h =
-      absurd (omega (arith, ltb-true (suc (suc (suc (suc (suc (suc (suc n))))))) 7 k))
+  unfolding kinds
+  grown kind b k a z v h =
+      each-kind
+      (λ n. allowed p n ≡ true → ¬ (n ≡ 0) → firstRefusal (entryRows o lent (decoded n b)) ≡ Verdict.Accept → Grown (decoded n b))
+      (λ a z v. absurd (z refl))
+      (λ a z v. grown-size _ _ (eqb-true _ 0 a) v)
+      (λ a z v. grown-weight _ _ _ (eqb-true _ 1 a) v)
+      (λ a z v. grown-rounds _ _ (eqb-true _ 2 a) v (omega (arith, h 2, h 3)))
+      (λ a z v. let c = both-true (eqb (p .header) 3) _ a in grown-sample (b 0) (eqb-true _ 3 (c .0)) (ltb-true _ _ (c .1)))
+      (λ a z v. let c = behind p _ _ a in grown-flow _ (c .header) (c .samples) (four-fits (h 0) (h 1) (h 2) (h 3)))
+      (λ a z v. let c = behind p _ _ a in grown-pair-weight _ (c .header) (c .samples) (eqb-true _ 0 (c .flow)) v)
+      kind k a z v
 
 -- ---- the whole tape
 
@@ -316,13 +313,14 @@ module _ (tape : List ℕ) (lent : Lent) (byte : (i : ℕ) → getD tape i 0 < 2
         }
 
     all : lent .followed ≡ false → getD tape o 0 ≡ 0 → tape ≡ soFar p ++ encoded End
+    unfolding kinds
     all alone z =
         sym (take-all (nextAt tape o) tape (omega (arith, h .last alone z)))
         ∙ take-next tape o (h .isKnown) (h .inside) (h .fits) byte
         ∙ ap₂ (λ (l : List ℕ) (n : ℕ). l ++ encoded (decoded n (λ i. getD tape (o + 1 + i) 0))) (g .bytes) z
 
     ending : lent .followed ≡ false → getD tape o 0 ≡ 0 → Job p
-    unfolding allowedAfter soFar headerBytes tapeOf
+    unfolding kinds soFar headerBytes tapeOf
     ending alone z =
         let b = behind p _ _ (subst (λ (n : ℕ). allowed p n ≡ true) z (h .isAllowed)) in
         record {

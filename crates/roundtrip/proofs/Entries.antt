@@ -2,36 +2,36 @@
 use mathlib.Core.Path.{_≡_, refl, sym, ap, ap₂, _∙_, fun-ext}
 use mathlib.Core.Bool.{true}
 use mathlib.Core.List.{List, [], _∷_, _++_}
-use Prim.Native.Nat.{ℕ, zero, suc, _+_, _≤_, _<_}
+use Prim.Native.Nat.{ℕ, suc, _+_, _≤_, _<_}
 use native.Mathlib.Numerals.{add-one}
 use native.Mathlib.Omega.{arith}
 use lib.ListN.{length, getD, take, drop}
 use lib.Seq.{drop-cons, take-add, getD-drop}
 use mir.Syntax.{w32}
 use mir.Val.{SFits}
-use borrow.Author.Tests.{ltb-true}
 use Rattle.model.specs.declared.Entry.{Entry}
 use Rattle.model.specs.declared.Entry.the-variants.{End, Size, WeightBox, RoundLimits, Sample, Flow, PairWeight}
 use Rattle.lists.specs.Lists.{table}
-use Rattle.model.specs.Tape.{known, bodyLength, decoded, encoded}
+use Rattle.model.specs.Tape.{kinds, known, bodyLength, decoded, encoded}
 use Rattle.roundtrip.proofs.Digits.{two-there, two-back, four-there, four-back}
 use Rattle.lists.proofs.Parts.{part-table}
+use Rattle.roundtrip.proofs.EachKind.{each-kind}
 use Rattle.roundtrip.proofs.Turns.{entryAt, nextAt}
 
 -- the bytes of the record that was read are those that it was read from
 pub encoded-decoded : (kind : ℕ) (b : ℕ → ℕ) → known kind ≡ true → ((i : ℕ) → b i < 256) →
     encoded (decoded kind b) ≡ kind ∷ table (bodyLength kind) b
-unfolding table
-encoded-decoded zero b k h = refl
-encoded-decoded (suc zero) b k h = ap₂ (λ (x y : List ℕ). 1 ∷ x ++ y) (two-back (h 0) (h 1)) (two-back (h 2) (h 3))
-encoded-decoded (suc (suc zero)) b k h = ap (λ (x : List ℕ). 2 ∷ x ++ (b 2 ∷ b 3 ∷ [])) (two-back (h 0) (h 1))
-encoded-decoded (suc (suc (suc zero))) b k h =
-    ap₂ (λ (x y : List ℕ). 3 ∷ x ++ y) (two-back (h 0) (h 1)) (two-back (h 2) (h 3))
-encoded-decoded (suc (suc (suc (suc zero)))) b k h = refl
-encoded-decoded (suc (suc (suc (suc (suc zero))))) b k h = ap (λ (x : List ℕ). 5 ∷ x) (four-back (h 0) (h 1) (h 2) (h 3))
-encoded-decoded (suc (suc (suc (suc (suc (suc zero)))))) b k h = ap (λ (x : List ℕ). 6 ∷ x) (two-back (h 0) (h 1))
-encoded-decoded (suc (suc (suc (suc (suc (suc (suc n))))))) b k h =
-    absurd (omega (arith, ltb-true (suc (suc (suc (suc (suc (suc (suc n))))))) 7 k))
+unfolding table kinds
+encoded-decoded kind b k h =
+    each-kind (λ n. encoded (decoded n b) ≡ n ∷ table (bodyLength n) b)
+    refl
+    (ap₂ (λ (x y : List ℕ). 1 ∷ x ++ y) (two-back (h 0) (h 1)) (two-back (h 2) (h 3)))
+    (ap (λ (x : List ℕ). 2 ∷ x ++ (b 2 ∷ b 3 ∷ [])) (two-back (h 0) (h 1)))
+    (ap₂ (λ (x y : List ℕ). 3 ∷ x ++ y) (two-back (h 0) (h 1)) (two-back (h 2) (h 3)))
+    refl
+    (ap (λ (x : List ℕ). 5 ∷ x) (four-back (h 0) (h 1) (h 2) (h 3)))
+    (ap (λ (x : List ℕ). 6 ∷ x) (two-back (h 0) (h 1)))
+    kind k
 
 -- numbers that their bytes hold
 abbrev pub Ranged : Entry → Type 0
@@ -46,6 +46,7 @@ Ranged (PairWeight w) = w < 65536
 -- the record that is read from a record's bytes is that record
 decoded-encoded : (e : Entry) (rest : List ℕ) → Ranged e →
     decoded (getD (encoded e ++ rest) 0 0) (λ i. getD (encoded e ++ rest) (1 + i) 0) ≡ e
+unfolding kinds
 decoded-encoded End rest r = refl
 decoded-encoded (Size w h) rest r = ap₂ Size (two-there w (r .0)) (two-there h (r .1))
 decoded-encoded (WeightBox weight low high) rest r = ap (λ (n : ℕ). WeightBox n low high) (two-there weight r)

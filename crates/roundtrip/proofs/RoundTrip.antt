@@ -21,7 +21,7 @@ use Rattle.lists.specs.Lists.{at, overwritten}
 use Rattle.lists.proofs.Placed.{take-overwritten}
 use Rattle.model.specs.Grid.{weightOf}
 use Rattle.model.specs.Calls.{pixelsOf, pairsOf, allOrNone, firstBeyond}
-use Rattle.model.specs.Tape.{Progress, nothing, allowedAfter, Parse, whole, parseFrom, ReadAnswer, readAnswer, readSamples, readWeights, readFlow, tapeOf, WriteAnswer, writeAnswer, writeOutput, lentBy}
+use Rattle.model.specs.Tape.{Progress, nothing, kinds, Parse, whole, parseFrom, ReadAnswer, readAnswer, readSamples, readWeights, readFlow, tapeOf, WriteAnswer, writeAnswer, writeOutput, lentBy}
 use Rattle.model.proofs.Refusals.{accepted, passed}
 use Rattle.model.specs.Accepted.{JobAllowed, ReadAllowed}
 use Rattle.model.proofs.Accepted.{all-or-none, terms-pass, rounds-pass, weight-passes, flow-passes, write-accepted}
@@ -53,7 +53,7 @@ module _ (t : Terms) (r : Rounds) (s : List ℕ) (w f : List ℤ) (job : JobAllo
   from k o p = parseFrom k tape lent o p
 
   header-read : (k : ℕ) → from (suc (suc (suc k))) 0 nothing ≡ from k 15 (after [] [] [])
-  unfolding allowedAfter
+  unfolding kinds
   header-read k =
       let here = header-here t r s w f in
       let terms = terms-pass t 0 .1 (job .terms) in
@@ -70,7 +70,7 @@ module _ (t : Terms) (r : Rounds) (s : List ℕ) (w f : List ℤ) (job : JobAllo
 
   sample-passes : (i : ℕ) → i < length s →
       Passes tape lent Sample 2 (λ codes. after codes [] []) (15 + i * 2) (take i s) (getD s i 0)
-  unfolding allowedAfter
+  unfolding kinds
   sample-passes i l =
       record {
         here = sample-here t r s w f i l;
@@ -95,7 +95,7 @@ module _ (t : Terms) (r : Rounds) (s : List ℕ) (w f : List ℤ) (job : JobAllo
 
   own-passes : (j : ℕ) → j < length w →
       Passes tape lent (λ z. PairWeight (natAbs z)) 3 (λ own. after s own []) (15 + length s * 2 + j * 3) (take j w) (at w j)
-  unfolding allowedAfter
+  unfolding kinds
   own-passes j l =
       let range = job .pair-weights .range j l in
       let most : natAbs (at w j) ≤ 65280 = natAbs-upto (range .0) (range .1) in
@@ -114,7 +114,7 @@ module _ (t : Terms) (r : Rounds) (s : List ℕ) (w f : List ℤ) (job : JobAllo
 
   number-passes : (j : ℕ) → j < length f →
       Passes tape lent Flow 5 (after s w) (15 + length s * 2 + length w * 3 + j * 5) (take j f) (at f j)
-  unfolding allowedAfter
+  unfolding kinds
   number-passes j l =
       record {
         here = flow-here t r s w f j l;
@@ -129,7 +129,7 @@ module _ (t : Terms) (r : Rounds) (s : List ℕ) (w f : List ℤ) (job : JobAllo
       }
 
   end-read : (k : ℕ) → from (suc k) (15 + length s * 2 + length w * 3 + length f * 5) (after s w f) ≡ whole (after s w f)
-  unfolding allowedAfter
+  unfolding kinds
   end-read k =
       walk-end tape lent k (15 + length s * 2 + length w * 3 + length f * 5) (after s w f) End [] (end-here t r s w f)
       (ap₂ _&&_ (ap₂ _&&_ all-sampled all-weighed) (all-or-none (length f) (pairsOf t) .1 (job .flow-length))) accepted tt refl refl

@@ -12,7 +12,7 @@ use Rattle.model.specs.declared.Verdict.{Verdict}
 use Rattle.model.specs.declared.Entry.{Entry}
 use Rattle.model.specs.declared.Entry.the-variants.{End, Size, WeightBox, RoundLimits, Sample, Flow, PairWeight}
 use Rattle.model.specs.Verdict.{firstRefusal}
-use Rattle.model.specs.Tape.{known, bodyLength, encoded, Progress, allowed, absorbed, recordRows, entryRows, Parse, whole, parseFrom}
+use Rattle.model.specs.Tape.{kinds, known, bodyLength, encoded, Progress, allowed, absorbed, recordRows, entryRows, Parse, whole, parseFrom}
 use Rattle.model.proofs.Refusals.{accepted, passed}
 use Rattle.model.specs.declared.Lent.{Lent}
 use Rattle.roundtrip.proofs.Turns.{nextAt, termsVerdict, Passed, unrolled-on, unrolled-end}
@@ -35,6 +35,7 @@ record-passes followed tape o may h =
     after false (suc k) l = ap (λ (t : Bool). t && ltb (o + 1) (length tape)) (ne-eqb (suc k) 0 (λ z. absurd (omega arith)))
 
 encoded-size : (e : Entry) → length (encoded e) ≡ suc (bodyLength (kindOf e))
+unfolding kinds
 encoded-size End = refl
 encoded-size (Size w h) = refl
 encoded-size (WeightBox weight low high) = refl
@@ -44,6 +45,7 @@ encoded-size (Flow f) = refl
 encoded-size (PairWeight w) = refl
 
 kind-known : (e : Entry) → known (kindOf e) ≡ true
+unfolding kinds
 kind-known End = refl
 kind-known (Size w h) = refl
 kind-known (WeightBox weight low high) = refl
@@ -66,6 +68,7 @@ module _ (tape : List ℕ) (lent : Lent) (k o : ℕ) (p : Progress) (e : Entry) 
   fills = omega (arith, length-drop o tape, ap length here, length-append (encoded e) rest, encoded-size e)
 
   passes : (kindOf e ≡ 0 → length rest ≡ 0) → Passed (lent .followed) tape o (allowed p)
+  unfolding kinds
   passes last =
       record {
         inside = omega (arith, fills, encoded-size e);

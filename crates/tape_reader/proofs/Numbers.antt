@@ -15,7 +15,7 @@ use Rattle.model.specs.declared.Entry.the-variants.{Sample, Flow, PairWeight}
 use Rattle.lists.specs.Lists.{at, table, firstWhere}
 use Rattle.model.specs.Grid.{weightOf}
 use Rattle.model.specs.Calls.{firstBeyond}
-use Rattle.model.specs.Tape.{decoded, encoded, Progress, tapeOf}
+use Rattle.model.specs.Tape.{kinds, decoded, encoded, Progress, tapeOf}
 use Rattle.lists.proofs.Tables.{getD-inside, table-list}
 use Rattle.lists.proofs.First.{firstWhere-cong}
 use Rattle.model.proofs.Accepted.{no-longer}
@@ -63,6 +63,7 @@ module _ (tape : List ℕ) (lent : Lent) (byte : (i : ℕ) → getD tape i 0 < 2
   first-byte i = ap (λ (n : ℕ). getD tape n 0) (omega arith)
 
   code-is : (i : ℕ) → i < length (p .samples) → codeOn tape i ≡ getD (p .samples) i 0
+  unfolding kinds
   code-is i h =
       let o : ℕ = 15 + 2 * i in
       let e =
@@ -72,6 +73,7 @@ module _ (tape : List ℕ) (lent : Lent) (byte : (i : ℕ) → getD tape i 0 < 2
       cc
 
   weight-is : (i : ℕ) → i < length (p .weights) → weightOn tape (length (p .samples)) i ≡ natAbs (at (p .weights) i)
+  unfolding kinds
   weight-is i h =
       let o : ℕ = 15 + 2 * length (p .samples) + 3 * i in
       let limits = j .sound .pairWeights i h in
@@ -83,6 +85,7 @@ module _ (tape : List ℕ) (lent : Lent) (byte : (i : ℕ) → getD tape i 0 < 2
       cc
 
   number-is : (i : ℕ) → i < length (p .flow) → numberOn tape (length (p .samples)) (length (p .weights)) i ≡ at (p .flow) i
+  unfolding kinds
   number-is i h =
       let o : ℕ = 15 + 2 * length (p .samples) + 3 * length (p .weights) + 5 * i in
       let e =

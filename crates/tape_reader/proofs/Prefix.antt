@@ -14,31 +14,37 @@ use Rattle.model.specs.declared.Entry.{Entry}
 use Rattle.model.specs.declared.Entry.the-variants.{End, Size, WeightBox, RoundLimits, Sample, Flow, PairWeight}
 use Rattle.model.specs.Verdict.{firstRefusal, decided}
 use Rattle.model.specs.declared.Lent.{Lent}
-use Rattle.model.specs.Tape.{known, bodyLength, decoded, bodyRows, recordRows, entryRows, tooShort}
+use Rattle.model.specs.Tape.{kinds, known, bodyLength, decoded, bodyRows, recordRows, entryRows, tooShort}
 use Rattle.model.proofs.Refusals.{accepted, refused, passed}
 use Rattle.tape_records.specs.declared.state.ParserState.{ParserState}
 use Rattle.tape_records.specs.declared.parse.RecordResult.{RecordResult}
 use Rattle.tape_records.specs.State.{may}
 use Rattle.tape_records.specs.Record.{recordAt, resultAt}
 use Rattle.tape_records.proofs.Rows.{known-kind}
+use Rattle.roundtrip.proofs.EachKind.{each-kind}
 use Rattle.roundtrip.proofs.Turns.{entryAt, nextAt, termsVerdict, Passed, passed-record}
 use Rattle.roundtrip.proofs.Walk.{record-passes}
 use Rattle.tape_reader.specs.Scan.{lentFor}
 
 -- a record's numbers are those of its body's bytes
-decoded-cong : (kind : ℕ) (b c : ℕ → ℕ) → ((i : ℕ) → i < bodyLength kind → b i ≡ c i) → decoded kind b ≡ decoded kind c
-decoded-cong zero b c e = refl
-decoded-cong (suc zero) b c e =
-    let e₀ = e 0 (omega arith) in let e₁ = e 1 (omega arith) in let e₂ = e 2 (omega arith) in let e₃ = e 3 (omega arith) in cc
-decoded-cong (suc (suc zero)) b c e =
-    let e₀ = e 0 (omega arith) in let e₁ = e 1 (omega arith) in let e₂ = e 2 (omega arith) in let e₃ = e 3 (omega arith) in cc
-decoded-cong (suc (suc (suc zero))) b c e =
-    let e₀ = e 0 (omega arith) in let e₁ = e 1 (omega arith) in let e₂ = e 2 (omega arith) in let e₃ = e 3 (omega arith) in cc
-decoded-cong (suc (suc (suc (suc zero)))) b c e = ap Sample (e 0 (omega arith))
-decoded-cong (suc (suc (suc (suc (suc zero))))) b c e =
-    let e₀ = e 0 (omega arith) in let e₁ = e 1 (omega arith) in let e₂ = e 2 (omega arith) in let e₃ = e 3 (omega arith) in cc
-decoded-cong (suc (suc (suc (suc (suc (suc zero)))))) b c e = let e₀ = e 0 (omega arith) in let e₁ = e 1 (omega arith) in cc
-decoded-cong (suc (suc (suc (suc (suc (suc (suc n))))))) b c e = refl
+module _ (b c : ℕ → ℕ) where
+  abbrev AlikeBelow : ℕ → Type 0
+  AlikeBelow n = (i : ℕ) → i < n → b i ≡ c i
+
+  below-four : AlikeBelow 4 → (b 0 ≡ c 0) × (b 1 ≡ c 1) × (b 2 ≡ c 2) × (b 3 ≡ c 3)
+  below-four e = (e 0 (omega arith), e 1 (omega arith), e 2 (omega arith), e 3 (omega arith))
+
+  decoded-cong : (kind : ℕ) → known kind ≡ true → AlikeBelow (bodyLength kind) → decoded kind b ≡ decoded kind c
+  unfolding kinds
+  decoded-cong =
+      each-kind (λ n. AlikeBelow (bodyLength n) → decoded n b ≡ decoded n c)
+      (λ e. refl)
+      (λ e. let (e₀, e₁, e₂, e₃) = below-four e in cc)
+      (λ e. let (e₀, e₁, e₂, e₃) = below-four e in cc)
+      (λ e. let (e₀, e₁, e₂, e₃) = below-four e in cc)
+      (λ e. ap Sample (e 0 (omega arith)))
+      (λ e. let (e₀, e₁, e₂, e₃) = below-four e in cc)
+      (λ e. let e₀ = e 0 (omega arith) in let e₁ = e 1 (omega arith) in cc)
 
 -- the rows of its terms ask only how long the buffers are
 terms-alike : (o : ℕ) (lent : Lent) (f : Bool) (e : Entry) → firstRefusal (entryRows o (lentFor lent f) e) ≡ firstRefusal (entryRows o lent e)
@@ -63,10 +69,10 @@ module _ (tape other : List ℕ) (o : ℕ) (same : take (nextAt tape o) other �
   pub next-alike : nextAt other o ≡ nextAt tape o
   next-alike = ap (λ (kind : ℕ). o + 1 + bodyLength kind) kind-alike
 
-  pub entry-alike : entryAt other o ≡ entryAt tape o
-  entry-alike =
+  pub entry-alike : known (getD tape o 0) ≡ true → entryAt other o ≡ entryAt tape o
+  entry-alike k =
       ap (λ (kind : ℕ). decoded kind (λ i. getD other (o + 1 + i) 0)) kind-alike
-      ∙ decoded-cong (getD tape o 0) _ _ (λ i h. byte-alike (o + 1 + i) (omega arith))
+      ∙ decoded-cong _ _ (getD tape o 0) k (λ i h. byte-alike (o + 1 + i) (omega arith))
 
   pub passed-alike : {f g : Bool} {may : ℕ → Bool} → Passed f tape o may → nextAt tape o ≤ length other →
       (g ≡ false → getD tape o 0 ≡ 0 → length other ≤ o + 1) → Passed g other o may
@@ -79,8 +85,8 @@ module _ (tape other : List ℕ) (o : ℕ) (same : take (nextAt tape o) other �
         last = λ z k. last z (sym kind-alike ∙ k);
       }
 
-  pub verdict-alike : (lent : Lent) (f : Bool) → termsVerdict other (lentFor lent f) o ≡ termsVerdict tape lent o
-  verdict-alike lent f = terms-alike o lent f (entryAt other o) ∙ ap (λ (e : Entry). firstRefusal (entryRows o lent e)) entry-alike
+  pub verdict-alike : known (getD tape o 0) ≡ true → (lent : Lent) (f : Bool) → termsVerdict other (lentFor lent f) o ≡ termsVerdict tape lent o
+  verdict-alike k lent f = terms-alike o lent f (entryAt other o) ∙ ap (λ (e : Entry). firstRefusal (entryRows o lent e)) (entry-alike k)
 
 -- ---- a record that is refused, but not because the input ends there: with more bytes behind it is refused alike
 
@@ -148,7 +154,7 @@ module _ (tape behind : List ℕ) (o : ℕ) (may : ℕ → Bool) where
         by-length false l =
             let h : o < length tape = leb-false (length tape) o l in by-kind h (known (getD tape o 0)) refl
 
--- what is got of a record, whole or refused
+-- what reading a record gives, the record or a refusal
 pub result-alike : (tape behind : List ℕ) (o : ℕ) (t : ParserState) → ((n q : ℕ) → resultAt true tape o t ≡ RecordResult.Refused n q → tooShort n ≡ false) →
     resultAt true (tape ++ behind) o t ≡ resultAt true tape o t
 unfolding resultAt
@@ -177,4 +183,4 @@ result-alike tape behind o t enough = go (firstRefusal (recordRows true tape o (
         by
         (record-passes true (tape ++ behind) o (may t) (passed-alike tape (tape ++ behind) o same h long (λ z k. absurd (true≢false z))))
         e
-        (ap₂ (λ (x : Entry) (i : ℕ). RecordResult.Record x (record { at = i })) (entry-alike tape (tape ++ behind) o same) (next-alike tape (tape ++ behind) o same))
+        (ap₂ (λ (x : Entry) (i : ℕ). RecordResult.Record x (record { at = i })) (entry-alike tape (tape ++ behind) o same (h .isKnown)) (next-alike tape (tape ++ behind) o same))

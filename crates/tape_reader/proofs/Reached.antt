@@ -13,7 +13,7 @@ use Rattle.model.specs.declared.Entry.{Entry}
 use Rattle.model.specs.declared.Entry.the-variants.{End, Size, WeightBox, RoundLimits, Sample, Flow, PairWeight}
 use Rattle.model.specs.Verdict.{firstRefusal}
 use Rattle.model.specs.declared.Lent.{Lent}
-use Rattle.model.specs.Tape.{Progress, nothing, allowed, absorbed, bodyLength, decoded, entryRows, Parse, turned, whole, parseFrom, tooShort}
+use Rattle.model.specs.Tape.{kinds, Progress, nothing, allowed, absorbed, bodyLength, decoded, entryRows, Parse, turned, whole, parseFrom, tooShort}
 use Rattle.model.proofs.Refusals.{accepted}
 use Rattle.tape_records.specs.declared.state.ParserState.{ParserState}
 use Rattle.tape_records.specs.declared.parse.Cursor.{Cursor}
@@ -79,7 +79,7 @@ module _ (tape : List ℕ) (lent : Lent) {t : ParserState} {o : ℕ} (r : Reache
         ∙ take-take o (nextAt tape o) tape (omega arith)
 
     judged : termsVerdict other (lentFor lent f) o ≡ Verdict.Accept
-    judged = verdict-alike tape other o same lent f ∙ v
+    judged = verdict-alike tape other o same (h .isKnown) lent f ∙ v
 
     rows : (f ≡ false → getD tape o 0 ≡ 0 → length other ≤ o + 1) → Passed f other o (allowed p)
     rows last = passed-alike tape other o same h l last
@@ -91,7 +91,7 @@ module _ (tape : List ℕ) (lent : Lent) {t : ParserState} {o : ℕ} (r : Reache
         r .goesOn other (omega arith) before f (suc n) (omega arith)
         ∙ unrolled-on other (lentFor lent f) n o p (record-passes f other o (allowed p) (rows (λ _ y. absurd (z y)))) judged
         (λ y. z (sym (kind-alike tape other o same) ∙ y))
-        ∙ ap₂ (λ (i : ℕ) (e : Entry). parseFrom n other (lentFor lent f) i (absorbed p e)) (next-alike tape other o same) (entry-alike tape other o same)
+        ∙ ap₂ (λ (i : ℕ) (e : Entry). parseFrom n other (lentFor lent f) i (absorbed p e)) (next-alike tape other o same) (entry-alike tape other o same (h .isKnown))
         ∙ enough other (lentFor lent f) n k (nextAt tape o) (absorbed p (entryAt tape o)) l (omega arith) more
 
     reads-end : getD tape o 0 ≡ 0 → (f ≡ false → length other ≤ o + 1) → recordsOf other (lentFor lent f) ≡ whole p
@@ -132,6 +132,7 @@ module _ (tape : List ℕ) (lent : Lent) {t : ParserState} {o : ℕ} (r : Reache
         recordsOf other (lentFor lent f) ≡ whole p
 
   pub finished : Transition.Done ≡ transitionAt tape o t lent → Ended
+  unfolding kinds
   finished e = go (turn tape lent 0 o p) (by-verdict e)
     where
       no-terms : getD tape o 0 ≡ 0 → termsVerdict tape lent o ≡ Verdict.Accept

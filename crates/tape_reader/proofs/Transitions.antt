@@ -3,18 +3,16 @@
 use mathlib.Core.Path.{_≡_, refl, sym, ap, _∙_}
 use mathlib.Core.Bool.{Bool, true, false, cond}
 use mathlib.Core.List.{List, [], _∷_}
-use Prim.Native.Nat.{ℕ, zero, suc, _+_}
-use native.Mathlib.Omega.{arith}
+use Prim.Native.Nat.{ℕ, _+_}
 use lib.Dec.{eqb}
 use lib.IntN.{pos}
-use lib.ListN.{length, getD, length-append}
-use borrow.Author.Tests.{ltb-true}
+use lib.ListN.{getD, length-append}
 use Rattle.model.specs.declared.Verdict.{Verdict}
 use Rattle.model.specs.declared.Entry.{Entry}
 use Rattle.model.specs.declared.Entry.the-variants.{End, Size, WeightBox, RoundLimits, Sample, Flow, PairWeight}
 use Rattle.model.specs.declared.Lent.{Lent}
 use Rattle.model.specs.Verdict.{firstRefusal, decided}
-use Rattle.model.specs.Tape.{known, bodyLengths, decoded, Progress, allowed, absorbed, entryRows}
+use Rattle.model.specs.Tape.{kinds, known, decoded, Progress, allowed, absorbed, entryRows}
 use Rattle.tape_records.specs.declared.state.ParserState.{ParserState}
 use Rattle.tape_records.specs.declared.parse.Cursor.{Cursor}
 use Rattle.tape_records.specs.declared.parse.RecordResult.{RecordResult}
@@ -22,6 +20,7 @@ use Rattle.tape_reader.specs.declared.transition.Transition.{Transition}
 use Rattle.tape_records.specs.State.{stateOf}
 use Rattle.tape_records.specs.Record.{recordAt, resultAt}
 use Rattle.tape_reader.specs.Transition.{advanced, continued, judgedEntry, transitionOn, transitionAt}
+use Rattle.roundtrip.proofs.EachKind.{each-kind}
 use Rattle.roundtrip.proofs.Turns.{entryAt, nextAt, termsVerdict, recordVerdict, verdict, passed-record}
 
 -- what the verdict on a record's terms gives
@@ -42,15 +41,11 @@ advanced-absorbed p (PairWeight w) = rw (length-append (p .weights) (pos w ∷ [
 -- only the end ends
 continued-kind : (t : ParserState) (next : Cursor) (kind : ℕ) (b : ℕ → ℕ) → known kind ≡ true →
     continued t (decoded kind b) next ≡ cond (eqb kind 0) Transition.Done (Transition.More (advanced t (decoded kind b)) next)
-continued-kind t next zero b h = refl
-continued-kind t next (suc zero) b h = refl
-continued-kind t next (suc (suc zero)) b h = refl
-continued-kind t next (suc (suc (suc zero))) b h = refl
-continued-kind t next (suc (suc (suc (suc zero)))) b h = refl
-continued-kind t next (suc (suc (suc (suc (suc zero))))) b h = refl
-continued-kind t next (suc (suc (suc (suc (suc (suc zero)))))) b h = refl
-continued-kind t next (suc (suc (suc (suc (suc (suc (suc k))))))) b h =
-    absurd (omega (arith, ltb-true (suc (suc (suc (suc (suc (suc (suc k))))))) (length bodyLengths) h))
+unfolding kinds
+continued-kind t next kind b h =
+    each-kind
+    (λ n. continued t (decoded n b) next ≡ cond (eqb n 0) Transition.Done (Transition.More (advanced t (decoded n b)) next))
+    refl refl refl refl refl refl refl kind h
 
 module _ (tape : List ℕ) (lent : Lent) (o : ℕ) (p : Progress) where
   abbrev behind : Cursor

@@ -1,10 +1,9 @@
 -- What has been read so far, as the code counts it: the model's progress with a number for each list.
-use mathlib.Core.Bool.{Bool, _&&_}
+use mathlib.Core.Bool.{Bool}
 use Prim.Native.Nat.{ℕ}
-use lib.Dec.{eqb}
 use lib.ListN.{length}
 use Rattle.model.specs.Calls.{pixelsOf, pairsOf}
-use Rattle.model.specs.Tape.{Progress, allowedAfter}
+use Rattle.model.specs.Tape.{Counts, kindAt, Progress}
 use Rattle.tape_records.specs.declared.state.ParserState.{ParserState}
 
 abbrev pub stateOf : Progress → ParserState
@@ -20,10 +19,18 @@ stateOf p =
       flows = length (p .flow);
     }
 
--- the header and all samples have been read
-abbrev pub allSampled : ParserState → Bool
-allSampled t = eqb (t .header) 3 && eqb (t .samples) (t .pixels)
+-- how much has been read
+abbrev pub countsIn : ParserState → Counts
+countsIn t =
+    record {
+      header = t .header;
+      samples = t .samples;
+      pixels = t .pixels;
+      weights = t .weights;
+      flows = t .flows;
+      pairs = t .pairs;
+    }
 
 -- which kinds are allowed next
 abbrev pub may : ParserState → ℕ → Bool
-may t = allowedAfter (t .header) (t .samples) (t .pixels) (t .weights) (t .flows) (t .pairs)
+may t n = kindAt n .comes (countsIn t)

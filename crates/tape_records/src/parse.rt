@@ -10,8 +10,8 @@ ghost use mathlib.Core.Path.{_≡_};
 ghost use Prim.Native.Nat.{_+_, _≤_, _<_};
 ghost use lib.ListN.{length, getD};
 ghost use Rattle.model.specs.Verdict.{firstRefusal};
-ghost use Rattle.model.specs.Tape.{bodyLength, decoded, bodyRows, tooShort};
-ghost use Rattle.tape_records.specs.State.{allSampled, may};
+ghost use Rattle.model.specs.Tape.{sampled, bodyLength, decoded, bodyRows, tooShort};
+ghost use Rattle.tape_records.specs.State.{countsIn, may};
 ghost use Rattle.tape_records.specs.Record.{layoutOf, wholeAt, resultAt};
 
 // What a kind byte gives: the length of the body, and whether the record is allowed here.
@@ -22,7 +22,7 @@ enum Layout {
 
 // Whether the header and all samples have been read.
 fn sampled(s: ParserState) -> bool
-    ensures { λ r. ⌜ r ≡ allSampled s ⌝ }
+    ensures { λ r. ⌜ r ≡ sampled (countsIn s) ⌝ }
 {
     (s.header == 3) & (s.samples == s.pixels)
 }

@@ -6,7 +6,7 @@ use native.Mathlib.Omega.{arith}
 use borrow.Author.Needs.{needs}
 use borrow.Author.Tests.{le-ltb}
 use lib.ListN.{length}
-use Rattle.model.specs.Tape.{allowedAfter, bodyLengths, bodyLength}
+use Rattle.model.specs.Tape.{kinds, bodyLength}
 use Rattle.tape_records.specs.declared.parse.Layout.{Layout}
 use Rattle.tape_records.specs.declared.state.ParserState.{ParserState}
 use Rattle.tape_records.specs.State.{may}
@@ -26,37 +26,37 @@ by-tests : {body : ℕ} {a a' b b' c c' : Bool} → a ≡ a' → b ≡ b' → c 
 by-tests {body} e f g = ap₂ (λ (x y : Bool). Layout.Body body (x && y)) (ap₂ _&&_ e f) g
 
 returns : tie.Need-returns
-unfolding allowedAfter
+unfolding kinds
 returns c =
     let kind = c .before .before .before in
     by-tests (c .before .before .sampled .ensures) (c .before .all-or-none .ensures) (c .all-or-none2 .ensures)
     ∙ at-kind (state (kind .before)) (kind .match .keys1)
 
 returns-2 : tie.Need-returns-2
-unfolding allowedAfter
+unfolding kinds
 returns-2 c = at-kind (state (c .before .before)) (c .before .match .keys2)
 
 returns-3 : tie.Need-returns-3
-unfolding allowedAfter
+unfolding kinds
 returns-3 c = at-kind (state (c .before .before)) (c .before .match .keys3)
 
 returns-4 : tie.Need-returns-4
-unfolding allowedAfter
+unfolding kinds
 returns-4 c = at-kind (state (c .before .before)) (c .before .match .keys4)
 
 returns-5 : tie.Need-returns-5
-unfolding allowedAfter
+unfolding kinds
 returns-5 c = at-kind (state (c .before .before .before)) (c .before .before .match .keys5)
 
 returns-6 : tie.Need-returns-6
-unfolding allowedAfter
+unfolding kinds
 returns-6 c =
     let kind = c .before .before .before in
     by-tests (c .before .before .sampled2 .ensures) (c .before .all-or-none3 .ensures) refl
     ∙ at-kind (state (kind .before)) (kind .match .keys6)
 
 returns-7 : tie.Need-returns-7
-unfolding allowedAfter
+unfolding kinds
 returns-7 c =
     let kind = c .before .before .before in
     by-tests (c .before .before .sampled3 .ensures) refl refl
@@ -67,14 +67,15 @@ above : {k n : ℕ} → n ≤ k → ¬ (k ≡ n) → suc n ≤ k
 above h e = omega (arith, e)
 
 returns-8 : tie.Need-returns-8
+unfolding kinds
 returns-8 c =
     let k : ℕ = c .before .args .kind in
     let r = c .match .rest in
     let h₃ : 3 ≤ k = above (above (above zero-le (r .0 .0 .0 .0 .0 .0 .1)) (r .0 .0 .0 .0 .0 .1)) (r .0 .0 .0 .0 .1) in
-    let h₇ : length bodyLengths ≤ k = above (above (above (above h₃ (r .0 .0 .0 .1)) (r .0 .0 .1)) (r .0 .1)) (r .1) in
+    let h₇ : length kinds ≤ k = above (above (above (above h₃ (r .0 .0 .0 .1)) (r .0 .0 .1)) (r .0 .1)) (r .1) in
     sym
     (ap (λ (t : Bool). cond t (Layout.Body (bodyLength k) (may (state (c .before)) k)) Layout.Unknown)
-    (le-ltb k (length bodyLengths) h₇))
+    (le-ltb k (length kinds) h₇))
 
 pub layout-of-spec : {M : Type 1} → statement M
 layout-of-spec =
