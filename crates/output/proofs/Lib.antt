@@ -1,2 +1,2 @@
--- The laws of bytes laid one behind the other.
-pub mod Laid
+-- The laws of bytes written one behind the other.
+pub mod Puts

@@ -1,2 +1,2 @@
--- What the contracts cite: bytes laid into a buffer at an offset.
+-- What the contracts cite: bytes written into a buffer at an offset.
 pub mod Put

@@ -1,5 +1,5 @@
-// Bytes laid into a lent buffer, one behind the other. Each function gives the offset behind what
-// it laid.
+// Bytes written into a lent buffer, one behind the other. Each function gives the offset behind what
+// it wrote.
 
 ghost use mathlib.Core.List.{[], _∷_};
 ghost use Prim.Native.Nat.{_+_, _≤_};

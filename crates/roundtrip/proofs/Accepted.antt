@@ -341,10 +341,10 @@ module _ (tape : List ℕ) (lent : Lent) (byte : (i : ℕ) → getD tape i 0 < 2
               (b .header);
         }
 
-  laid : lent .followed ≡ false → (k o : ℕ) (p q : Progress) → Good o p → parseFrom k tape lent o p ≡ whole q → Job q
+  job-from : lent .followed ≡ false → (k o : ℕ) (p q : Progress) → Good o p → parseFrom k tape lent o p ≡ whole q → Job q
   unfolding parseFrom
-  laid alone zero o p q g e = let z : _≡_ {A = ℕ} 0 1 = cc in absurd (omega arith)
-  laid alone (suc k) o p q g e = go (turn tape lent k o p) e (laid alone k)
+  job-from alone zero o p q g e = let z : _≡_ {A = ℕ} 0 1 = cc in absurd (omega arith)
+  job-from alone (suc k) o p q g e = go (turn tape lent k o p) e (job-from alone k)
     where
       go : {v : Verdict} {end : Bool} {r : Parse} → Turn tape lent k o p v end r → r ≡ whole q →
           ((o : ℕ) (p q : Progress) → Good o p → parseFrom k tape lent o p ≡ whole q → Job q) → Job q
@@ -354,7 +354,7 @@ module _ (tape : List ℕ) (lent : Lent) (byte : (i : ℕ) → getD tape i 0 < 2
 
   pub accepted-job : lent .followed ≡ false → (q : Progress) → parseFrom (suc (length tape)) tape lent 0 nothing ≡ whole q → Job q
   unfolding soFar headerBytes chain
-  accepted-job alone q e = laid alone (suc (length tape)) 0 nothing q (record { bytes = refl; sound = start }) e
+  accepted-job alone q e = job-from alone (suc (length tape)) 0 nothing q (record { bytes = refl; sound = start }) e
     where
       start : Sound lent nothing
       start =

@@ -14,7 +14,7 @@ use Rattle.model.specs.Tape.{encoded, tapeOf}
 use Rattle.lists.proofs.Chains.{length-chain}
 use Rattle.lists.proofs.Placed.{placed-front}
 use Rattle.output.specs.Put.{Put}
-use Rattle.output.proofs.Laid.{put-length, put-then, chain-start, chain-next}
+use Rattle.output.proofs.Puts.{put-length, put-then, chain-start, chain-next}
 use Rattle.roundtrip.proofs.Offsets as Offsets
 
 -- n records of k bytes each, which a loop writes from offset o on
@@ -79,5 +79,5 @@ module _ (t : Terms) (r : Rounds) (s : List ℕ) (w f : List ℤ) where
       let put : Put 0 (four ++ encoded End) buffer n left =
       put-then (put-then (put-then (put-then a b (omega arith)) c (omega arith)) d (omega arith)) e (omega arith) in (
         put .behind ∙ zero-add (length (four ++ encoded End)),
-        put .laid ∙ placed-front buffer (four ++ encoded End),
+        put .filled ∙ placed-front buffer (four ++ encoded End),
       )

@@ -16,7 +16,7 @@ same-length : tie.Need-same-length
 same-length c = search needs
 
 returns : tie.Need-returns
-returns c = record { behind = refl; laid = placed-one (c .args .output .now) (c .args .o) (c .args .byte) (omega arith) }
+returns c = record { behind = refl; filled = placed-one (c .args .output .now) (c .args .o) (c .args .byte) (omega arith) }
 
 pub put-byte-spec : {M : Type 1} → statement M
 put-byte-spec = tie.close (tie.spec slice-write-output add-result same-length returns)

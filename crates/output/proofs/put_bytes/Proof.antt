@@ -1,4 +1,4 @@
--- `output::put_bytes` meets its contract. The loop's invariant: the first `i` bytes have been laid. Assumes nothing.
+-- `output::put_bytes` meets its contract. The loop's invariant: the first `i` bytes have been written. Assumes nothing.
 use mathlib.Core.Path.{_≡_, sym, subst, ap, _∙_}
 use mathlib.Core.List.{List}
 use Prim.Native.Nat.{ℕ, _+_, _-_, _≤_, _<_, zero-le}
@@ -7,7 +7,7 @@ use native.Mathlib.Numerals.{add-one}
 use lib.ListN.{length, take}
 use lib.Seq.{length-take-le, take-suc, take-length}
 use Rattle.output.specs.Put.{Put}
-use Rattle.output.proofs.Laid.{put-none, put-length, put-then}
+use Rattle.output.proofs.Puts.{put-none, put-length, put-then}
 use Rattle.output.proofs.put_bytes.Statement.{statement}
 use Rattle.output.proofs.put_bytes.Tie as tie
 
@@ -20,16 +20,16 @@ abbrev μ-loop : tie.MeasureT-loop
 loop-holds : tie.Need-loop-holds Inv-loop μ-loop
 loop-holds c = (zero-le, put-none _ _)
 
--- how much has been laid, and that the buffer keeps its length
-laid : (c : tie.At-loop Inv-loop μ-loop) → let a = c .before .before .before .args in
+-- how much has been written, and that the buffer keeps its length
+written : (c : tie.At-loop Inv-loop μ-loop) → let a = c .before .before .before .args in
     (c .loop .next ≡ a .o + c .loop .i) × (length (c .loop .output) ≡ length (a .output .now))
-laid c =
+written c =
     let a = c .before .before .before .args in
     let n : length (take (c .loop .i) (a .bytes .now)) ≡ c .loop .i = length-take-le (c .loop .i) (a .bytes .now) (c .loop .inv .0) in
     (omega (arith, c .loop .inv .1 .behind), put-length (c .loop .inv .1) (omega (arith, c .loop .inv .0, c .before .before .before .pre)))
 
 put-byte-requires : tie.Need-put-byte-requires Inv-loop μ-loop
-put-byte-requires c κs = omega (arith, laid (c .before .before .before), c .before .before .before .before .before .before .pre, c .before .before .loop-test .taken)
+put-byte-requires c κs = omega (arith, written (c .before .before .before), c .before .before .before .before .before .before .pre, c .before .before .loop-test .taken)
 
 loop-less : tie.Need-loop-less Inv-loop μ-loop
 loop-less c = omega arith
@@ -49,7 +49,7 @@ loop-again c =
     )
 
 same-length : tie.Need-same-length Inv-loop μ-loop
-same-length c = laid (c .before) .1
+same-length c = written (c .before) .1
 
 returns : tie.Need-returns Inv-loop μ-loop
 returns c =

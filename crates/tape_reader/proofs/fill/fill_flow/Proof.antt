@@ -1,4 +1,4 @@
--- `tape_reader::fill::fill_flow` meets its contract. The loop's invariant: the first `j` numbers have been laid down.
+-- `tape_reader::fill::fill_flow` meets its contract. The loop's invariant: the first `j` numbers have been filled in.
 -- Assumes nothing.
 use mathlib.Core.Path.{_≡_, _∙_}
 use mathlib.Core.List.{List}

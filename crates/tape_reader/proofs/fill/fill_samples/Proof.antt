@@ -1,4 +1,4 @@
--- `tape_reader::fill::fill_samples` meets its contract. The loop's invariant: the first `i` samples have been laid down.
+-- `tape_reader::fill::fill_samples` meets its contract. The loop's invariant: the first `i` samples have been filled in.
 -- Assumes nothing.
 use mathlib.Core.Path.{_≡_, refl}
 use mathlib.Core.List.{List}

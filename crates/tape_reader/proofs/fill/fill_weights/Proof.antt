@@ -1,4 +1,4 @@
--- `tape_reader::fill::fill_weights` meets its contract. The loop's invariant: the first `j` weights have been laid down.
+-- `tape_reader::fill::fill_weights` meets its contract. The loop's invariant: the first `j` weights have been filled in.
 -- Assumes nothing.
 use mathlib.Core.Path.{_≡_, ap, _∙_}
 use mathlib.Core.List.{List}

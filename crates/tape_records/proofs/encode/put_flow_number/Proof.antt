@@ -6,7 +6,7 @@ use lib.IntN.{ℤ}
 use mir.Facts.{toZ-ofZ}
 use Rattle.model.specs.Tape.{fourBytes}
 use Rattle.output.specs.Put.{Put}
-use Rattle.output.proofs.Laid.{put-then}
+use Rattle.output.proofs.Puts.{put-then}
 use borrow.Author.Needs.{needs}
 use Rattle.tape_records.proofs.encode.put_flow_number.Statement.{statement}
 use Rattle.tape_records.proofs.encode.put_flow_number.Tie as tie

@@ -7,7 +7,7 @@ use mir.Facts.{toZ-ofZ}
 use Rattle.model.specs.Tape.{byteOf, complement}
 use Rattle.output.specs.Put.{Put}
 use Rattle.roundtrip.proofs.Digits.{four-halves}
-use Rattle.output.proofs.Laid.{put-then}
+use Rattle.output.proofs.Puts.{put-then}
 use borrow.Author.Needs.{needs}
 use Rattle.tape_records.proofs.encode.put_four_bytes.Statement.{statement}
 use Rattle.tape_records.proofs.encode.put_four_bytes.Tie as tie

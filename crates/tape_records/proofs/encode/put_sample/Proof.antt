@@ -1,6 +1,6 @@
 -- `tape_records::encode::put_sample` meets its contract. Assumes nothing.
 use native.Mathlib.Omega.{arith}
-use Rattle.output.proofs.Laid.{put-then}
+use Rattle.output.proofs.Puts.{put-then}
 use borrow.Author.Needs.{needs}
 use Rattle.tape_records.proofs.encode.put_sample.Statement.{statement}
 use Rattle.tape_records.proofs.encode.put_sample.Tie as tie

@@ -3,7 +3,7 @@ use mathlib.Core.Path.{_≡_, subst}
 use mathlib.Core.List.{[], _∷_}
 use Prim.Native.Nat.{ℕ, _/_, _%_}
 use native.Mathlib.Omega.{arith}
-use Rattle.output.proofs.Laid.{put-then}
+use Rattle.output.proofs.Puts.{put-then}
 use Rattle.output.specs.Put.{Put}
 use borrow.Author.Needs.{needs}
 use Rattle.tape_records.proofs.encode.put_two_bytes.Statement.{statement}

@@ -1,6 +1,6 @@
 -- `tape_records::encode::put_weight_box` meets its contract. Assumes nothing.
 use native.Mathlib.Omega.{arith}
-use Rattle.output.proofs.Laid.{put-then}
+use Rattle.output.proofs.Puts.{put-then}
 use borrow.Author.Needs.{needs}
 use Rattle.tape_records.proofs.encode.put_weight_box.Statement.{statement}
 use Rattle.tape_records.proofs.encode.put_weight_box.Tie as tie

@@ -11,7 +11,7 @@ use Rattle.integers.proofs.Machine.{read}
 use Rattle.model.specs.declared.Entry.{Entry}
 use Rattle.lists.specs.Lists.{at}
 use Rattle.model.specs.Tape.{encoded}
-use Rattle.output.proofs.Laid.{put-as}
+use Rattle.output.proofs.Puts.{put-as}
 use Rattle.tape_writer.proofs.Puts.{Written, written-none, written-length, written-room, written-more, written-all}
 use Rattle.tape_writer.proofs.put.put_flow.Statement.{statement}
 use Rattle.tape_writer.proofs.put.put_flow.Tie as tie

@@ -1,6 +1,6 @@
 -- `tape_writer::put::put_header` meets its contract. Assumes nothing.
 use native.Mathlib.Omega.{arith}
-use Rattle.output.proofs.Laid.{put-then}
+use Rattle.output.proofs.Puts.{put-then}
 use borrow.Author.Needs.{needs}
 use Rattle.tape_writer.proofs.put.put_header.Statement.{statement}
 use Rattle.tape_writer.proofs.put.put_header.Tie as tie
