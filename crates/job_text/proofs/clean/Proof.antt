@@ -8,7 +8,7 @@ use lib.ListN.{length, getD, take}
 use lib.Seq.{length-take-le}
 use Rattle.model.specs.Program.{answerText}
 use Rattle.model.specs.Answers.{answerOf}
-use Rattle.output.proofs.Laid.{put-as}
+use Rattle.output.proofs.Puts.{put-as}
 use Rattle.model.specs.Answers.{readAnswerOf}
 use Rattle.job.specs.Tables.{flowIn, imageIn, workIn}
 use Rattle.job.proofs.Tapes.{Taken, taken, allowed, tables}

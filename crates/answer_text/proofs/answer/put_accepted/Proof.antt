@@ -8,7 +8,7 @@ use mir.Syntax.{w64}
 use mir.ValLaws.{toZ-ofZ}
 use Rattle.model.specs.Text.{ascii}
 use Rattle.model.specs.Program.{numbersText, imageText}
-use Rattle.output.proofs.Laid.{put-as, put-within}
+use Rattle.output.proofs.Puts.{put-as, put-within}
 use borrow.Author.Needs.{needs}
 use Rattle.answer_text.proofs.answer.put_accepted.Statement.{statement}
 use Rattle.answer_text.proofs.answer.put_accepted.Tie as tie

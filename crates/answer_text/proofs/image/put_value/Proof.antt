@@ -12,7 +12,7 @@ use mir.ValLaws.{toZ-ofZ}
 use Rattle.integers.proofs.Machine.{read}
 use Rattle.model.specs.Text.{signedDecimal}
 use Rattle.model.specs.Program.{field}
-use Rattle.output.proofs.Laid.{put-as}
+use Rattle.output.proofs.Puts.{put-as}
 use borrow.Author.Tests.{eq-eqb, ne-eqb}
 use borrow.Author.Needs.{needs}
 use Rattle.answer_text.proofs.image.put_value.Statement.{statement}

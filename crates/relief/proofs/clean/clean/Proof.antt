@@ -1,6 +1,6 @@
 -- `relief::clean::clean` meets its contract. Assumes nothing.
 use native.Mathlib.Omega.{arith}
-use Rattle.output.proofs.Laid.{put-as, put-front}
+use Rattle.output.proofs.Puts.{put-as, put-front}
 use Rattle.relief.proofs.Limits.{too-long, not-too-long}
 use borrow.Author.Needs.{needs}
 use Rattle.relief.proofs.clean.clean.Statement.{statement}

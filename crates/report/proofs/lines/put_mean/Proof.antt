@@ -3,7 +3,7 @@ use mathlib.Core.Path.{_≡_, refl, sym, ap}
 use Prim.Native.Nat.{ℕ, zero, suc, _/_, _%_}
 use Rattle.model.specs.Text.{ascii}
 use Rattle.model.specs.Season.{lineOfTwo, meanLine}
-use Rattle.output.proofs.Laid.{put-as}
+use Rattle.output.proofs.Puts.{put-as}
 use borrow.Author.Needs.{needs}
 use Rattle.report.proofs.lines.put_mean.Statement.{statement}
 use Rattle.report.proofs.lines.put_mean.Tie as tie

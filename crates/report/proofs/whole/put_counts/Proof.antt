@@ -1,7 +1,7 @@
 -- `report::whole::put_counts` meets its contract. Assumes nothing.
 use native.Mathlib.Omega.{arith}
 use Rattle.model.specs.Text.{ascii}
-use Rattle.output.proofs.Laid.{put-within}
+use Rattle.output.proofs.Puts.{put-within}
 use borrow.Author.Needs.{needs}
 use Rattle.report.proofs.whole.put_counts.Statement.{statement}
 use Rattle.report.proofs.whole.put_counts.Tie as tie

@@ -3,7 +3,7 @@ use native.Mathlib.Omega.{arith}
 use mathlib.Core.Path.{sym, ap, _∙_}
 use mathlib.Core.List.{append-nil}
 use Rattle.model.specs.Season.{totalsText, endingText, reportText}
-use Rattle.output.proofs.Laid.{put-as, put-within}
+use Rattle.output.proofs.Puts.{put-as, put-within}
 use borrow.Author.Needs.{needs}
 use Rattle.report.proofs.whole.put_report.Statement.{statement}
 use Rattle.report.proofs.whole.put_report.Tie as tie

@@ -2,7 +2,7 @@
 use native.Mathlib.Omega.{arith}
 use Rattle.model.specs.Text.{ascii}
 use Rattle.model.specs.Season.{totalsText}
-use Rattle.output.proofs.Laid.{put-within}
+use Rattle.output.proofs.Puts.{put-within}
 use borrow.Author.Needs.{needs}
 use Rattle.report.proofs.whole.put_totals.Statement.{statement}
 use Rattle.report.proofs.whole.put_totals.Tie as tie

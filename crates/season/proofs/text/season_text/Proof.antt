@@ -4,7 +4,7 @@ use mathlib.Core.List.{List, _++_}
 use Prim.Native.Nat.{ℕ}
 use lib.ListN.{length}
 use Rattle.lists.specs.Lists.{overwritten}
-use Rattle.output.proofs.Laid.{put-front}
+use Rattle.output.proofs.Puts.{put-front}
 use Rattle.stream.proofs.Reports.{season-text}
 use borrow.Author.Needs.{needs}
 use Rattle.season.proofs.text.season_text.Statement.{statement}

@@ -6,7 +6,7 @@ use mir.Syntax.{w64}
 use mir.ValLaws.{toZ-ofZ}
 use Rattle.model.specs.Text.{ascii}
 use Rattle.model.specs.Program.{numbersText}
-use Rattle.output.proofs.Laid.{put-as, put-within}
+use Rattle.output.proofs.Puts.{put-as, put-within}
 use borrow.Author.Needs.{needs}
 use Rattle.text.proofs.line.put_figures.Statement.{statement}
 use Rattle.text.proofs.line.put_figures.Tie as tie

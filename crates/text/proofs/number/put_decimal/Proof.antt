@@ -3,7 +3,7 @@ use native.Mathlib.Omega.{arith}
 use mathlib.Core.Path.{_≡_, sym, _∙_}
 use Prim.Native.Nat.{ℕ, _≤_}
 use lib.ListN.{length, take}
-use Rattle.output.proofs.Laid.{put-as}
+use Rattle.output.proofs.Puts.{put-as}
 use Rattle.text.proofs.Digits.{digits-decimal, at-most-twenty}
 use borrow.Author.Needs.{needs}
 use Rattle.text.proofs.number.put_decimal.Statement.{statement}

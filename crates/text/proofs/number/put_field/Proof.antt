@@ -1,7 +1,7 @@
 -- `text::number::put_field` meets its contract. Assumes nothing.
 use native.Mathlib.Omega.{arith}
 use Rattle.model.specs.Text.{ascii}
-use Rattle.output.proofs.Laid.{put-within}
+use Rattle.output.proofs.Puts.{put-within}
 use borrow.Author.Needs.{needs}
 use Rattle.text.proofs.number.put_field.Statement.{statement}
 use Rattle.text.proofs.number.put_field.Tie as tie

@@ -10,7 +10,7 @@ use mir.Val.{SFits}
 use mir.ValLaws.{toZ-ofZ}
 use Rattle.integers.proofs.Machine.{<-read, ≥-read, fits}
 use Rattle.model.specs.Text.{decimal}
-use Rattle.output.proofs.Laid.{put-as, put-within}
+use Rattle.output.proofs.Puts.{put-as, put-within}
 use Rattle.text.proofs.Digits.{below-zero, from-zero}
 use borrow.Author.Needs.{needs}
 use Rattle.text.proofs.number.put_signed.Statement.{statement}
