@@ -59,8 +59,8 @@ sampled c = eqb (c .header) 3 && eqb (c .samples) (c .pixels)
 abbrev pub weighed : Counts → Bool
 weighed c = sampled c && allOrNone (c .weights) (c .pairs)
 
--- What a kind of record fixes: the length of its body; where it may come, by what has been read; and the record (`Entry`, declared in
--- src/lib.rt) with its numbers, from the bytes b 0, b 1, .. of the body
+-- What a kind fixes of its records: the length of the body; where they may come, by what has been read; and the record
+-- (`Entry`, declared in src/lib.rt) with its numbers, from the bytes b 0, b 1, .. of the body
 pub record Kind : Type 0 where
   pub body : ℕ
   pub comes : Counts → Bool
@@ -140,63 +140,38 @@ countsOf p =
 abbrev pub allowed : Progress → ℕ → Bool
 allowed p n = kindAt n .comes (countsOf p)
 
+-- with this much of the header, with these numbers
+abbrev pub withHeader : Progress → ℕ → Terms → Rounds → Progress
+withHeader p header terms rounds =
+    record {
+      header = header;
+      terms = terms;
+      rounds = rounds;
+      samples = p .samples;
+      weights = p .weights;
+      flow = p .flow;
+    }
+
+abbrev pub withNumbers : Progress → List ℕ → List ℤ → List ℤ → Progress
+withNumbers p samples weights flow =
+    record {
+      header = p .header;
+      terms = p .terms;
+      rounds = p .rounds;
+      samples = samples;
+      weights = weights;
+      flow = flow;
+    }
+
 -- what has been read once this record has been, too
 abbrev pub absorbed : Progress → Entry → Progress
 absorbed p End = p
-absorbed p (Size w h) =
-    record {
-      header = 1;
-      terms = sized w h;
-      rounds = p .rounds;
-      samples = p .samples;
-      weights = p .weights;
-      flow = p .flow;
-    }
-absorbed p (WeightBox weight low high) =
-    record {
-      header = 2;
-      terms = withBox (p .terms) weight low high;
-      rounds = p .rounds;
-      samples = p .samples;
-      weights = p .weights;
-      flow = p .flow;
-    }
-absorbed p (RoundLimits q a) =
-    record {
-      header = 3;
-      terms = p .terms;
-      rounds = record { quick = q; allowance = a };
-      samples = p .samples;
-      weights = p .weights;
-      flow = p .flow;
-    }
-absorbed p (Sample s) =
-    record {
-      header = p .header;
-      terms = p .terms;
-      rounds = p .rounds;
-      samples = p .samples ++ (s ∷ []);
-      weights = p .weights;
-      flow = p .flow;
-    }
-absorbed p (Flow f) =
-    record {
-      header = p .header;
-      terms = p .terms;
-      rounds = p .rounds;
-      samples = p .samples;
-      weights = p .weights;
-      flow = p .flow ++ (f ∷ []);
-    }
-absorbed p (PairWeight w) =
-    record {
-      header = p .header;
-      terms = p .terms;
-      rounds = p .rounds;
-      samples = p .samples;
-      weights = p .weights ++ (pos w ∷ []);
-      flow = p .flow;
-    }
+absorbed p (Size w h) = withHeader p 1 (sized w h) (p .rounds)
+absorbed p (WeightBox weight low high) = withHeader p 2 (withBox (p .terms) weight low high) (p .rounds)
+absorbed p (RoundLimits q a) = withHeader p 3 (p .terms) (record { quick = q; allowance = a })
+absorbed p (Sample s) = withNumbers p (p .samples ++ (s ∷ [])) (p .weights) (p .flow)
+absorbed p (Flow f) = withNumbers p (p .samples) (p .weights) (p .flow ++ (f ∷ []))
+absorbed p (PairWeight w) = withNumbers p (p .samples) (p .weights ++ (pos w ∷ [])) (p .flow)
 
 -- ---- Where reading turns back (SPECIFICATION 6.5)
 
@@ -269,7 +244,7 @@ parseFrom (suc k) tape lent o p =
     ]
 
 -- The first argument decides nothing: any number over that of the bytes left gives the same (proved: `parse-law`,
--- tape_scan/proofs/Reached.antt)
+-- roundtrip/proofs/Turns.antt)
 abbrev pub ParseLaw : Type 0
 ParseLaw =
     (tape : List ℕ) (lent : Lent) (j k o : ℕ) (p : Progress) →

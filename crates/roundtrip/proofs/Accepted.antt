@@ -23,7 +23,7 @@ use Rattle.lists.specs.Lists.{chain}
 use Rattle.model.specs.Grid.{sizeAllowed, weightAllowed, boxAllowed}
 use Rattle.model.specs.Verdict.{firstRefusal}
 use Rattle.model.specs.Calls.{pixelsOf, pairsOf}
-use Rattle.model.specs.Tape.{known, decoded, encoded, Progress, nothing, kinds, allowed, absorbed, entryRows, Parse, whole, parseFrom, tapeOf}
+use Rattle.model.specs.Tape.{known, decoded, encoded, Progress, nothing, kinds, allowed, absorbed, withNumbers, entryRows, Parse, whole, parseFrom, tapeOf}
 use Rattle.model.proofs.Refusals.{accepted-row}
 use Rattle.model.proofs.Limits.{both-true}
 use Rattle.model.proofs.Accepted.{all-or-none, neither, weight-passes}
@@ -212,20 +212,27 @@ module _ (lent : Lent) (p : Progress) (s : Sound lent p) (o : ℕ) where
         grows (RoundLimits q a) (no-samples (absorbed p (RoundLimits q a)) empty) (header-bytes empty z) refl,
       )
 
+  -- behind the header: terms and rounds stay as they were
+  sound-numbers : (samples : List ℕ) (weights flow : List ℤ) → p .header ≡ 3 →
+      (length samples < pixelsOf (p .terms) → (weights ≡ []) × (flow ≡ [])) →
+      Each WeightLimits (pos 0) weights → Each (SFits w32) (pos 0) flow → Sound lent (withNumbers p samples weights flow)
+  sound-numbers samples weights flow z first limits ranged =
+      record {
+        header = s .header;
+        early = λ m. absurd (omega arith);
+        samplesFirst = first;
+        size = s .size;
+        weight = s .weight;
+        rounds = s .rounds;
+        allowance = s .allowance;
+        pairWeights = limits;
+        ranged = ranged;
+      }
+
   grown-sample : (code : ℕ) → p .header ≡ 3 → length (p .samples) < pixelsOf (p .terms) → Grown (Sample code)
   grown-sample code z l =
       let none = s .samplesFirst l in (
-        record {
-          header = s .header;
-          early = λ m. absurd (omega arith);
-          samplesFirst = λ _. none;
-          size = s .size;
-          weight = s .weight;
-          rounds = s .rounds;
-          allowance = s .allowance;
-          pairWeights = s .pairWeights;
-          ranged = s .ranged;
-        },
+        sound-numbers _ _ _ z (λ _. none) (s .pairWeights) (s .ranged),
         grows (Sample code) (no-weights (absorbed p (Sample code)) none) (no-weights p none)
             (listed-more sampleRecord 0 (upToHeader p) (p .samples) code),
       )
@@ -233,20 +240,10 @@ module _ (lent : Lent) (p : Progress) (s : Sound lent p) (o : ℕ) where
   grown-pair-weight : (w : ℕ) → p .header ≡ 3 → length (p .samples) ≡ pixelsOf (p .terms) → length (p .flow) ≡ 0 →
       firstRefusal (entryRows o lent (PairWeight w)) ≡ Verdict.Accept → Grown (PairWeight w)
   grown-pair-weight w z full none v =
-      let empty = length-none (p .flow) none in (
-        record {
-          header = s .header;
-          early = λ m. absurd (omega arith);
-          samplesFirst = λ m. absurd (omega arith);
-          size = s .size;
-          weight = s .weight;
-          rounds = s .rounds;
-          allowance = s .allowance;
-          pairWeights =
-              each-more WeightLimits (pos 0) (p .weights) (pos w) (s .pairWeights)
-              (0≤pos w, ≤→pos (weight-passes w o .0 (accepted-row _ _ v .0)));
-          ranged = s .ranged;
-        },
+      let empty = length-none (p .flow) none in
+      let limits : WeightLimits (pos w) = (0≤pos w, ≤→pos (weight-passes w o .0 (accepted-row _ _ v .0))) in (
+        sound-numbers _ _ _ z (λ m. absurd (omega arith))
+            (each-more WeightLimits (pos 0) (p .weights) (pos w) (s .pairWeights) limits) (s .ranged),
         grows (PairWeight w) (no-flow (absorbed p (PairWeight w)) empty) (no-flow p empty)
             (listed-more weightRecord (pos 0) (upToSamples p) (p .weights) (pos w)),
       )
@@ -254,17 +251,7 @@ module _ (lent : Lent) (p : Progress) (s : Sound lent p) (o : ℕ) where
   grown-flow : (f : ℤ) → p .header ≡ 3 → length (p .samples) ≡ pixelsOf (p .terms) → SFits w32 f → Grown (Flow f)
   unfolding soFar
   grown-flow f z full fits = (
-    record {
-      header = s .header;
-      early = λ m. absurd (omega arith);
-      samplesFirst = λ m. absurd (omega arith);
-      size = s .size;
-      weight = s .weight;
-      rounds = s .rounds;
-      allowance = s .allowance;
-      pairWeights = s .pairWeights;
-      ranged = each-more (SFits w32) (pos 0) (p .flow) f (s .ranged) fits;
-    },
+    sound-numbers _ _ _ z (λ m. absurd (omega arith)) (s .pairWeights) (each-more (SFits w32) (pos 0) (p .flow) f (s .ranged) fits),
     listed-more flowRecord (pos 0) (upToWeights p) (p .flow) f,
   )
 

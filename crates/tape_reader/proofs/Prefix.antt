@@ -20,7 +20,7 @@ use Rattle.tape_records.specs.declared.state.ParserState.{ParserState}
 use Rattle.tape_records.specs.declared.parse.RecordResult.{RecordResult}
 use Rattle.tape_records.specs.State.{may}
 use Rattle.tape_records.specs.Record.{recordAt, resultAt}
-use Rattle.tape_records.proofs.Rows.{known-kind}
+use Rattle.tape_records.proofs.RecordRows.{known-kind}
 use Rattle.roundtrip.proofs.EachKind.{each-kind}
 use Rattle.roundtrip.proofs.Turns.{entryAt, nextAt, termsVerdict, Passed, passed-record}
 use Rattle.roundtrip.proofs.Walk.{record-passes}

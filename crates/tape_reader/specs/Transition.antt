@@ -3,6 +3,8 @@ use mathlib.Core.List.{List}
 use Prim.Native.Nat.{ℕ, _+_, _^_, _<_}
 use Rattle.model.specs.declared.Entry.{Entry}
 use Rattle.model.specs.declared.Entry.the-variants.{End, Size, WeightBox, RoundLimits, Sample, Flow, PairWeight}
+use Rattle.model.specs.declared.Terms.{Terms}
+use Rattle.model.specs.declared.Rounds.{Rounds}
 use Rattle.model.specs.Verdict.{firstRefusal, decided}
 use Rattle.model.specs.Calls.{pixelsOf, pairsOf}
 use Rattle.model.specs.Tape.{sized, withBox, entryRows}
@@ -20,75 +22,43 @@ numbersRead t = t .samples + t .weights + t .flows
 abbrev pub CountsFit : ParserState → Type 0
 CountsFit t = numbersRead t < 2 ^ 63
 
+-- with this much of the header, for so many pixels and pairs; with so many numbers
+abbrev pub withHeader : ParserState → ℕ → Terms → Rounds → ℕ → ℕ → ParserState
+withHeader t header terms rounds pixels pairs =
+    record {
+      header = header;
+      terms = terms;
+      rounds = rounds;
+      pixels = pixels;
+      pairs = pairs;
+      samples = t .samples;
+      weights = t .weights;
+      flows = t .flows;
+    }
+
+abbrev pub withCounts : ParserState → ℕ → ℕ → ℕ → ParserState
+withCounts t samples weights flows =
+    record {
+      header = t .header;
+      terms = t .terms;
+      rounds = t .rounds;
+      pixels = t .pixels;
+      pairs = t .pairs;
+      samples = samples;
+      weights = weights;
+      flows = flows;
+    }
+
 -- what has been read once this record has been, too
 abbrev pub advanced : ParserState → Entry → ParserState
 advanced t End = t
-advanced t (Size w h) =
-    record {
-      header = 1;
-      terms = sized w h;
-      rounds = t .rounds;
-      pixels = pixelsOf (sized w h);
-      pairs = pairsOf (sized w h);
-      samples = t .samples;
-      weights = t .weights;
-      flows = t .flows;
-    }
+advanced t (Size w h) = withHeader t 1 (sized w h) (t .rounds) (pixelsOf (sized w h)) (pairsOf (sized w h))
 advanced t (WeightBox weight low high) =
-    record {
-      header = 2;
-      terms = withBox (t .terms) weight low high;
-      rounds = t .rounds;
-      pixels = t .pixels;
-      pairs = t .pairs;
-      samples = t .samples;
-      weights = t .weights;
-      flows = t .flows;
-    }
-advanced t (RoundLimits q a) =
-    record {
-      header = 3;
-      terms = t .terms;
-      rounds = record { quick = q; allowance = a };
-      pixels = t .pixels;
-      pairs = t .pairs;
-      samples = t .samples;
-      weights = t .weights;
-      flows = t .flows;
-    }
-advanced t (Sample s) =
-    record {
-      header = t .header;
-      terms = t .terms;
-      rounds = t .rounds;
-      pixels = t .pixels;
-      pairs = t .pairs;
-      samples = t .samples + 1;
-      weights = t .weights;
-      flows = t .flows;
-    }
-advanced t (Flow f) =
-    record {
-      header = t .header;
-      terms = t .terms;
-      rounds = t .rounds;
-      pixels = t .pixels;
-      pairs = t .pairs;
-      samples = t .samples;
-      weights = t .weights;
-      flows = t .flows + 1;
-    }
-advanced t (PairWeight w) =
-    record {
-      header = t .header;
-      terms = t .terms;
-      rounds = t .rounds;
-      pixels = t .pixels;
-      pairs = t .pairs;
-      samples = t .samples;
-      weights = t .weights + 1;
-      flows = t .flows;
-    }
+    withHeader t 2 (withBox (t .terms) weight low high) (t .rounds) (t .pixels) (t .pairs)
+advanced t (RoundLimits q a) = withHeader t 3 (t .terms) (record { quick = q; allowance = a }) (t .pixels) (t .pairs)
+advanced t (Sample s) = withCounts t (t .samples + 1) (t .weights) (t .flows)
+advanced t (Flow f) = withCounts t (t .samples) (t .weights) (t .flows + 1)
+advanced t (PairWeight w) = withCounts t (t .samples) (t .weights + 1) (t .flows)
 
 -- the end ends the job; after any other record there is another
 abbrev pub continued : ParserState → Entry → Cursor → Transition

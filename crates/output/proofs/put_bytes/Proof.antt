@@ -29,22 +29,24 @@ written c =
     (omega (arith, c .loop .inv .1 .behind), put-length (c .loop .inv .1) (omega (arith, c .loop .inv .0, c .before .before .before .pre)))
 
 put-byte-requires : tie.Need-put-byte-requires Inv-loop μ-loop
-put-byte-requires c κs = omega (arith, written (c .before .before .before), c .before .before .before .before .before .before .pre, c .before .before .loop-test .taken)
+put-byte-requires c κs =
+    let s = c .before .before .before in omega (arith, written s, s .before .before .before .pre, c .before .before .loop-test .taken)
 
 loop-less : tie.Need-loop-less Inv-loop μ-loop
 loop-less c = omega arith
 
 loop-again : tie.Need-loop-again Inv-loop μ-loop
 loop-again c =
-    let s = c .before .before .before .before .before .before in
+    let put = c .before .before in
+    let s = put .before .before .before .before in
     let a = s .before .before .before .args in
     let b : List ℕ = a .bytes .now in
     let i : ℕ = s .loop .i in
     let h : i < length b = omega arith in (
       omega arith,
-      subst (λ (l : List ℕ). Put (a .o) l (a .output .now) (c .before .before .put-byte .result) (c .before .before .put-byte .last .0))
+      subst (λ (l : List ℕ). Put (a .o) l (a .output .now) (put .put-byte .result) (put .put-byte .last .0))
           (sym (ap (λ (n : ℕ). take n b) (add-one i) ∙ take-suc b i 0 h))
-          (put-then (s .loop .inv .1) (c .before .before .put-byte .ensures)
+          (put-then (s .loop .inv .1) (put .put-byte .ensures)
           (omega (arith, length-take-le i b (s .loop .inv .0), s .before .before .before .pre))),
     )
 

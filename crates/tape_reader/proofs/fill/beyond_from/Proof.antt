@@ -38,17 +38,19 @@ answer c =
 
 returns : tie.Need-returns Inv-loop μ-loop
 returns c =
-    let s = c .before .before .before .before .before in
-    search-found _ (given s) _ (s .loop .inv) (sym (answer (c .before)) ∙ c .if1 .taken)
+    let answered = c .before in
+    let s = answered .before .before .before .before in
+    search-found _ (given s) _ (s .loop .inv) (sym (answer answered) ∙ c .if1 .taken)
 
 loop-less : tie.Need-loop-less Inv-loop μ-loop
 loop-less c = omega arith
 
 loop-again : tie.Need-loop-again Inv-loop μ-loop
 loop-again c =
-    let s = c .before .before .before .before .before in
-    search-on _ (given s) _ (s .loop .inv) (c .before .before .before .before .loop-test .taken)
-    (sym (answer (c .before)) ∙ c .if1 .left)
+    let answered = c .before in
+    let tested = answered .before .before .before in
+    let s = tested .before in
+    search-on _ (given s) _ (s .loop .inv) (tested .loop-test .taken) (sym (answer answered) ∙ c .if1 .left)
 
 returns-2 : tie.Need-returns-2 Inv-loop μ-loop
 returns-2 c = search-none _ (given (c .before)) _ (c .before .loop .inv) (c .loop-test .left)

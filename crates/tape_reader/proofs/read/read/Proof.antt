@@ -53,7 +53,9 @@ returns c =
 returns-2 : tie.Need-returns-2
 returns-2 c =
     let n = c .before .before .before .before in
-    let k = n .before .before .before .before .before .before .before .before .before .before in
+    let matched = n .before .before .before .before in
+    let scanned = matched .before .before in
+    let k = scanned .before .before .before .before in
     let a = k .before .args in
     let e = n .read-numbers .ensures in
     promised (a .tape .now) (a .samples .now) (a .weights .now) (a .flow .now)

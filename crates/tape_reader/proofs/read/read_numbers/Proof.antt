@@ -24,10 +24,10 @@ fits : (c : tie.After-shared-slice-known) → let a = c .before .args in
 fits c = let a = c .before .args in room (a .tape .now) (byte c) (a .samples .now) (a .weights .now) (a .flow .now) (c .before .pre)
 
 mul-weights-at : tie.Need-mul-weights-at
-mul-weights-at c = omega (arith, fits (c .before .before .before .before), c .before .before .before .before .before .good)
+mul-weights-at c = let s = c .before .before .before .before in omega (arith, fits s, s .before .good)
 
 add-weights-at : tie.Need-add-weights-at
-add-weights-at c = omega (arith, fits (c .before .before .before .before), c .before .before .before .before .before .good)
+add-weights-at c = let s = c .before .before .before .before in omega (arith, fits s, s .before .good)
 
 mul-flow-at : tie.Need-mul-flow-at
 mul-flow-at c = omega (arith, fits (begun c), begun c .before .good)
@@ -72,7 +72,7 @@ fill-weights-requires : tie.Need-fill-weights-requires
 fill-weights-requires c κs = omega (arith, fits (from-start (c .before .before .before .before)))
 
 fill-flow-requires : tie.Need-fill-flow-requires
-fill-flow-requires c κs = omega (arith, fits (from-start (c .before .before .before .before .before .before .before)))
+fill-flow-requires c κs = let weights = c .before .before .before in omega (arith, fits (from-start (weights .before .before .before .before)))
 
 returns-2 : tie.Need-returns-2
 returns-2 c =

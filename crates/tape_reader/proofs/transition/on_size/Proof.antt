@@ -12,6 +12,7 @@ use Rattle.model.specs.Grid.{sizeAllowed, gridPairs}
 use Rattle.model.specs.Tape.{sized}
 use Rattle.model.proofs.Refusals.{accepted, refused, passed}
 use Rattle.tape_reader.specs.declared.transition.Transition.{Transition}
+use Rattle.tape_reader.specs.Transition.{withHeader}
 use Rattle.tape_reader.proofs.Transitions.{judged-entry}
 use Rattle.tape_reader.proofs.transition.on_size.Statement.{statement}
 use Rattle.tape_reader.proofs.transition.on_size.Tie as tie
@@ -51,18 +52,8 @@ returns-3 : tie.Need-returns-3
 returns-3 c =
     let s = c .before .before .before .before in
     let a = s .before .before .before .before .args in
-    ap₂ (λ (m n : ℕ). Transition.More
-    (record {
-      header = 1;
-      terms = sized (a .width) (a .height);
-      rounds = a .state .rounds;
-      pixels = m;
-      pairs = n;
-      samples = a .state .samples;
-      weights = a .state .weights;
-      flows = a .state .flows;
-    })
-    (a .next)) (s .before .pixels .ensures) (s .pairs .ensures)
+    ap₂ (λ (m n : ℕ). Transition.More (withHeader (a .state) 1 (sized (a .width) (a .height)) (a .state .rounds) m n) (a .next))
+    (s .before .pixels .ensures) (s .pairs .ensures)
     ∙ judged-entry (a .state) (Entry.Size (a .width) (a .height)) (a .next) (a .at) (a .lent)
     (passed _ _ (ap not (allowed (s .before .before))) ∙ passed _ _ (sym (short s) ∙ c .if2 .left) ∙ accepted)
 

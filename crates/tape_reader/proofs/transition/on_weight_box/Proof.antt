@@ -29,9 +29,10 @@ returns-2 c =
 
 returns-3 : tie.Need-returns-3
 returns-3 c =
-    let a = c .before .before .before .before .before .args in
+    let allowed = c .before .before .before .before in
+    let a = allowed .before .args in
     judged-entry (a .state) (Entry.WeightBox (a .weight) (a .low) (a .high)) (a .next) (a .at) (a .lent)
-    (passed _ _ (sym (ap not (c .before .before .before .before .weight-allowed .ensures)) ∙ c .before .before .before .if1 .left)
+    (passed _ _ (sym (ap not (allowed .weight-allowed .ensures)) ∙ c .before .before .before .if1 .left)
     ∙ passed _ _ (sym (ap not (c .before .before .box-allowed .ensures)) ∙ c .before .if2 .left)
     ∙ accepted)
 

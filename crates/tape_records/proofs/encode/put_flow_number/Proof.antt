@@ -22,10 +22,13 @@ same-length c = search needs
 
 returns : tie.Need-returns
 returns c =
-    let a = c .before .before .before .before .before .before .before .before .before .args in
-    subst (λ (z : ℤ). Put (a .o) (a .kind ∷ fourBytes z) (a .output .now) (c .before .before .put-four-bytes .result) (c .before .before .put-four-bytes .last .0))
-    (toZ-ofZ (c .before .before .before .before .before .before .before .before .before .fits .value))
-    (put-then (c .before .before .before .before .before .before .put-byte .ensures) (c .before .before .put-four-bytes .ensures) (omega arith))
+    let second = c .before .before in
+    let first = second .before .before .before .before in
+    let start = first .before .before .before in
+    let a = start .args in
+    subst (λ (z : ℤ). Put (a .o) (a .kind ∷ fourBytes z) (a .output .now) (second .put-four-bytes .result) (second .put-four-bytes .last .0))
+    (toZ-ofZ (start .fits .value))
+    (put-then (first .put-byte .ensures) (second .put-four-bytes .ensures) (omega arith))
 
 pub put-flow-number-spec : {M : Type 1} → statement M
 put-flow-number-spec = tie.close (tie.spec put-byte-requires put-four-bytes-requires same-length returns)

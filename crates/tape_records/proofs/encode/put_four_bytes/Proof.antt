@@ -14,12 +14,16 @@ use Rattle.tape_records.proofs.encode.put_four_bytes.Tie as tie
 
 returns : tie.Need-returns
 returns c =
-    let a = c .before .before .before .before .before .before .before .before .before .before .args in
-    let n : ℕ = c .before .before .before .before .before .before .before .before .complement-of .result in
-    let same : n ≡ complement (a .value) = c .before .before .before .before .before .before .before .before .complement-of .ensures ∙ ap complement (toZ-ofZ (c .before .before .before .before .before .before .before .before .before .before .fits .value)) in
-    subst (λ (b : List ℕ). Put (a .o) b (a .output .now) (c .before .before .put-two-bytes2 .result) (c .before .before .put-two-bytes2 .last .0))
+    let second = c .before .before in
+    let first = second .before .before .before .before in
+    let signed = first .before .before in
+    let start = signed .before .before in
+    let a = start .args in
+    let n : ℕ = signed .complement-of .result in
+    let same : n ≡ complement (a .value) = signed .complement-of .ensures ∙ ap complement (toZ-ofZ (start .fits .value)) in
+    subst (λ (b : List ℕ). Put (a .o) b (a .output .now) (second .put-two-bytes2 .result) (second .put-two-bytes2 .last .0))
     (four-halves n ∙ ap (λ (m : ℕ). byteOf m 0 ∷ byteOf m 1 ∷ byteOf m 2 ∷ byteOf m 3 ∷ []) same)
-    (put-then (c .before .before .before .before .before .before .put-two-bytes .ensures) (c .before .before .put-two-bytes2 .ensures) (omega arith))
+    (put-then (first .put-two-bytes .ensures) (second .put-two-bytes2 .ensures) (omega arith))
 
 pub put-four-bytes-spec : {M : Type 1} → statement M
 put-four-bytes-spec =

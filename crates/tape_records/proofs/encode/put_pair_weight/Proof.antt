@@ -16,8 +16,8 @@ same-length c = search needs
 
 returns : tie.Need-returns
 returns c =
-    put-then (c .before .before .before .before .before .before .put-byte .ensures) (c .before .before .put-two-bytes .ensures)
-    (omega arith)
+    let second = c .before .before in
+    put-then (second .before .before .before .before .put-byte .ensures) (second .put-two-bytes .ensures) (omega arith)
 
 pub put-pair-weight-spec : {M : Type 1} → statement M
 put-pair-weight-spec = tie.close (tie.spec put-byte-requires put-two-bytes-requires same-length returns)

@@ -26,48 +26,69 @@ put-byte-requires : tie.Need-put-byte-requires
 put-byte-requires c κs = room (c .before .before .before .before) (c .before .enum-told .given .1)
 
 put-two-numbers-requires : tie.Need-put-two-numbers-requires
-put-two-numbers-requires c κs = room (c .before .before .before .before .before) (c .before .before .entry .given .1)
+put-two-numbers-requires c κs = let arm = c .before .before in room (arm .before .before .before) (arm .entry .given .1)
 
 put-weight-box-requires : tie.Need-put-weight-box-requires
-put-weight-box-requires c κs = room (c .before .before .before .before .before) (c .before .before .entry2 .given .1)
+put-weight-box-requires c κs = let arm = c .before .before in room (arm .before .before .before) (arm .entry2 .given .1)
 
 put-two-numbers-requires-2 : tie.Need-put-two-numbers-requires-2
-put-two-numbers-requires-2 c κs = room (c .before .before .before .before .before) (c .before .before .entry3 .given .1)
+put-two-numbers-requires-2 c κs = let arm = c .before .before in room (arm .before .before .before) (arm .entry3 .given .1)
 
 put-sample-requires : tie.Need-put-sample-requires
-put-sample-requires c κs = room (c .before .before .before .before .before) (c .before .before .entry4 .given .1)
+put-sample-requires c κs = let arm = c .before .before in room (arm .before .before .before) (arm .entry4 .given .1)
 
 put-flow-number-requires : tie.Need-put-flow-number-requires
-put-flow-number-requires c κs = room (c .before .before .before .before .before) (c .before .before .entry5 .given .1)
+put-flow-number-requires c κs = let arm = c .before .before in room (arm .before .before .before) (arm .entry5 .given .1)
 
 put-pair-weight-requires : tie.Need-put-pair-weight-requires
-put-pair-weight-requires c κs = room (c .before .before .before .before .before) (c .before .before .entry6 .given .1)
+put-pair-weight-requires c κs = let arm = c .before .before in room (arm .before .before .before) (arm .entry6 .given .1)
 
 returns : tie.Need-returns
-returns c = known (c .before .before .before .before .before .before .before) (c .before .before .before .before .enum-told .given .1) (c .before .before .put-byte .ensures)
+returns c =
+    let call = c .before .before in
+    let arm = call .before .before in
+    known (arm .before .before .before) (arm .enum-told .given .1) (call .put-byte .ensures)
 
 returns-2 : tie.Need-returns-2
-returns-2 c = known (c .before .before .before .before .before .before .before .before) (c .before .before .before .before .before .entry .given .1) (c .before .before .put-two-numbers .ensures)
+returns-2 c =
+    let call = c .before .before in
+    let arm = call .before .before .before in
+    known (arm .before .before .before) (arm .entry .given .1) (call .put-two-numbers .ensures)
 
 returns-3 : tie.Need-returns-3
-returns-3 c = known (c .before .before .before .before .before .before .before .before) (c .before .before .before .before .before .entry2 .given .1) (c .before .before .put-weight-box .ensures)
+returns-3 c =
+    let call = c .before .before in
+    let arm = call .before .before .before in
+    known (arm .before .before .before) (arm .entry2 .given .1) (call .put-weight-box .ensures)
 
 returns-4 : tie.Need-returns-4
-returns-4 c = known (c .before .before .before .before .before .before .before .before) (c .before .before .before .before .before .entry3 .given .1) (c .before .before .put-two-numbers2 .ensures)
+returns-4 c =
+    let call = c .before .before in
+    let arm = call .before .before .before in
+    known (arm .before .before .before) (arm .entry3 .given .1) (call .put-two-numbers2 .ensures)
 
 returns-5 : tie.Need-returns-5
-returns-5 c = known (c .before .before .before .before .before .before .before .before) (c .before .before .before .before .before .entry4 .given .1) (c .before .before .put-sample .ensures)
+returns-5 c =
+    let call = c .before .before in
+    let arm = call .before .before .before in
+    known (arm .before .before .before) (arm .entry4 .given .1) (call .put-sample .ensures)
 
 returns-6 : tie.Need-returns-6
 returns-6 c =
-    let z : ℤ = c .before .before .before .before .before .entry5 .given .0 .0 in
-    let a = c .before .before .before .before .before .before .before .before .args in
-    let f : SFits w32 z = record { sfits = c .before .before .before .before .known-told5 .given .0 .1 } in
-    known (c .before .before .before .before .before .before .before .before) (c .before .before .before .before .before .entry5 .given .1)
-    (subst (λ (y : ℤ). Put (a .o) (encoded (Entry.Flow y)) (a .output .now) (c .before .before .put-flow-number .result) (c .before .before .put-flow-number .last .0)) (toZ-ofZ f) (c .before .before .put-flow-number .ensures))
+    let call = c .before .before in
+    let arm = call .before .before .before in
+    let start = arm .before .before .before in
+    let a = start .args in
+    let f : SFits w32 (arm .entry5 .given .0 .0) = record { sfits = call .before .before .known-told5 .given .0 .1 } in
+    known start (arm .entry5 .given .1)
+    (subst (λ (y : ℤ). Put (a .o) (encoded (Entry.Flow y)) (a .output .now) (call .put-flow-number .result) (call .put-flow-number .last .0))
+    (toZ-ofZ f) (call .put-flow-number .ensures))
 
 returns-7 : tie.Need-returns-7
-returns-7 c = known (c .before .before .before .before .before .before .before .before) (c .before .before .before .before .before .entry6 .given .1) (c .before .before .put-pair-weight .ensures)
+returns-7 c =
+    let call = c .before .before in
+    let arm = call .before .before .before in
+    known (arm .before .before .before) (arm .entry6 .given .1) (call .put-pair-weight .ensures)
 
 pub put-record-spec : {M : Type 1} → statement M
 put-record-spec =

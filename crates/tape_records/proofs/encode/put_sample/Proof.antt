@@ -15,7 +15,9 @@ same-length : tie.Need-same-length
 same-length c = search needs
 
 returns : tie.Need-returns
-returns c = put-then (c .before .before .before .before .before .before .put-byte .ensures) (c .before .before .put-byte2 .ensures) (omega arith)
+returns c =
+    let second = c .before .before in
+    put-then (second .before .before .before .before .put-byte .ensures) (second .put-byte2 .ensures) (omega arith)
 
 pub put-sample-spec : {M : Type 1} → statement M
 put-sample-spec = tie.close (tie.spec put-byte-requires put-byte-requires-2 same-length returns)

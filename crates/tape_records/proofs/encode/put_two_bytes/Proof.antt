@@ -11,10 +11,12 @@ use Rattle.tape_records.proofs.encode.put_two_bytes.Tie as tie
 
 returns : tie.Need-returns
 returns c =
-    let a = c .before .before .before .before .before .before .before .before .before .args in
+    let second = c .before .before in
+    let first = second .before .before .before .before in
+    let a = first .before .before .before .args in
     let low : a .n % 256 ≡ a .n / 1 % 256 = omega arith in
-    subst (λ (b : ℕ). Put (a .o) (b ∷ a .n / 256 % 256 ∷ []) (a .output .now) (c .before .before .put-byte2 .result) (c .before .before .put-byte2 .last .0)) low
-    (put-then (c .before .before .before .before .before .before .put-byte .ensures) (c .before .before .put-byte2 .ensures) (omega arith))
+    subst (λ (b : ℕ). Put (a .o) (b ∷ a .n / 256 % 256 ∷ []) (a .output .now) (second .put-byte2 .result) (second .put-byte2 .last .0)) low
+    (put-then (first .put-byte .ensures) (second .put-byte2 .ensures) (omega arith))
 
 pub put-two-bytes-spec : {M : Type 1} → statement M
 put-two-bytes-spec =

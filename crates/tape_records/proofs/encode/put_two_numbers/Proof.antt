@@ -19,7 +19,11 @@ same-length c = search needs
 
 returns : tie.Need-returns
 returns c =
-    put-then (put-then (c .before .before .before .before .before .before .before .before .before .before .put-byte .ensures) (c .before .before .before .before .before .before .put-two-bytes .ensures) (omega arith)) (c .before .before .put-two-bytes2 .ensures) (omega arith)
+    let third = c .before .before in
+    let second = third .before .before .before .before in
+    let first = second .before .before .before .before in
+    put-then (put-then (first .put-byte .ensures) (second .put-two-bytes .ensures) (omega arith)) (third .put-two-bytes2 .ensures)
+    (omega arith)
 
 pub put-two-numbers-spec : {M : Type 1} → statement M
 put-two-numbers-spec =

@@ -7,9 +7,15 @@ use Rattle.tape_records.proofs.encode.put_weight_box.Tie as tie
 
 returns : tie.Need-returns
 returns c =
+    let fourth = c .before .before in
+    let third = fourth .before .before .before .before in
+    let second = third .before .before .before .before in
+    let first = second .before .before .before .before in
     put-then
-    (put-then (put-then (c .before .before .before .before .before .before .before .before .before .before .before .before .before .before .put-byte .ensures) (c .before .before .before .before .before .before .before .before .before .before .put-two-bytes .ensures) (omega arith)) (c .before .before .before .before .before .before .put-byte2 .ensures) (omega arith))
-    (c .before .before .put-byte3 .ensures) (omega arith)
+    (put-then
+    (put-then (first .put-byte .ensures) (second .put-two-bytes .ensures) (omega arith))
+    (third .put-byte2 .ensures) (omega arith))
+    (fourth .put-byte3 .ensures) (omega arith)
 
 pub put-weight-box-spec : {M : Type 1} → statement M
 put-weight-box-spec =

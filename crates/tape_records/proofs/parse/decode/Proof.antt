@@ -93,10 +93,11 @@ returns c =
 returns-2 : tie.Need-returns-2
 unfolding kinds
 returns-2 c =
-    let a = c .before .before .before .before .before .args in
+    let arm = c .before .before .before in
+    let a = arm .before .before .args in
     ap (λ (n : ℕ). Entry.WeightBox n (getD (a .tape .now) (a .at + 1 + 2) 0) (getD (a .tape .now) (a .at + 1 + 3) 0))
     (low-two (a .tape .now) (a .at) (c .before .before .two-at3 .ensures .0))
-    ∙ at-kind (a .tape .now) (a .at) (c .before .before .before .match .keys2)
+    ∙ at-kind (a .tape .now) (a .at) (arm .match .keys2)
 
 returns-3 : tie.Need-returns-3
 unfolding kinds

@@ -4,7 +4,7 @@ use borrow.Author.Needs.{needs}
 use borrow.Author.Tests.{le-leb}
 use Rattle.model.specs.Tape.{recordRows}
 use Rattle.model.proofs.Refusals.{refused}
-use Rattle.tape_records.proofs.Rows.{result-by}
+use Rattle.tape_records.proofs.RecordRows.{result-by}
 use Rattle.tape_records.proofs.parse.next_record.Statement.{statement}
 use Rattle.tape_records.proofs.parse.next_record.Tie as tie
 

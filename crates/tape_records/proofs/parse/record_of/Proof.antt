@@ -8,26 +8,31 @@ use Rattle.model.specs.Tape.{known, bodyLength, recordRows}
 use Rattle.model.proofs.Refusals.{refused, passed}
 use Rattle.tape_records.specs.State.{may}
 use Rattle.tape_records.specs.Record.{wholeAt}
-use Rattle.tape_records.proofs.Rows.{layout-unknown, layout-known, known-kind, result-by}
+use Rattle.tape_records.proofs.RecordRows.{layout-unknown, layout-known, known-kind, result-by}
 use Rattle.tape_records.proofs.parse.record_of.Statement.{statement}
 use Rattle.tape_records.proofs.parse.record_of.Tie as tie
 
--- the form of a known kind
-layout-is : (c : tie.After-known-told) → let a = c .before .before .before .before .before .args in
+-- where the function began, from where the layout is known
+abbrev start : tie.After-layout-of → tie.Start
+start c = c .before .before
+
+-- the layout of a known kind
+layout-is : (c : tie.After-known-told) → let a = start (c .before .before .before) .args in
     (known (a .kind) ≡ true) × (c .before .layout .given .0 .0 ≡ bodyLength (a .kind)) × (c .before .layout .given .0 .1 .0 ≡ may (a .state) (a .kind))
 layout-is c =
-    let a = c .before .before .before .before .before .args in
-    layout-known (a .kind) (may (a .state) (a .kind)) (sym (c .before .before .before .layout-of .ensures) ∙ c .before .layout .given .1)
+    let known = c .before .before .before in
+    let a = start known .args in
+    layout-known (a .kind) (may (a .state) (a .kind)) (sym (known .layout-of .ensures) ∙ c .before .layout .given .1)
 
 whole-record-requires : tie.Need-whole-record-requires
 whole-record-requires c κs =
-    let h = c .before .before .before .before .before .pre in
+    let h = start (c .before .before .before) .pre in
     (h .0, h .1, layout-is c .1)
 
 returns : tie.Need-returns
 unfolding recordRows
 returns c =
-    let s = c .before .before .before .before in
+    let s = start (c .before .before) in
     let a = s .args in
     result-by (a .followed) (a .tape .now) (a .at) (a .state)
     (passed _ _ (lt-leb _ _ (s .pre .0))
@@ -37,7 +42,7 @@ returns c =
 
 returns-2 : tie.Need-returns-2
 returns-2 c =
-    let s = c .before .before .before .before .before .before in
+    let s = start (c .before .before .before .before) in
     let a = s .args in
     let f = layout-is (c .before) in
     c .whole-record .ensures

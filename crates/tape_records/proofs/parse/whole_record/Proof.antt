@@ -15,6 +15,10 @@ use Rattle.tape_records.specs.Record.{recordAt}
 use Rattle.tape_records.proofs.parse.whole_record.Statement.{statement}
 use Rattle.tape_records.proofs.parse.whole_record.Tie as tie
 
+-- where the function began, from where the verdict is known
+abbrev start : tie.After-judge-body → tie.Start
+start c = c .before .before
+
 -- what a verdict gives, which is that of the rows by the kind passed
 given : (s : tie.Start) {v : Verdict} → let a = s .args in
     v ≡ firstRefusal (bodyRows (a .followed) (length (a .tape .now)) (a .at) (a .kind) (a .allowed)) →
@@ -26,22 +30,24 @@ given s e =
     (e ∙ ap (λ (k : ℕ). firstRefusal (bodyRows (a .followed) (length (a .tape .now)) (a .at) k (a .allowed))) (s .pre .1))
 
 -- where the rows accept, the body is whole
-room : (c : tie.After-enum-told) → let a = c .before .before .before .before .args in
+room : (c : tie.After-enum-told) → let a = start (c .before .before) .args in
     a .at + 1 + bodyLength (a .kind) ≤ length (a .tape .now)
 room c =
-    let a = c .before .before .before .before .args in
-    let h = accepted-row _ _ (sym (c .before .before .judge-body .ensures) ∙ c .enum-told .given .1) in
+    let judged = c .before .before in
+    let a = start judged .args in
+    let h = accepted-row _ _ (sym (judged .judge-body .ensures) ∙ c .enum-told .given .1) in
     ltb-false (length (a .tape .now)) (a .at + 1 + bodyLength (a .kind)) (accepted-row _ _ (h .1) .0)
 
 decode-requires : tie.Need-decode-requires
 decode-requires c κs = room c
 
 add-t14 : tie.Need-add-t14
-add-t14 c = omega (arith, room (c .before), c .before .before .before .before .before .pre .2)
+add-t14 c = omega (arith, room (c .before), start (c .before .before .before) .pre .2)
 
 returns : tie.Need-returns
 returns c =
-    given (c .before .before .before .before .before) (sym (c .before .v .given .1) ∙ c .before .before .before .judge-body .ensures)
+    let judged = c .before .before .before in
+    given (start judged) (sym (c .before .v .given .1) ∙ judged .judge-body .ensures)
 
 -- the record by the kind passed and by the one that stands there
 record-by : (s : tie.Start) {e : Entry} → let a = s .args in
@@ -55,9 +61,9 @@ record-by s h =
 
 returns-2 : tie.Need-returns-2
 returns-2 c =
-    let s = c .before .before .before .before .before in
-    record-by s (c .decode .ensures)
-    ∙ given s (sym (c .before .enum-told .given .1) ∙ c .before .before .before .judge-body .ensures)
+    let judged = c .before .before .before in
+    record-by (start judged) (c .decode .ensures)
+    ∙ given (start judged) (sym (c .before .enum-told .given .1) ∙ judged .judge-body .ensures)
 
 pub whole-record-spec : {M : Type 1} → statement M
 whole-record-spec =

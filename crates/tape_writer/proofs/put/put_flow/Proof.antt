@@ -39,11 +39,13 @@ loop-less c = omega arith
 -- the record is that of the number that was read
 loop-again : tie.Need-loop-again Inv-loop μ-loop
 loop-again c =
-    let s = c .before .before .before .before .before .before in
+    let put = c .before .before in
+    let tested = put .before .before .before in
+    let s = tested .before in
     let z : ℤ = at (s .before .before .args .flow .now) (s .loop .j) in
-    written-more _ _ _ _ _ _ (s .before .before .pre) (s .loop .inv) (c .before .before .before .before .before .loop-test .taken)
-    (put-as (ap (λ (y : ℤ). encoded (Entry.Flow y)) (read w32 {r = z} (c .before .before .before .t11 .given)))
-    (c .before .before .put-record .ensures))
+    written-more _ _ _ _ _ _ (s .before .before .pre) (s .loop .inv) (tested .loop-test .taken)
+    (put-as (ap (λ (y : ℤ). encoded (Entry.Flow y)) (read w32 {r = z} (put .before .t11 .given)))
+    (put .put-record .ensures))
 
 same-length : tie.Need-same-length Inv-loop μ-loop
 same-length c = written-length _ _ _ _ _ _ (c .before .before .before .pre) (c .before .loop .inv)

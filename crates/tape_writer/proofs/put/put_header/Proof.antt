@@ -7,7 +7,11 @@ use Rattle.tape_writer.proofs.put.put_header.Tie as tie
 
 returns : tie.Need-returns
 returns c =
-    put-then (put-then (c .before .before .before .before .before .before .before .before .before .before .put-record .ensures) (c .before .before .before .before .before .before .put-record2 .ensures) (omega arith)) (c .before .before .put-record3 .ensures) (omega arith)
+    let third = c .before .before in
+    let second = third .before .before .before .before in
+    let first = second .before .before .before .before in
+    put-then (put-then (first .put-record .ensures) (second .put-record2 .ensures) (omega arith)) (third .put-record3 .ensures)
+    (omega arith)
 
 pub put-header-spec : {M : Type 1} → statement M
 put-header-spec =

@@ -32,9 +32,11 @@ loop-less c = omega arith
 
 loop-again : tie.Need-loop-again Inv-loop μ-loop
 loop-again c =
-    let s = c .before .before .before .before .before .before in
+    let put = c .before .before in
+    let tested = put .before .before .before in
+    let s = tested .before in
     written-more _ _ _ _ _ _ (s .before .before .before .pre) (s .loop .inv)
-    (c .before .before .before .before .before .loop-test .taken) (c .before .before .put-record .ensures)
+    (tested .loop-test .taken) (put .put-record .ensures)
 
 same-length : tie.Need-same-length Inv-loop μ-loop
 same-length c = written-length _ _ _ _ _ _ (c .before .before .before .before .pre) (c .before .loop .inv)

@@ -47,14 +47,15 @@ put-record-requires c κs =
 
 returns : tie.Need-returns
 returns c =
-    let flowed = c .before .before .before .before .before .before in
+    let ended = c .before .before in
+    let flowed = ended .before .before .before .before in
     let weighed = flowed .before .before .before .before in
     let sampled = weighed .before .before .before .before in
     let headed = sampled .before .before .before .before in
     let start = headed .before .before .before .before in
     let a = start .args in
     assembled (a .t) (a .r) (a .samples .now) (a .weights .now) (a .flow .now) (headed .put-header .ensures)
-    (sampled .put-samples .ensures) (weighed .put-weights .ensures) (flowed .put-flow .ensures) (c .before .before .put-record .ensures)
+    (sampled .put-samples .ensures) (weighed .put-weights .ensures) (flowed .put-flow .ensures) (ended .put-record .ensures)
     (start .pre)
 
 pub put-tape-spec : {M : Type 1} → statement M

@@ -29,9 +29,10 @@ put-tape-requires c κs =
 
 returns : tie.Need-returns
 returns c =
-    let s = c .before .before .before .before .before .before in
+    let k = c .before .before .before in
+    let s = k .before .before .before in
     let a = s .args in
-    let v = sym (judged (c .before .before .before)) ∙ c .before .v .given .1 in
+    let v = sym (judged k) ∙ c .before .v .given .1 in
     promised (a .t) (a .r) (a .samples .now) (a .weights .now) (a .flow .now) (a .output .now) (omega (arith, s .good))
     (sym (written-answer (a .t) (a .r) (a .samples .now) (a .weights .now) (a .flow .now) (a .output .now) v))
     (sym (written-output (a .t) (a .r) (a .samples .now) (a .weights .now) (a .flow .now) (a .output .now) v))
