@@ -5,7 +5,7 @@ use mathlib.Core.List.{List, [], _∷_, _++_}
 use Prim.Native.Nat.{ℕ, suc, _+_, _≤_, _<_}
 use native.Mathlib.Numerals.{add-one}
 use native.Mathlib.Omega.{arith}
-use lib.ListN.{length, getD, take, drop}
+use lib.ListN.{length, getD, take, drop, List·getD-append}
 use lib.Seq.{drop-cons, take-add, getD-drop}
 use mir.Syntax.{w32}
 use mir.Val.{SFits}
@@ -58,6 +58,17 @@ decoded-encoded (PairWeight w) rest r = ap PairWeight (two-there w r)
 abbrev pub kindOf : Entry → ℕ
 kindOf e = getD (encoded e) 0 0
 
+-- the kind of a record is known, and fixes how many bytes it has
+pub kind-size : (e : Entry) → (known (kindOf e) ≡ true) × (length (encoded e) ≡ suc (bodyLength (kindOf e)))
+unfolding kinds
+kind-size End = (refl, refl)
+kind-size (Size w h) = (refl, refl)
+kind-size (WeightBox weight low high) = (refl, refl)
+kind-size (RoundLimits q a) = (refl, refl)
+kind-size (Sample s) = (refl, refl)
+kind-size (Flow f) = (refl, refl)
+kind-size (PairWeight w) = (refl, refl)
+
 module _ (tape : List ℕ) (o : ℕ) where
   at-drop : (n i : ℕ) → i ≡ o + n → getD tape i 0 ≡ getD (drop o tape) n 0
   at-drop n i e = ap (λ (j : ℕ). getD tape j 0) e ∙ sym (getD-drop o tape n 0)
@@ -65,16 +76,10 @@ module _ (tape : List ℕ) (o : ℕ) where
   -- a record whose bytes stand at an offset
   module _ (e : Entry) (rest : List ℕ) (h : drop o tape ≡ encoded e ++ rest) where
     pub kind-here : getD tape o 0 ≡ kindOf e
-    kind-here = at-drop 0 o (omega arith) ∙ ap (λ (l : List ℕ). getD l 0 0) h ∙ first e
-      where
-        first : (e : Entry) → getD (encoded e ++ rest) 0 0 ≡ getD (encoded e) 0 0
-        first End = refl
-        first (Size w h) = refl
-        first (WeightBox weight low high) = refl
-        first (RoundLimits q a) = refl
-        first (Sample s) = refl
-        first (Flow f) = refl
-        first (PairWeight w) = refl
+    kind-here =
+        at-drop 0 o (omega arith)
+        ∙ ap (λ (l : List ℕ). getD l 0 0) h
+        ∙ List·getD-append (encoded e) rest 0 0 (omega (arith, kind-size e .1))
 
     pub entry-here : Ranged e → entryAt tape o ≡ e
     entry-here r =

@@ -10,13 +10,12 @@ use lib.Seq.{take-suc, take-length}
 use borrow.Author.Tests.{lt-leb, le-ltb, ne-eqb}
 use Rattle.model.specs.declared.Verdict.{Verdict}
 use Rattle.model.specs.declared.Entry.{Entry}
-use Rattle.model.specs.declared.Entry.the-variants.{End, Size, WeightBox, RoundLimits, Sample, Flow, PairWeight}
 use Rattle.model.specs.Verdict.{firstRefusal}
 use Rattle.model.specs.Tape.{kinds, known, bodyLength, encoded, Progress, allowed, absorbed, recordRows, entryRows, Parse, whole, parseFrom}
 use Rattle.model.proofs.Refusals.{accepted, passed}
 use Rattle.model.specs.declared.Lent.{Lent}
 use Rattle.roundtrip.proofs.Turns.{nextAt, termsVerdict, Passed, unrolled-on, unrolled-end}
-use Rattle.roundtrip.proofs.Entries.{Ranged, kindOf, kind-here, entry-here}
+use Rattle.roundtrip.proofs.Entries.{Ranged, kindOf, kind-size, kind-here, entry-here}
 
 -- the rows of a record accept it
 pub record-passes : (followed : Bool) (tape : List ℕ) (o : ℕ) (may : ℕ → Bool) → Passed followed tape o may → firstRefusal (recordRows followed tape o may) ≡ Verdict.Accept
@@ -34,26 +33,6 @@ record-passes followed tape o may h =
     after false zero l = le-ltb (o + 1) (length tape) (l refl refl)
     after false (suc k) l = ap (λ (t : Bool). t && ltb (o + 1) (length tape)) (ne-eqb (suc k) 0 (λ z. absurd (omega arith)))
 
-encoded-size : (e : Entry) → length (encoded e) ≡ suc (bodyLength (kindOf e))
-unfolding kinds
-encoded-size End = refl
-encoded-size (Size w h) = refl
-encoded-size (WeightBox weight low high) = refl
-encoded-size (RoundLimits q a) = refl
-encoded-size (Sample s) = refl
-encoded-size (Flow f) = refl
-encoded-size (PairWeight w) = refl
-
-kind-known : (e : Entry) → known (kindOf e) ≡ true
-unfolding kinds
-kind-known End = refl
-kind-known (Size w h) = refl
-kind-known (WeightBox weight low high) = refl
-kind-known (RoundLimits q a) = refl
-kind-known (Sample s) = refl
-kind-known (Flow f) = refl
-kind-known (PairWeight w) = refl
-
 module _ (tape : List ℕ) (lent : Lent) (k o : ℕ) (p : Progress) (e : Entry) (rest : List ℕ) (here : drop o tape ≡ encoded e ++ rest)
     (may : allowed p (kindOf e) ≡ true) (v : firstRefusal (entryRows o lent e) ≡ Verdict.Accept) where
   kind : getD tape o 0 ≡ kindOf e
@@ -62,17 +41,17 @@ module _ (tape : List ℕ) (lent : Lent) (k o : ℕ) (p : Progress) (e : Entry) 
   next : nextAt tape o ≡ o + length (encoded e)
   next =
       let body : bodyLength (getD tape o 0) ≡ bodyLength (kindOf e) = ap bodyLength kind in
-      omega (arith, body, encoded-size e)
+      omega (arith, body, kind-size e .1)
 
   fills : length tape ≡ o + length (encoded e) + length rest
-  fills = omega (arith, length-drop o tape, ap length here, length-append (encoded e) rest, encoded-size e)
+  fills = omega (arith, length-drop o tape, ap length here, length-append (encoded e) rest, kind-size e .1)
 
   passes : (kindOf e ≡ 0 → length rest ≡ 0) → Passed (lent .followed) tape o (allowed p)
   unfolding kinds
   passes last =
       record {
-        inside = omega (arith, fills, encoded-size e);
-        isKnown = ap known kind ∙ kind-known e;
+        inside = omega (arith, fills, kind-size e .1);
+        isKnown = ap known kind ∙ kind-size e .0;
         isAllowed = ap (allowed p) kind ∙ may;
         fits = omega (arith, fills, next);
         last = λ _ z. ends (sym kind ∙ z);
@@ -81,7 +60,7 @@ module _ (tape : List ℕ) (lent : Lent) (k o : ℕ) (p : Progress) (e : Entry) 
       ends : kindOf e ≡ 0 → length tape ≤ o + 1
       ends z =
           let body : bodyLength (kindOf e) ≡ bodyLength 0 = ap bodyLength z in
-          omega (arith, fills, last z, encoded-size e, body)
+          omega (arith, fills, last z, kind-size e .1, body)
 
   module _ (r : Ranged e) where
     judged : termsVerdict tape lent o ≡ Verdict.Accept

@@ -9,18 +9,6 @@ use Rattle.tape_reader.specs.Places.{pairWeightAt, ownWeight}
 use Rattle.tape_reader.proofs.fill.own_weight.Statement.{statement}
 use Rattle.tape_reader.proofs.fill.own_weight.Tie as tie
 
-mul-two-at : tie.Need-mul-two-at
-mul-two-at c = search needs
-
-add-two-at : tie.Need-add-two-at
-add-two-at c = search needs
-
-add-two-at-2 : tie.Need-add-two-at-2
-add-two-at-2 c = search needs
-
-two-at-requires : tie.Need-two-at-requires
-two-at-requires c κs = search needs
-
 -- the weight by whether there are weight records
 by-count : (c : tie.Start) {b : Bool} → let a = c .args in eqb (a .weight-count) 0 ≡ b →
     cond b (a .weight) (pairWeightAt (a .tape .now) (a .weights-at + 3 * a .j))
@@ -36,4 +24,4 @@ returns-2 c = c .two-at .ensures .0 ∙ by-count (c .before .before .before) (ne
 
 pub own-weight-spec : {M : Type 1} → statement M
 own-weight-spec =
-    tie.close (tie.spec mul-two-at add-two-at add-two-at-2 two-at-requires returns returns-2)
+    tie.close (tie.spec (λ c. search needs) (λ c. search needs) (λ c. search needs) (λ c κs. search needs) returns returns-2)

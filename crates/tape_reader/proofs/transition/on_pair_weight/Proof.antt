@@ -8,17 +8,11 @@ use Rattle.tape_reader.proofs.Transitions.{judged-entry}
 use Rattle.tape_reader.proofs.transition.on_pair_weight.Statement.{statement}
 use Rattle.tape_reader.proofs.transition.on_pair_weight.Tie as tie
 
-weight-allowed-requires : tie.Need-weight-allowed-requires
-weight-allowed-requires c κs = search needs
-
 returns : tie.Need-returns
 returns c =
     let a = c .before .before .args in
     judged-entry (a .state) (Entry.PairWeight (a .own)) (a .next) (a .at) (a .lent)
     (refused _ _ (sym (ap not (c .before .weight-allowed .ensures)) ∙ c .if1 .taken))
-
-add-now : tie.Need-add-now
-add-now c = search needs
 
 returns-2 : tie.Need-returns-2
 returns-2 c =
@@ -27,4 +21,4 @@ returns-2 c =
     (passed _ _ (sym (ap not (c .before .before .weight-allowed .ensures)) ∙ c .before .if1 .left) ∙ accepted)
 
 pub on-pair-weight-spec : {M : Type 1} → statement M
-on-pair-weight-spec = tie.close (tie.spec weight-allowed-requires returns add-now returns-2)
+on-pair-weight-spec = tie.close (tie.spec (λ c κs. search needs) returns (λ c. search needs) returns-2)

@@ -6,15 +6,6 @@ use Rattle.tape_reader.specs.Transition.{transitionOn}
 use Rattle.tape_reader.proofs.transition.on_result.Statement.{statement}
 use Rattle.tape_reader.proofs.transition.on_result.Tie as tie
 
-enum-known-result : tie.Need-enum-known-result
-enum-known-result c = search needs
-
-enum-known-result-2 : tie.Need-enum-known-result-2
-enum-known-result-2 c = search needs
-
-on-entry-requires : tie.Need-on-entry-requires
-on-entry-requires c κs = search needs
-
 -- what is transitionOn of the case that the arm knows
 known : (s : tie.Start) {g : RecordResult} → s .args .result ≡ g →
     transitionOn g (s .args .at) (s .args .state) (s .args .lent) ≡ transitionOn (s .args .result) (s .args .at) (s .args .state) (s .args .lent)
@@ -27,4 +18,4 @@ returns-2 : tie.Need-returns-2
 returns-2 c = c .on-entry .ensures ∙ known (c .before .before .before .before) (c .before .before .result2 .given .1)
 
 pub on-result-spec : {M : Type 1} → statement M
-on-result-spec = tie.close (tie.spec enum-known-result enum-known-result-2 on-entry-requires returns returns-2)
+on-result-spec = tie.close (tie.spec (λ c. search needs) (λ c. search needs) (λ c κs. search needs) returns returns-2)

@@ -8,9 +8,6 @@ use Rattle.tape_reader.proofs.Transitions.{judged-entry}
 use Rattle.tape_reader.proofs.transition.on_rounds.Statement.{statement}
 use Rattle.tape_reader.proofs.transition.on_rounds.Tie as tie
 
-quick-allowed-requires : tie.Need-quick-allowed-requires
-quick-allowed-requires c κs = search needs
-
 returns : tie.Need-returns
 returns c =
     let a = c .before .before .args in
@@ -24,4 +21,4 @@ returns-2 c =
     (passed _ _ (not-true _ (sym (c .before .quick-allowed .ensures) ∙ not-false _ (c .if1 .left))) ∙ accepted)
 
 pub on-rounds-spec : {M : Type 1} → statement M
-on-rounds-spec = tie.close (tie.spec quick-allowed-requires returns returns-2)
+on-rounds-spec = tie.close (tie.spec (λ c κs. search needs) returns returns-2)

@@ -8,17 +8,11 @@ use Rattle.tape_reader.proofs.Transitions.{judged-entry}
 use Rattle.tape_reader.proofs.transition.on_weight_box.Statement.{statement}
 use Rattle.tape_reader.proofs.transition.on_weight_box.Tie as tie
 
-weight-allowed-requires : tie.Need-weight-allowed-requires
-weight-allowed-requires c κs = search needs
-
 returns : tie.Need-returns
 returns c =
     let a = c .before .before .args in
     judged-entry (a .state) (Entry.WeightBox (a .weight) (a .low) (a .high)) (a .next) (a .at) (a .lent)
     (refused _ _ (sym (ap not (c .before .weight-allowed .ensures)) ∙ c .if1 .taken))
-
-box-allowed-requires : tie.Need-box-allowed-requires
-box-allowed-requires c κs = search needs
 
 returns-2 : tie.Need-returns-2
 returns-2 c =
@@ -38,4 +32,4 @@ returns-3 c =
 
 pub on-weight-box-spec : {M : Type 1} → statement M
 on-weight-box-spec =
-    tie.close (tie.spec weight-allowed-requires returns box-allowed-requires returns-2 returns-3)
+    tie.close (tie.spec (λ c κs. search needs) returns (λ c κs. search needs) returns-2 returns-3)

@@ -31,12 +31,6 @@ difference-is : (c : tie.Else1) → let n : ℕ = c .before .args .n in toZ w64 
 difference-is c =
     ap (λ (y : ℤ). toZ w64 (ofZ w64 y)) (difference c) ∙ toZ-ofZ {w = w64} (sfits-widen tt (difference-fits c))
 
-cast-result : tie.Need-cast-result
-cast-result c = search needs
-
-cast-result-2 : tie.Need-cast-result-2
-cast-result-2 c = search needs
-
 sub-result : tie.Need-sub-result
 sub-result c = subst⁻¹ (SFits w64) (difference c) (sfits-widen tt (difference-fits c))
 
@@ -54,4 +48,4 @@ returns-2 c =
 
 pub signed-of-spec : {M : Type 1} → statement M
 signed-of-spec =
-    tie.close (tie.spec cast-result cast-result-2 sub-result cast-result-3 returns returns-2)
+    tie.close (tie.spec (λ c. search needs) (λ c. search needs) sub-result cast-result-3 returns returns-2)

@@ -4,9 +4,6 @@ use borrow.Author.Needs.{needs}
 use Rattle.tape_records.proofs.bytes.two_at.Statement.{statement}
 use Rattle.tape_records.proofs.bytes.two_at.Tie as tie
 
-returns : tie.Need-returns
-returns c = omega arith
-
 pub two-at-spec : {M : Type 1} → statement M
 two-at-spec =
     tie.close
@@ -18,4 +15,4 @@ two-at-spec =
     (λ c κs. search needs)
     (λ c. omega arith)
     (λ c. omega arith)
-    returns)
+    (λ c. omega arith))

@@ -11,15 +11,6 @@ use borrow.Author.Needs.{needs}
 use Rattle.tape_records.proofs.encode.put_flow_number.Statement.{statement}
 use Rattle.tape_records.proofs.encode.put_flow_number.Tie as tie
 
-put-byte-requires : tie.Need-put-byte-requires
-put-byte-requires c κs = search needs
-
-put-four-bytes-requires : tie.Need-put-four-bytes-requires
-put-four-bytes-requires c κs = search needs
-
-same-length : tie.Need-same-length
-same-length c = search needs
-
 returns : tie.Need-returns
 returns c =
     let second = c .before .before in
@@ -31,4 +22,4 @@ returns c =
     (put-then (first .put-byte .ensures) (second .put-four-bytes .ensures) (omega arith))
 
 pub put-flow-number-spec : {M : Type 1} → statement M
-put-flow-number-spec = tie.close (tie.spec put-byte-requires put-four-bytes-requires same-length returns)
+put-flow-number-spec = tie.close (tie.spec (λ c κs. search needs) (λ c κs. search needs) (λ c. search needs) returns)

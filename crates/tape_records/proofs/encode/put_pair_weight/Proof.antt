@@ -5,19 +5,10 @@ use borrow.Author.Needs.{needs}
 use Rattle.tape_records.proofs.encode.put_pair_weight.Statement.{statement}
 use Rattle.tape_records.proofs.encode.put_pair_weight.Tie as tie
 
-put-byte-requires : tie.Need-put-byte-requires
-put-byte-requires c κs = search needs
-
-put-two-bytes-requires : tie.Need-put-two-bytes-requires
-put-two-bytes-requires c κs = search needs
-
-same-length : tie.Need-same-length
-same-length c = search needs
-
 returns : tie.Need-returns
 returns c =
     let second = c .before .before in
     put-then (second .before .before .before .before .put-byte .ensures) (second .put-two-bytes .ensures) (omega arith)
 
 pub put-pair-weight-spec : {M : Type 1} → statement M
-put-pair-weight-spec = tie.close (tie.spec put-byte-requires put-two-bytes-requires same-length returns)
+put-pair-weight-spec = tie.close (tie.spec (λ c κs. search needs) (λ c κs. search needs) (λ c. search needs) returns)

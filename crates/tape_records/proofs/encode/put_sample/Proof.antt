@@ -5,19 +5,10 @@ use borrow.Author.Needs.{needs}
 use Rattle.tape_records.proofs.encode.put_sample.Statement.{statement}
 use Rattle.tape_records.proofs.encode.put_sample.Tie as tie
 
-put-byte-requires : tie.Need-put-byte-requires
-put-byte-requires c κs = search needs
-
-put-byte-requires-2 : tie.Need-put-byte-requires-2
-put-byte-requires-2 c κs = search needs
-
-same-length : tie.Need-same-length
-same-length c = search needs
-
 returns : tie.Need-returns
 returns c =
     let second = c .before .before in
     put-then (second .before .before .before .before .put-byte .ensures) (second .put-byte2 .ensures) (omega arith)
 
 pub put-sample-spec : {M : Type 1} → statement M
-put-sample-spec = tie.close (tie.spec put-byte-requires put-byte-requires-2 same-length returns)
+put-sample-spec = tie.close (tie.spec (λ c κs. search needs) (λ c κs. search needs) (λ c. search needs) returns)

@@ -5,18 +5,6 @@ use borrow.Author.Needs.{needs}
 use Rattle.tape_records.proofs.encode.put_two_numbers.Statement.{statement}
 use Rattle.tape_records.proofs.encode.put_two_numbers.Tie as tie
 
-put-byte-requires : tie.Need-put-byte-requires
-put-byte-requires c κs = search needs
-
-put-two-bytes-requires : tie.Need-put-two-bytes-requires
-put-two-bytes-requires c κs = search needs
-
-put-two-bytes-requires-2 : tie.Need-put-two-bytes-requires-2
-put-two-bytes-requires-2 c κs = search needs
-
-same-length : tie.Need-same-length
-same-length c = search needs
-
 returns : tie.Need-returns
 returns c =
     let third = c .before .before in
@@ -27,4 +15,4 @@ returns c =
 
 pub put-two-numbers-spec : {M : Type 1} → statement M
 put-two-numbers-spec =
-    tie.close (tie.spec put-byte-requires put-two-bytes-requires put-two-bytes-requires-2 same-length returns)
+    tie.close (tie.spec (λ c κs. search needs) (λ c κs. search needs) (λ c κs. search needs) (λ c. search needs) returns)

@@ -25,18 +25,6 @@ record-of-requires-3 c κs = (c .before .before .if1 .left, sym (c .match .keys3
 record-of-requires-4 : tie.Need-record-of-requires-4
 record-of-requires-4 c κs = (c .before .before .if1 .left, refl)
 
-returns-2 : tie.Need-returns-2
-returns-2 c = search needs
-
-returns-3 : tie.Need-returns-3
-returns-3 c = search needs
-
-returns-4 : tie.Need-returns-4
-returns-4 c = search needs
-
-returns-5 : tie.Need-returns-5
-returns-5 c = search needs
-
 pub next-record-spec : {M : Type 1} → statement M
 next-record-spec =
     tie.close
@@ -47,7 +35,7 @@ next-record-spec =
     record-of-requires-2
     record-of-requires-3
     record-of-requires-4
-    returns-2
-    returns-3
-    returns-4
-    returns-5)
+    (λ c. search needs)
+    (λ c. search needs)
+    (λ c. search needs)
+    (λ c. search needs))
