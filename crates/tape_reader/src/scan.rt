@@ -26,8 +26,8 @@ pub fn scan_tape(tape: &[u8], at: usize, before: ParserState, lent: Lent) -> Sca
     let mut state = before;
     loop {
         let result = next(r, state, lent.followed);
-        let step = on_result(state, result, r.at, lent);
-        match step {
+        let transition = on_result(state, result, r.at, lent);
+        match transition {
             Transition::Refused(number, place) => return Scanned::Refused(
                 number,
                 place,
