@@ -132,7 +132,7 @@ class Faults(unittest.TestCase):
             self.assertIn(said, self.faults(**changed))
 
     def test_two_for_each_public_promise(self):
-        found = [edit for edit in edits.edits() if (edit.crate, edit.at) != ("tape_write", "write")]
+        found = [edit for edit in edits.edits() if (edit.crate, edit.at) != ("tape_writer", "write")]
         self.assertIn("write has 0 edits", "\n".join(edits.faults(found)))
 
 

@@ -38,8 +38,8 @@ END = "<!-- made by tools/edits.py: end -->"
 # The public promises, each with at least two edits. The C functions are found by their names.
 PUBLIC = {
     "calls": ["check", "price", "run"],
-    "tape_read": ["read"],
-    "tape_write": ["write"],
+    "tape_reader": ["read"],
+    "tape_writer": ["write"],
     "relief": ["clean"],
     "season": ["season_text"],
 }
