@@ -1,9 +1,9 @@
 // What is printed for a tape: the text of its job's answer, or of its refusal.
 
-use answer_text::answer::put_answer;
 use job::treat::treat;
 use model::ReadResult;
-use tape_reader::read::read;
+use tape_read::read::read;
+use text::answer::put_answer;
 use text::line::put_refusal;
 ghost use mathlib.Core.Path.{_≡_};
 ghost use lib.ListN.{length};

@@ -1,8 +1,8 @@
 // What the program prints for standard input.
 
-use report::whole::put_report;
 use season_read::Ended;
 use season_read::read_season;
+use text::report::put_report;
 ghost use mathlib.Core.Bool.{true, false};
 ghost use mathlib.Core.Path.{_≡_};
 ghost use Rattle.io.specs.Counts.{Counts};

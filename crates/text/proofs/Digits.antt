@@ -3,9 +3,7 @@ use mathlib.Core.Path.{_≡_, refl, sym, ap, ap₂, _∙_, subst}
 use mathlib.Core.Bool.{Bool, cond}
 use mathlib.Core.List.{List, [], _∷_, _++_}
 use Prim.Native.Nat.{ℕ, zero, suc, _+_, _*_, _-_, _/_, _%_, _^_, _≤_, _<_}
-use native.Mathlib.Decide.{decLe}
 use native.Mathlib.Omega.{arith}
-use lib.Pow.{pow-add}
 use borrow.Author.Tests.{lt-ltb, le-ltb}
 use lib.IntN.{ℤ, pos, negsuc, natAbs}
 use lib.Signed.{_≤ℤ_, _<ℤ_}
@@ -57,19 +55,6 @@ digits-decimal (suc k) n f = by-digits k n n (within k f) f
     within : (k : ℕ) → Fewest 10 1 n (suc k) → k ≤ n
     within zero f = omega arith
     within (suc k) f = omega (arith, at-least k n f, power-above (suc k))
-
--- a number of 64 bits has at most 20 digits
-pub at-most-twenty : (k n : ℕ) → n < 2 ^ 64 → Fewest 10 1 n k → k ≤ 20
-at-most-twenty zero n h f = omega arith
-at-most-twenty (suc zero) n h f = omega arith
-at-most-twenty (suc (suc k)) n h f = go (decLe (suc (suc k)) 20)
-  where
-    go : Dec (suc (suc k) ≤ 20) → suc (suc k) ≤ 20
-    go (yes l) = l
-    go (no g) =
-        let j : ℕ = suc k - 20 in
-        let p : 10 ^ suc k ≡ 10 ^ 20 * 10 ^ j = ap (λ (e : ℕ). 10 ^ e) (omega (arith, g)) ∙ pow-add 10 20 j in
-        absurd (omega (arith, at-least k n f, power-above j))
 
 -- a signed number by its absolute value
 pub below-zero : (z : ℤ) → z <ℤ pos 0 → 45 ∷ decimal (natAbs z) ≡ signedDecimal z

@@ -1,31 +1,32 @@
 -- `text::number::put_decimal` meets its contract. Assumes nothing.
 use native.Mathlib.Omega.{arith}
-use mathlib.Core.Path.{_≡_, sym, _∙_}
+use mathlib.Core.Path.{_≡_, sym, ap, _∙_}
 use Prim.Native.Nat.{ℕ, _≤_}
 use lib.ListN.{length, take}
-use Rattle.output.proofs.Puts.{put-as}
-use Rattle.text.proofs.Digits.{digits-decimal, at-most-twenty}
+use Rattle.model.specs.Text.{decimal}
+use Rattle.output.proofs.Laid.{put-as}
+use Rattle.text.proofs.Lengths.{twenty-digits}
+use Rattle.text.proofs.Digits.{digits-decimal}
 use borrow.Author.Needs.{needs}
 use Rattle.text.proofs.number.put_decimal.Statement.{statement}
 use Rattle.text.proofs.number.put_decimal.Tie as tie
 
 -- the digits, and how many they are
-counted : (c : tie.After-decimal) → let k : ℕ = c .decimal .result in (length (take k (c .decimal .last .1 .0)) ≡ k) × (k ≤ 20)
-counted c =
-    (sym (c .decimal .ensures .0 .1), at-most-twenty (c .decimal .result) _ (c .before .before .before .fits .n .fits) (c .decimal .ensures .1 .0))
+digits-of : (c : tie.After-decimal) → take (c .decimal .result) (c .decimal .last .1 .0) ≡ decimal (c .before .before .before .args .n)
+digits-of c = c .decimal .ensures .1 .1 ∙ digits-decimal (c .decimal .result) _ (c .decimal .ensures .1 .0)
+
+count : (c : tie.After-decimal) → let k : ℕ = c .decimal .result in (length (take k (c .decimal .last .1 .0)) ≡ k) × (k ≤ 20)
+count c =
+    let size = sym (c .decimal .ensures .0 .1) in
+    (size, omega (arith, size, ap length (digits-of c), twenty-digits _ (c .before .before .before .fits .n .fits)))
 
 put-bytes-requires : tie.Need-put-bytes-requires
-put-bytes-requires c κs = omega (arith, counted (c .before .before))
+put-bytes-requires c κs = omega (arith, count (c .before .before))
 
 returns : tie.Need-returns
 returns c =
     let s = c .before .before .before .before .before in
-    let a = s .before .before .before .args in (
-      put-as
-          (s .decimal .ensures .1 .1 ∙ digits-decimal (s .decimal .result) (a .n) (s .decimal .ensures .1 .0))
-          (c .before .before .put-bytes .ensures),
-      omega (arith, counted s),
-    )
+    (put-as (digits-of s) (c .before .before .put-bytes .ensures), omega (arith, count s))
 
 pub put-decimal-spec : {M : Type 1} → statement M
 put-decimal-spec =

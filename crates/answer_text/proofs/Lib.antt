@@ -1,2 +1,0 @@
--- The laws of the text: that of an accepted answer.
-pub mod Answers
