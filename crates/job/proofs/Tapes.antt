@@ -1,9 +1,9 @@
 -- A tape that has been read into tables: what is shown of its job's answer and image. Assumes nothing.
 use mathlib.Core.Path.{_≡_, refl, sym, ap, ap₂, _∙_, subst}
 use mathlib.Core.Bool.{Bool, true, false, not, cond, true≢false}
-use mathlib.Core.List.{List}
+use mathlib.Core.List.{List, []}
 use mathlib.Core.Logic.{_⊎_, ⊎-elim}
-use Prim.Native.Nat.{ℕ, _*_, _≤_, _<_}
+use Prim.Native.Nat.{ℕ, _*_, _≤_, _<_, zero-le}
 use native.Mathlib.Omega.{arith}
 use lib.Dec.{eqb}
 use lib.IntN.{ℤ}
@@ -16,8 +16,8 @@ use Rattle.model.specs.declared.Verdict.{Verdict}
 use Rattle.lists.specs.Lists.{zeros, overwritten}
 use Rattle.model.specs.Grid.{sizeAllowed}
 use Rattle.model.specs.Verdict.{left}
-use Rattle.model.specs.Calls.{Answer, pixelsOf, pairsOf, imageOf, checkVerdict, checkAnswer, checkImage, runVerdict, runAnswer, runImage}
-use Rattle.model.specs.Tape.{Progress, Parse, turned, whole, parse, ReadAnswer, readOf, readAnswer, readSamples, readWeights, readFlow, lentBy}
+use Rattle.model.specs.Calls.{Answer, refusal, pixelsOf, pairsOf, imageOf, checkVerdict, checkAnswer, checkImage, runVerdict, runAnswer, runImage}
+use Rattle.model.specs.Tape.{Progress, nothing, Parse, turned, whole, parse, ReadAnswer, readOf, readAnswer, readSamples, readWeights, readFlow, lentBy}
 use Rattle.model.specs.declared.ReadResult.{ReadResult}
 use Rattle.model.specs.Answers.{readAnswerOf}
 use Rattle.model.specs.Program.{jobAnswer, jobImage}
@@ -27,8 +27,8 @@ use Rattle.roundtrip.proofs.Accepted.{accepted-job}
 use Rattle.roundtrip.proofs.Judged.{accepted-parse, passed-parse, answer-by, samples-by, weights-by, flow-by}
 use Rattle.roundtrip.proofs.RoundTrip.{counted}
 use Rattle.model.specs.RoundTrip.{allOf}
-use Rattle.job.specs.Tables.{Tables, Holds, answerIn, imageFront, imageIn}
-use Rattle.job.proofs.Formers.{Shows, ofCheck, same-check, ofRun, same-run}
+use Rattle.job.specs.Tables.{Tables, Holds, answerIn, imageFront, imageIn, SizeAllowed, TablesFor, answerFor, imageFor}
+use Rattle.job.proofs.Shown.{Shows, ofCheck, same-check, ofRun, same-run}
 
 -- the image that a call leaves is as long as the one it was lent, if that has a value for each pixel
 left-length : (n : ℕ) (v : Verdict) (new former : List ℤ) → length new ≡ n → length former ≡ n → length (left v new former) ≡ n
@@ -268,3 +268,49 @@ module _ {input samples : List ℕ} {weights flow : List ℤ} {byte : (i : ℕ) 
         there x l m n =
             shown (x .terms) (answerIn (x .terms) (x .rounds) (x .weighted) (x .flowed) l m n image work)
             (take (pixelsOf (x .terms)) (imageIn (x .terms) (x .rounds) (x .weighted) (x .flowed) l m n image work))
+
+-- ---- what was read, a job or a refusal
+
+-- what read gives for a tape
+pub record ReadFrom (input samples : List ℕ) (weights flow : List ℤ) (r : ReadResult) : Type 0 where
+  pub byte : (i : ℕ) → getD input i 0 < 256
+  pub answer : readAnswerOf r ≡ readAnswer input samples weights flow
+
+-- what is shown of a parse
+abbrev pub shownOf : {X : Type 0} → (Terms → Answer → List ℤ → X) → Parse → X
+shownOf shown (turned number place) = shown (nothing .terms) (refusal number place) []
+shownOf shown (whole p) = shown (p .terms) (jobAnswer p) (jobImage p)
+
+module _ {input samples : List ℕ} {weights flow : List ℤ} where
+  pub job-taken : {t : Terms} {r : Rounds} {own given : Bool} (k : ReadFrom input samples weights flow (ReadResult.Job t r own given)) →
+      Taken input samples weights flow (k .byte) t r own given
+  job-taken k = taken input samples weights flow (k .byte) _ _ _ _ (k .answer)
+
+  pub size-read : (r : ReadResult) → ReadFrom input samples weights flow r → SizeAllowed r
+  size-read (ReadResult.Job _ _ _ _) k = allowed (job-taken k)
+  size-read (ReadResult.Refused _ _) k = tt
+
+  pub tables-read : (r : ReadResult) → ReadFrom input samples weights flow r → {image work : ℕ} →
+      Holds (length samples) (length flow) image work → {s w f : ℕ} →
+      s ≡ length samples → w ≡ length weights → f ≡ length flow → TablesFor r s w f image work
+  tables-read (ReadResult.Job _ _ _ _) k holds = tables (job-taken k) holds
+  tables-read (ReadResult.Refused _ _) k holds = λ _ _ _. tt
+
+  -- the samples hold every pixel
+  pub held-read : (r : ReadResult) → ReadFrom input samples weights flow r → pixelsOf (readAnswerOf r .terms) ≤ length samples
+  held-read (ReadResult.Job _ _ _ _) k = held (job-taken k) .0
+  held-read (ReadResult.Refused _ _) k = zero-le
+
+  module _ (image work : List ℤ) (holds : Holds (length samples) (length flow) (length image) (length work))
+      {S : List ℕ} {W F : List ℤ} {X : Type 0} (shown : Terms → Answer → List ℤ → X) (shows : (u : Terms) → Shows (shown u)) where
+    pub answer-shown : (r : ReadResult) → ReadFrom input samples weights flow r → S ≡ readSamples input samples weights flow →
+        W ≡ readWeights input samples weights flow → F ≡ readFlow input samples weights flow → {a : Answer} {values : List ℤ} →
+        a ≡ answerFor r S W F image work → values ≡ imageFor r S W F image work →
+        shown (readAnswerOf r .terms) a (take (pixelsOf (readAnswerOf r .terms)) values)
+        ≡ shownOf shown (parse input (lentBy samples weights flow))
+    answer-shown (ReadResult.Job _ _ _ _) k s w f a g =
+        read-shown (job-taken k) image work holds s w f shown shows a g ∙ ap (shownOf shown) (sym (job-taken k .is))
+    answer-shown (ReadResult.Refused number place) k s w f {a = _} {values} a g =
+        ap (λ (y : Answer). shown (nothing .terms) y (take 0 values)) a
+        ∙ shows (nothing .terms) .alike number place (take 0 values) []
+        ∙ ap (shownOf shown) (sym (turned-back input samples weights flow (k .byte) number place (k .answer)))

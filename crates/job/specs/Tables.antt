@@ -2,14 +2,15 @@
 use mathlib.Core.Path.{_≡_}
 use mathlib.Core.Bool.{Bool, true, cond}
 use mathlib.Core.List.{List, _++_}
-use Prim.Native.Nat.{ℕ, _*_, _≤_}
+use Prim.Native.Nat.{ℕ, _+_, _*_, _≤_}
 use lib.IntN.{ℤ}
 use lib.ListN.{take, drop}
 use Rattle.model.specs.declared.Terms.{Terms}
 use Rattle.model.specs.declared.Rounds.{Rounds}
+use Rattle.model.specs.declared.ReadResult.{ReadResult}
 use Rattle.model.specs.Grid.{sizeAllowed}
 use Rattle.model.specs.RoundTrip.{allOf}
-use Rattle.model.specs.Calls.{Answer, pixelsOf, pairsOf, checkAnswer, checkImage, runAnswer, runFlow, runImage, runWork}
+use Rattle.model.specs.Calls.{Answer, refusal, pixelsOf, pairsOf, checkAnswer, checkImage, runAnswer, runImage}
 
 -- an allowed size, and tables that are long enough
 pub record Tables (t : Terms) (samples weights flow image work : ℕ) : Type 0 where
@@ -24,6 +25,11 @@ pub record Tables (t : Terms) (samples weights flow image work : ℕ) : Type 0 w
 pub record Holds (samples flow image work : ℕ) : Type 0 where
   pub imageHolds : samples ≤ image
   pub workHolds : 2 * flow ≤ work
+
+-- .. and an output for the text of its answer
+pub record TextTables (samples flow image work output : ℕ) : Type 0 where
+  pub holds : Holds samples flow image work
+  pub outputHolds : 125 + 23 * samples ≤ output
 
 module _ (t : Terms) (r : Rounds) (weighted flowed : Bool) (samples : List ℕ) (weights flow image work : List ℤ) where
   -- what the calls are lent: the tables' fronts
@@ -42,7 +48,7 @@ module _ (t : Terms) (r : Rounds) (weighted flowed : Bool) (samples : List ℕ) 
   abbrev workLent : List ℤ
   workLent = take (2 * pairsOf t) work
 
-  -- their answer, and what they leave in each front; the rest is left
+  -- their answer, and what they leave in the image's front; the rest is left
   abbrev pub answerIn : Answer
   answerIn =
       cond flowed
@@ -55,11 +61,24 @@ module _ (t : Terms) (r : Rounds) (weighted flowed : Bool) (samples : List ℕ) 
       (checkImage t samplesLent weightsLent flowLent imageLent)
       (runImage t r samplesLent weightsLent flowLent imageLent workLent)
 
-  abbrev pub flowIn : List ℤ
-  flowIn = cond flowed flow (runFlow t r samplesLent weightsLent flowLent imageLent workLent ++ drop (pairsOf t) flow)
-
   abbrev pub imageIn : List ℤ
   imageIn = imageFront ++ drop (pixelsOf t) image
 
-  abbrev pub workIn : List ℤ
-  workIn = cond flowed work (runWork t r samplesLent weightsLent flowLent imageLent workLent ++ drop (2 * pairsOf t) work)
+-- the same of what was read: a job, or a refusal, which asks nothing of the tables
+abbrev pub SizeAllowed : ReadResult → Type 0
+SizeAllowed (ReadResult.Job t r weighted flowed) = sizeAllowed (t .width) (t .height) ≡ true
+SizeAllowed (ReadResult.Refused number place) = Unit {0}
+
+abbrev pub TablesFor : ReadResult → ℕ → ℕ → ℕ → ℕ → ℕ → Type 0
+TablesFor (ReadResult.Job t r weighted flowed) samples weights flow image work = Tables t samples weights flow image work
+TablesFor (ReadResult.Refused number place) samples weights flow image work = Unit {0}
+
+abbrev pub answerFor : ReadResult → List ℕ → List ℤ → List ℤ → List ℤ → List ℤ → Answer
+answerFor (ReadResult.Job t r weighted flowed) samples weights flow image work =
+    answerIn t r weighted flowed samples weights flow image work
+answerFor (ReadResult.Refused number place) samples weights flow image work = refusal number place
+
+abbrev pub imageFor : ReadResult → List ℕ → List ℤ → List ℤ → List ℤ → List ℤ → List ℤ
+imageFor (ReadResult.Job t r weighted flowed) samples weights flow image work =
+    imageIn t r weighted flowed samples weights flow image work
+imageFor (ReadResult.Refused number place) samples weights flow image work = image

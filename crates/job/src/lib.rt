@@ -1,3 +1,7 @@
 // The job of a tape, in tables that are lent.
-//     treat    the job, its numbers in the fronts of the tables
-pub mod treat;
+//     call     its call: check, or run
+//     answer   the answer to what was read
+//     tape     the text for a tape
+pub mod answer;
+mod call;
+pub mod tape;

@@ -1,5 +1,6 @@
 // What the program prints for the bytes that it has read.
 
+use job::tape::put_tape_answer;
 use text::line::put_refusal;
 ghost use mathlib.Core.Path.{_≡_};
 ghost use lib.ListN.{length};
@@ -22,7 +23,7 @@ pub fn clean(input: &[u8], output: &mut [u8; 98304]) -> usize
     let mut flow = [0i32; 8064];
     let mut image = [0i32; 4096];
     let mut work = [0i32; 16128];
-    job_text::clean(
+    put_tape_answer(
         input,
         &mut samples,
         &mut weights,

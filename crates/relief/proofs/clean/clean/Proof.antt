@@ -16,7 +16,7 @@ returns-2 c =
     let s = c .before .before .before .before .before in
     let start = s .before .before .before .before .before .before .before .before .before in
     let few = s .before .before .before .before .before .before .before .if1 .left in
-    let f = put-front (put-as (not-too-long (start .args .input .now) (omega (arith, few))) (s .clean .ensures .0)) in
+    let f = put-front (put-as (not-too-long (start .args .input .now) (omega (arith, few))) (s .put-tape-answer .ensures)) in
     (f .counted, (f .filled, (f .within, f .first)))
 
 pub clean-spec : {M : Type 1} → statement M

@@ -1,4 +1,4 @@
--- `job::treat::treat` meets its contract. Assumes nothing.
+-- `job::call::check_or_run` meets its contract. Assumes nothing.
 use native.Mathlib.Omega.{arith}
 use mathlib.Core.Path.{_≡_, sym, ap}
 use mathlib.Core.Bool.{Bool, true, false}
@@ -9,12 +9,12 @@ use lib.ListN.{length, take, drop}
 use lib.Seq.{length-take-le}
 use Rattle.model.specs.declared.Terms.{Terms}
 use Rattle.model.specs.declared.Rounds.{Rounds}
-use Rattle.model.specs.Calls.{Answer, pixelsOf, pairsOf, checkAnswer, checkImage, runAnswer, runFlow, runImage, runWork}
+use Rattle.model.specs.Calls.{Answer, pixelsOf, pairsOf, checkAnswer, checkImage, runAnswer, runImage}
 use Rattle.model.specs.RoundTrip.{allOf}
-use Rattle.job.specs.Tables.{answerIn, flowIn, imageIn, workIn}
+use Rattle.job.specs.Tables.{answerIn, imageIn}
 use borrow.Author.Needs.{needs}
-use Rattle.job.proofs.treat.treat.Statement.{statement}
-use Rattle.job.proofs.treat.treat.Tie as tie
+use Rattle.job.proofs.call.check_or_run.Statement.{statement}
+use Rattle.job.proofs.call.check_or_run.Tie as tie
 
 -- what check and run leave, by the counts and the branch
 module _ (t : Terms) (r : Rounds) (weighted : Bool) (s : List ℕ) (o f i w : List ℤ) {n m k : ℕ} (pixels : n ≡ pixelsOf t)
@@ -22,21 +22,14 @@ module _ (t : Terms) (r : Rounds) (weighted : Bool) (s : List ℕ) (o f i w : Li
   checked-in : {a : Answer} {values : List ℤ} → flowed ≡ true →
       a ≡ checkAnswer t (take n s) (take k o) (take m f) (take n i) →
       values ≡ checkImage t (take n s) (take k o) (take m f) (take n i) →
-      (a ≡ answerIn t r weighted flowed s o f i w)
-      × ((f ≡ flowIn t r weighted flowed s o f i w)
-      × ((values ++ drop n i ≡ imageIn t r weighted flowed s o f i w) × (w ≡ workIn t r weighted flowed s o f i w)))
-  checked-in b e g = (cc, (cc, (cc, cc)))
+      (a ≡ answerIn t r weighted flowed s o f i w) × (values ++ drop n i ≡ imageIn t r weighted flowed s o f i w)
+  checked-in b e g = (cc, cc)
 
-  run-in : {a : Answer} {flow values work : List ℤ} → flowed ≡ false →
+  run-in : {a : Answer} {values : List ℤ} → flowed ≡ false →
       a ≡ runAnswer t r (take n s) (take k o) (take m f) (take n i) (take (2 * m) w) →
-      flow ≡ runFlow t r (take n s) (take k o) (take m f) (take n i) (take (2 * m) w) →
       values ≡ runImage t r (take n s) (take k o) (take m f) (take n i) (take (2 * m) w) →
-      work ≡ runWork t r (take n s) (take k o) (take m f) (take n i) (take (2 * m) w) →
-      (a ≡ answerIn t r weighted flowed s o f i w)
-      × ((flow ++ drop m f ≡ flowIn t r weighted flowed s o f i w)
-      × ((values ++ drop n i ≡ imageIn t r weighted flowed s o f i w)
-      × (work ++ drop (2 * m) w ≡ workIn t r weighted flowed s o f i w)))
-  run-in b e g h l = (cc, (cc, (cc, cc)))
+      (a ≡ answerIn t r weighted flowed s o f i w) × (values ++ drop n i ≡ imageIn t r weighted flowed s o f i w)
+  run-in b e g = (cc, cc)
 
 -- the length of a front that a table holds
 lent : {A : Type 0} {n m : ℕ} (l : List A) → n ≡ m → m ≤ length l → n ≡ length (take n l)
@@ -52,7 +45,7 @@ slice-aggregate-codes c = lent _ (c .before .before .pixels .ensures) (c .before
 
 slice-aggregate-own : tie.Need-slice-aggregate-own
 slice-aggregate-own c =
-    let k = c .before .weights-of in
+    let k = c .before .weight-count in
     let m = c .before .before .before .pairs in
     let s = c .before .before .before .before .before .before in
     lent _ (k .ensures) (omega (arith, weights-most (s .args .weighted) (m .result), m .ensures, s .pre .weightsHold))
@@ -89,7 +82,7 @@ returns c =
     let q = c .before .check .ensures in
     checked-in (start .args .t) (start .args .r) (start .args .weighted) (start .args .samples .now) (start .args .weights .now)
     (start .args .flow .now) (start .args .image .now) (start .args .work .now) (p .before .pixels .ensures) (p .pairs .ensures)
-    (c .before .before .before .before .before .before .weights-of .ensures) (c .before .before .before .before .if1 .taken)
+    (c .before .before .before .before .before .before .weight-count .ensures) (c .before .before .before .before .if1 .taken)
     (q .0) (q .1 .0)
 
 returns-2 : tie.Need-returns-2
@@ -99,11 +92,11 @@ returns-2 c =
     let q = c .before .before .before .run .ensures in
     run-in (start .args .t) (start .args .r) (start .args .weighted) (start .args .samples .now) (start .args .weights .now)
     (start .args .flow .now) (start .args .image .now) (start .args .work .now) (p .before .pixels .ensures) (p .pairs .ensures)
-    (c .before .before .before .before .before .before .before .before .before .weights-of .ensures)
-    (c .before .before .before .before .before .before .before .if1 .left) (q .0) (q .1 .0) (q .1 .1 .0) (q .1 .1 .1 .0)
+    (c .before .before .before .before .before .before .before .before .before .weight-count .ensures)
+    (c .before .before .before .before .before .before .before .if1 .left) (q .0) (q .1 .1 .0)
 
-pub treat-spec : {M : Type 1} → statement M
-treat-spec =
+pub check-or-run-spec : {M : Type 1} → statement M
+check-or-run-spec =
     tie.close
     (tie.spec
     (λ c κs. search needs)

@@ -1,3 +1,0 @@
--- What the contracts cite beside the definitions of the model and of a job in tables.
---     Answered   the answer of a tape whose records have passed
-pub mod Answered
