@@ -1,5 +1,5 @@
 -- What the bytes at hand come to, from what taking a job of the first 65,536 of them gives. Assumes nothing.
-use mathlib.Core.Path.{_≡_, sym, ap, ap₂, _∙_, subst}
+use mathlib.Core.Path.{_≡_, sym, ap, ap₂, _∙_, subst, subst⁻¹}
 use mathlib.Core.Bool.{Bool, true, false, true≢false}
 use mathlib.Core.List.{List, [], _++_, append-nil}
 use Prim.Native.Nat.{ℕ, _+_, _≤_, _<_}
@@ -8,16 +8,20 @@ use lib.ListN.{length, take, drop, length-append, length-take}
 use lib.Seq.{take-all, drop-append-le}
 use Rattle.lists.proofs.Tables.{length-none}
 use Rattle.model.specs.declared.Lent.{Lent}
+use Rattle.model.specs.declared.Terms.{Terms}
 use Rattle.model.specs.declared.Totals.{Totals}
+use Rattle.model.specs.declared.Answer.{Answer}
 use Rattle.model.specs.declared.Verdict.{Verdict}
 use Rattle.model.specs.Tape.{turned, parse}
-use Rattle.model.specs.Season.{bytesOf}
-use Rattle.tape_records.specs.declared.state.ParserState.{ParserState}
-use Rattle.tape_reader.specs.Scan.{Reached}
+use Rattle.model.specs.Season.{bytesOf, treated}
+use Rattle.records.specs.declared.tally.Tally.{Tally}
+use Rattle.tape_scan.specs.Scan.{Reached}
 use Rattle.roundtrip.proofs.Offsets.{tape-length}
+use Rattle.stream.specs.Totals.{withJob, Bounded}
 use Rattle.stream.specs.Report.{Report, reportFrom}
-use Rattle.job_take.specs.Taken.{Short, Refused, Counted}
-use Rattle.stream.specs.AtHand.{Reports, GoesOn, Wants}
+use Rattle.stream.specs.Jobs.{Short, Refused, Whole}
+use Rattle.stream.specs.AtHand.{Reports, CountsJob, NeedsMore}
+use Rattle.stream.proofs.Sums.{bounded-more}
 use Rattle.stream.proofs.First.{no-bytes, first-whole, first-faulty, first-past, first-ended}
 use Rattle.stream.proofs.Reports.{over-report, refused-report, counted-report}
 
@@ -28,22 +32,24 @@ module _ (bytes : List ℕ) (lent : Lent) (t : Totals) (few : t .jobs < 65535) w
   abbrev front : List ℕ
   front = take 65536 bytes
 
-  pub next-counted : {after : Totals} {size : ℕ} → Counted front lent t after size → GoesOn bytes lent t after size
+  pub next-counted : {u : Terms} {a : Answer} {after : Totals} {size : ℕ} (c : Whole front lent t u a size) →
+      after ≡ withJob t (treated (c .job)) → CountsJob bytes lent t after size
   unfolding bytesOf
-  next-counted {after} {size} c =
+  next-counted {after = after} {size} c is =
       let j = c .job in
       let some = tape-length (j .terms) (j .rounds) (j .samples) (j .weights) (j .flow) in
       let long : size ≤ length bytes = omega (arith, c .inside, length-take 65536 bytes) in
+      let k = c .countable in
       record {
         inside = long;
-        one = ap (λ (x : Totals). x .jobs) (c .added .totals);
-        bounded = c .added .bounded;
+        one = ap (λ (x : Totals). x .jobs) is;
+        bounded = subst⁻¹ Bounded is (bounded-more t (treated j) (k .bounded) (k .pixelsAllowed) (k .slackAllowed));
         report =
             λ rest.
             counted-report lent t few (bytes ++ rest)
-            (λ z. omega (arith, z, length-append bytes rest, c .size, some))
+            (λ z. omega (arith, z, length-append bytes rest, c .length-in-bytes, some))
             (first-whole lent bytes rest (c .read))
-            ∙ ap₂ (λ (x : Totals) (n : ℕ). reportFrom lent x (drop n (bytes ++ rest))) (sym (c .added .totals)) (sym (c .size))
+            ∙ ap₂ (λ (x : Totals) (n : ℕ). reportFrom lent x (drop n (bytes ++ rest))) (sym is) (sym (c .length-in-bytes))
             ∙ ap (reportFrom lent after) (drop-append-le size bytes rest long);
       }
 
@@ -64,9 +70,9 @@ module _ (bytes : List ℕ) (lent : Lent) (t : Totals) (few : t .jobs < 65535) w
         (first-past lent bytes rest l (s .refused) (s .short))
 
     module _ (l : length bytes ≤ 65536) where
-      pub next-more : {ended : Bool} → ended ≡ false → Wants bytes ended lent u o
+      pub next-more : {ended : Bool} → ended ≡ false → NeedsMore bytes ended lent u o
       next-more e =
-          record { reached = subst (λ (x : List ℕ). Reached x lent u o) (take-all 65536 bytes l) (s .reached); few = l; goesOn = e }
+          record { reached = subst (λ (x : List ℕ). Reached x lent u o) (take-all 65536 bytes l) (s .reached); few = l; notEnded = e }
 
       pub next-ended : {ended : Bool} → ended ≡ true → ¬ (length bytes ≡ 0) → Reports bytes ended lent t (ends t n q)
       next-ended e some rest follows =

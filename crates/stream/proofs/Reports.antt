@@ -12,8 +12,8 @@ use Rattle.model.specs.declared.Verdict.{Verdict}
 use Rattle.model.specs.Tape.{Progress, turned, whole}
 use Rattle.model.specs.Season.{firstJob, bytesOf, Treated, treated, Season, ended, followedBy, seasonFrom, totalsOf, reportText, seasonText}
 use Rattle.model.specs.Program.{tables}
-use Rattle.totals.specs.Counted.{withJob}
-use Rattle.totals.proofs.Season.{counted-more}
+use Rattle.stream.specs.Totals.{withJob}
+use Rattle.stream.proofs.Sums.{with-job-more}
 use Rattle.stream.specs.Report.{withJobs, Report, reportFrom}
 
 abbrev ends : Totals → Verdict → Report
@@ -73,7 +73,7 @@ with-jobs : (done jobs : List Treated) → withJobs (totalsOf done) jobs ≡ tot
 unfolding withJobs
 with-jobs done [] = ap totalsOf (sym (append-nil done))
 with-jobs done (job ∷ jobs) =
-    ap (λ (t : Totals). withJobs t jobs) (counted-more done job)
+    ap (λ (t : Totals). withJobs t jobs) (with-job-more done job)
     ∙ with-jobs (done ++ (job ∷ [])) jobs
     ∙ ap totalsOf (append-assoc done (job ∷ []) jobs)
 

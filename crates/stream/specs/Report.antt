@@ -5,7 +5,7 @@ use Rattle.model.specs.declared.Lent.{Lent}
 use Rattle.model.specs.declared.Totals.{Totals}
 use Rattle.model.specs.declared.Verdict.{Verdict}
 use Rattle.model.specs.Season.{Treated, Season, seasonFrom}
-use Rattle.totals.specs.Counted.{withJob}
+use Rattle.stream.specs.Totals.{withJob}
 
 -- the totals with more jobs counted, one by one
 unfoldable pub withJobs : Totals → List Treated → Totals

@@ -15,7 +15,7 @@ use Rattle.model.specs.Calls.{Outcome, refused, checked, settled, spent, refusa
 use Rattle.model.specs.Season.{Treated, sumOver, settledOne, spentOne, checkedOne, slackOf, largestSlack, hasSlack, firstLargest, totalsOf}
 use Rattle.lists.proofs.First.{First, firstWhere-first, firstWhere-is}
 use Rattle.calls.specs.Slack.{mostSlack}
-use Rattle.totals.specs.Counted.{leads, withJob, Bounded}
+use Rattle.stream.specs.Totals.{leads, withJob, Bounded}
 
 -- ---- The sums
 
@@ -187,8 +187,8 @@ pub bounded-none : Bounded (totalsOf [])
 unfolding sumOver
 bounded-none = omega arith
 
-pub countable-more : (t : Totals) (job : Treated) → Bounded t → job .pixels ≤ 4096 → slackOf job ≤ mostSlack * job .pixels → Bounded (withJob t job)
-countable-more t job b p s = omega (arith, one-way (job .answer .outcome))
+pub bounded-more : (t : Totals) (job : Treated) → Bounded t → job .pixels ≤ 4096 → slackOf job ≤ mostSlack * job .pixels → Bounded (withJob t job)
+bounded-more t job b p s = omega (arith, one-way (job .answer .outcome))
 
 largest-next : (done : List Treated) (job : Treated) → withJob (totalsOf done) job .largest ≡ largestSlack (done ++ (job ∷ []))
 unfolding largestSlack
@@ -200,8 +200,8 @@ unfolding largestSlack firstLargest
 first-next [] job = first-alone job
 first-next (first ∷ rest) job = first-behind first rest job
 
-pub counted-more : (done : List Treated) (job : Treated) → withJob (totalsOf done) job ≡ totalsOf (done ++ (job ∷ []))
-counted-more done job =
+pub with-job-more : (done : List Treated) (job : Treated) → withJob (totalsOf done) job ≡ totalsOf (done ++ (job ∷ []))
+with-job-more done job =
     cc (
       sym (length-append done (job ∷ [])),
       sum-more (λ j. j .pixels) done job,

@@ -1,4 +1,4 @@
--- `totals::counted` meets its contract. Assumes nothing.
+-- `stream::totals::with_job` meets its contract. Assumes nothing.
 use native.Mathlib.Omega.{arith}
 use mathlib.Core.Path.{_≡_, ap, ap₂, _∙_}
 use Prim.Native.Nat.{ℕ, _+_, _*_, _^_, _≤_, _<_}
@@ -6,16 +6,16 @@ use native.Mathlib.Nat.{mul-le-mul}
 use Rattle.model.specs.declared.Totals.{Totals}
 use Rattle.model.specs.Answers.{answerOf}
 use Rattle.calls.proofs.Sizes.{most-slack-fits}
-use Rattle.totals.specs.declared.Share.{Share}
-use Rattle.totals.specs.declared.Peak.{Peak}
-use Rattle.totals.specs.Counted.{peakOf}
-use Rattle.totals.proofs.Season.{one-way}
+use Rattle.stream.specs.declared.totals.Addend.{Addend}
+use Rattle.stream.specs.declared.totals.Peak.{Peak}
+use Rattle.stream.specs.Totals.{peakOf}
+use Rattle.stream.proofs.Sums.{one-way}
 use borrow.Author.Needs.{needs}
-use Rattle.totals.proofs.counted.Statement.{statement}
-use Rattle.totals.proofs.counted.Tie as tie
+use Rattle.stream.proofs.totals.with_job.Statement.{statement}
+use Rattle.stream.proofs.totals.with_job.Tie as tie
 
--- the totals by a share and a peak, and by an equal share
-abbrev summed : Totals → ℕ → Share → Peak → Totals
+-- the totals by an addend and a peak, and by an equal addend
+abbrev summed : Totals → ℕ → Addend → Peak → Totals
 summed t pixels s p =
     record {
       jobs = t .jobs + 1;
@@ -28,27 +28,27 @@ summed t pixels s p =
       first = p .first;
     }
 
-by-share : (t : Totals) (pixels : ℕ) {s other : Share} {p : Peak} → s ≡ other → p ≡ peakOf (t .jobs) (t .largest) (t .first) (s .slack) →
+by-addend : (t : Totals) (pixels : ℕ) {s other : Addend} {p : Peak} → s ≡ other → p ≡ peakOf (t .jobs) (t .largest) (t .first) (s .slack) →
     summed t pixels s p ≡ summed t pixels other (peakOf (t .jobs) (t .largest) (t .first) (other .slack))
-by-share t pixels {s} {other} e g =
-    ap₂ (summed t pixels) e (g ∙ ap (λ (x : Share). peakOf (t .jobs) (t .largest) (t .first) (x .slack)) e)
+by-addend t pixels {s} {other} e g =
+    ap₂ (summed t pixels) e (g ∙ ap (λ (x : Addend). peakOf (t .jobs) (t .largest) (t .first) (x .slack)) e)
 
 -- each way of ending adds at most 1, and the slack leaves the total below 2 ^ 64
-fit : (c : tie.After-share-of) → let t = c .before .args .t in let s = c .share-of .result in
+fit : (c : tie.After-addend-of) → let t = c .before .args .t in let s = c .addend-of .result in
     (t .settled + s .settled < 65536)
     × ((t .spent + s .spent < 65536) × ((t .checked + s .checked < 65536) × (t .total + s .slack < 2 ^ 64)))
 fit c =
-    let e = c .share-of .ensures in
+    let e = c .addend-of .ensures in
     let p = c .before .pre in
     let t = c .before .args .t in
     let few : t .pixels + c .before .args .pixels ≤ 4096 * 65535 = omega (arith, p .bounded, p .notLast, p .pixelsAllowed) in
     let once = one-way (answerOf (c .before .args .answer) .outcome) in (
-      omega (arith, ap (λ (s : Share). s .settled) e, once, p .bounded, p .notLast),
+      omega (arith, ap (λ (s : Addend). s .settled) e, once, p .bounded, p .notLast),
       (
-        omega (arith, ap (λ (s : Share). s .spent) e, once, p .bounded, p .notLast),
+        omega (arith, ap (λ (s : Addend). s .spent) e, once, p .bounded, p .notLast),
         (
-          omega (arith, ap (λ (s : Share). s .checked) e, once, p .bounded, p .notLast),
-          omega (arith, ap (λ (s : Share). s .slack) e, p .bounded .totalWithin, p .slackAllowed, mul-le-mul most-slack-fits few),
+          omega (arith, ap (λ (s : Addend). s .checked) e, once, p .bounded, p .notLast),
+          omega (arith, ap (λ (s : Addend). s .slack) e, p .bounded .totalWithin, p .slackAllowed, mul-le-mul most-slack-fits few),
         ),
       ),
     )
@@ -69,10 +69,10 @@ returns : tie.Need-returns
 returns c =
     let p = c .before .before .before .before .before .before .before .before .before .before in
     let a = p .before .before .args in
-    by-share (a .t) (a .pixels) (p .before .share-of .ensures) (p .peak-with .ensures)
+    by-addend (a .t) (a .pixels) (p .before .addend-of .ensures) (p .peak-with .ensures)
 
-pub counted-spec : {M : Type 1} → statement M
-counted-spec =
+pub with-job-spec : {M : Type 1} → statement M
+with-job-spec =
     tie.close
     (tie.spec
     (λ c κs. search needs)

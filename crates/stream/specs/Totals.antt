@@ -7,12 +7,12 @@ use Rattle.model.specs.Calls.{Answer}
 use Rattle.calls.specs.Slack.{mostSlack}
 use Rattle.model.specs.declared.Totals.{Totals}
 use Rattle.model.specs.Season.{Treated, settledOne, spentOne, checkedOne, slackOf}
-use Rattle.totals.specs.declared.Share.{Share}
-use Rattle.totals.specs.declared.Peak.{Peak}
+use Rattle.stream.specs.declared.totals.Addend.{Addend}
+use Rattle.stream.specs.declared.totals.Peak.{Peak}
 
 -- what an answer adds: 1 for the way the job ended, and its slack
-abbrev pub shareOf : Answer → Share
-shareOf a =
+abbrev pub addendOf : Answer → Addend
+addendOf a =
     record {
       settled = settledOne (a .outcome);
       spent = spentOne (a .outcome);

@@ -1,11 +1,11 @@
--- `totals::peak_with` meets its contract. Assumes nothing.
+-- `stream::totals::peak_with` meets its contract. Assumes nothing.
 use mathlib.Core.Path.{sym, ap}
 use mathlib.Core.Bool.{Bool, cond}
 use Prim.Native.Nat.{_+_}
-use Rattle.totals.specs.declared.Peak.{Peak}
+use Rattle.stream.specs.declared.totals.Peak.{Peak}
 use borrow.Author.Needs.{needs}
-use Rattle.totals.proofs.peak_with.Statement.{statement}
-use Rattle.totals.proofs.peak_with.Tie as tie
+use Rattle.stream.proofs.totals.peak_with.Statement.{statement}
+use Rattle.stream.proofs.totals.peak_with.Tie as tie
 
 add-t9 : tie.Need-add-t9
 add-t9 c = search needs

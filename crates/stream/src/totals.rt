@@ -7,10 +7,10 @@ ghost use mathlib.Core.List.{[]};
 ghost use Prim.Native.Nat.{_<_};
 ghost use Rattle.model.specs.Season.{totalsOf};
 ghost use Rattle.model.specs.Answers.{answerOf};
-ghost use Rattle.totals.specs.Counted.{shareOf, peakOf, withJob, Countable};
+ghost use Rattle.stream.specs.Totals.{addendOf, peakOf, withJob, Countable};
 
 // What a job adds: 1 for the way it ended, and its slack.
-struct Share {
+struct Addend {
     settled: u32,
     spent: u32,
     checked: u32,
@@ -23,7 +23,7 @@ struct Peak {
     first: u32,
 }
 
-pub fn none() -> Totals
+pub fn no_jobs() -> Totals
     ensures { λ r. ⌜ r ≡ totalsOf [] ⌝ }
 {
     Totals {
@@ -38,10 +38,10 @@ pub fn none() -> Totals
     }
 }
 
-fn share_of(answer: Answer) -> Share
-    ensures { λ r. ⌜ r ≡ shareOf (answerOf answer) ⌝ }
+fn addend_of(answer: Answer) -> Addend
+    ensures { λ r. ⌜ r ≡ addendOf (answerOf answer) ⌝ }
 {
-    let mut s = Share {
+    let mut s = Addend {
         settled: 0,
         spent: 0,
         checked: 0,
@@ -101,11 +101,11 @@ fn peak_with(jobs: u32, largest: u64, first: u32, slack: u64) -> Peak
 }
 
 // The totals with a job more.
-pub fn counted(t: Totals, pixels: usize, answer: Answer) -> Totals
+pub fn with_job(t: Totals, pixels: usize, answer: Answer) -> Totals
     requires { ⌜ Countable t (record { pixels = pixels; answer = answerOf answer }) ⌝ }
     ensures { λ r. ⌜ r ≡ withJob t (record { pixels = pixels; answer = answerOf answer }) ⌝ }
 {
-    let s = share_of(answer);
+    let s = addend_of(answer);
     let p = peak_with(t.jobs, t.largest, t.first, s.slack);
     Totals {
         jobs: t.jobs + 1,

@@ -1,3 +1,0 @@
--- What the contracts cite beside the model's definitions.
---     Taken   one job taken from the bytes at hand
-pub mod Taken

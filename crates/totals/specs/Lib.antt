@@ -1,2 +1,0 @@
--- What the contracts cite: the totals of a season with one job more.
-pub mod Counted
