@@ -1,7 +1,12 @@
 // The season report: tapes that follow one another from standard input, their totals to standard output.
-mod text;
+//     window   the bytes at hand, in a buffer that is filled from standard input
+//     jobs     the jobs of standard input, one behind the other
+//     report   the text that is printed
+mod jobs;
+mod report;
+mod window;
 
-use text::season_text;
+use report::season_text;
 
 fn main() {
     let mut output = [0u8; 512];

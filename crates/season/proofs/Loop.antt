@@ -1,0 +1,80 @@
+-- What the loop over a season's jobs keeps: the report on all input that begins with the bytes read so far is the report on
+-- the bytes at hand and what follows, with the totals counted so far. Assumes nothing.
+use mathlib.Core.Path.{_≡_, refl, sym, ap, _∙_, subst⁻¹}
+use mathlib.Core.Bool.{true, false, true≢false}
+use mathlib.Core.List.{List, [], _++_, append-assoc}
+use Prim.Native.Nat.{ℕ, _≤_, zero-le}
+use native.Mathlib.Omega.{arith}
+use lib.IntN.{ℤ}
+use lib.ListN.{length}
+use Rattle.model.specs.declared.Lent.{Lent}
+use Rattle.model.specs.declared.Verdict.{Verdict}
+use Rattle.model.specs.Tape.{nothing}
+use Rattle.model.specs.Season.{totalsOf}
+use Rattle.records.specs.Tally.{tallyOf}
+use Rattle.tape_scan.proofs.Reached as scan
+use Rattle.stream.proofs.Sums.{bounded-none}
+use Rattle.stream.specs.Report.{reportFrom}
+use Rattle.stream.specs.Jobs.{lentIn}
+use Rattle.stream.specs.AtHand.{Reports}
+use Rattle.season.specs.declared.jobs.State.{State}
+use Rattle.season.specs.declared.jobs.Ended.{Ended}
+use Rattle.season.specs.Window.{atHand}
+use Rattle.season.specs.Jobs.{ValidState, Continues, ReportOf}
+
+-- the buffers keep their lengths
+pub record SameLengths (buffer₀ samples₀ : List ℕ) (weights₀ flow₀ image₀ work₀ : List ℤ) (buffer samples : List ℕ)
+    (weights flow image work : List ℤ) : Type 0 where
+  pub bufferLength : length buffer ≡ length buffer₀
+  pub samplesLength : length samples ≡ length samples₀
+  pub weightsLength : length weights ≡ length weights₀
+  pub flowLength : length flow ≡ length flow₀
+  pub imageLength : length image ≡ length image₀
+  pub workLength : length work ≡ length work₀
+
+-- .. so what a reading is lent stays the same
+pub same-lent : {buffer₀ samples₀ : List ℕ} {weights₀ flow₀ image₀ work₀ : List ℤ} {buffer samples : List ℕ}
+    {weights flow image work : List ℤ} →
+    SameLengths buffer₀ samples₀ weights₀ flow₀ image₀ work₀ buffer samples weights flow image work →
+    lentIn (length samples) (length weights) (length flow) ≡ lentIn (length samples₀) (length weights₀) (length flow₀)
+same-lent k i = lentIn (k .samplesLength i) (k .weightsLength i) (k .flowLength i)
+
+pub record Invariant (lent : Lent) (buffer : List ℕ) (s : State) : Type 0 where
+  pub input : List ℕ
+  pub valid : ValidState lent buffer s
+  pub report :
+      (rest : List ℕ) → reportFrom lent (totalsOf []) (input ++ rest) ≡ reportFrom lent (s .totals) (atHand buffer (s .window) ++ rest)
+
+module _ (lent : Lent) where
+  pub begins : (buffer : List ℕ) →
+      Invariant lent buffer (record { window = record { start = 0; end = 0; ended = false }; at = 0; tally = tallyOf nothing; totals = totalsOf [] })
+  begins buffer =
+      record {
+        input = [];
+        valid =
+            record {
+              within = record { ordered = zero-le; inside = zero-le };
+              reached = scan.start [] lent;
+              near = zero-le;
+              bounded = bounded-none;
+              notLast = omega arith;
+            };
+        report = λ rest. refl;
+      }
+
+  module _ {buffer : List ℕ} {s : State} (k : Invariant lent buffer s) where
+    pub continued : {after : List ℕ} {r : State} → Continues lent buffer s after r → Invariant lent after r
+    continued g =
+        record {
+          input = k .input ++ g .more;
+          valid = g .valid;
+          report =
+              λ rest.
+              ap (reportFrom lent (totalsOf [])) (append-assoc (k .input) (g .more) rest) ∙ k .report (g .more ++ rest) ∙ g .report rest;
+        }
+
+    pub stopped : {e : Ended} →
+        (e .failed ≡ false →
+        Reports (atHand buffer (s .window)) (e .ended) lent (s .totals) (record { totals = e .totals; ending = e .ending })) →
+        ReportOf lent e
+    stopped r ok = (k .input, λ rest f. k .report rest ∙ r ok rest f)

@@ -1,0 +1,133 @@
+-- `season::jobs::read_season` meets its contract. Assumes nothing.
+use mathlib.Core.Path.{_≡_, refl, sym, _∙_, subst, subst₂, subst⁻¹}
+use mathlib.Core.Bool.{false}
+use native.Mathlib.Omega.{arith}
+use borrow.Author.Needs.{needs}
+use lib.ListN.{length}
+use Rattle.model.specs.declared.Lent.{Lent}
+use Rattle.model.specs.declared.Totals.{Totals}
+use Rattle.records.specs.declared.tally.Tally.{Tally}
+use Rattle.stream.specs.Jobs.{lentIn}
+use Rattle.season.specs.declared.jobs.Step.{Step}
+use Rattle.season.specs.Jobs.{ValidState, left, StepOf}
+use Rattle.season.proofs.Loop.{SameLengths, same-lent, Invariant, begins, continued, stopped}
+use Rattle.season.proofs.jobs.read_season.Statement.{statement}
+use Rattle.season.proofs.jobs.read_season.Tie as tie
+
+abbrev Inv-loop : tie.InvT-loop
+Inv-loop buffer₀ samples₀ weights₀ flow₀ image₀ work₀ s₀ buffer samples weights flow image work s =
+    Invariant (lentIn (length samples₀) (length weights₀) (length flow₀)) buffer s
+    × SameLengths buffer₀ samples₀ weights₀ flow₀ image₀ work₀ buffer samples weights flow image work
+
+abbrev μ-loop : tie.MeasureT-loop
+μ-loop buffer₀ samples₀ weights₀ flow₀ image₀ work₀ s₀ buffer samples weights flow image work s = left s
+
+-- the places of the code: the start, the loop, and behind the step
+abbrev started : tie.At-loop Inv-loop μ-loop → tie.Start Inv-loop μ-loop
+started c = c .before .before .before .before .before
+
+abbrev in-loop : tie.After-advance Inv-loop μ-loop → tie.At-loop Inv-loop μ-loop
+in-loop c = c .before .before .before .before .before .before .before
+
+abbrev continues : tie.After-known-told Inv-loop μ-loop → tie.After-advance Inv-loop μ-loop
+continues c = c .before .before .before .before .before .before .before .before .before .before .before
+
+abbrev stops : tie.After-known-told2 Inv-loop μ-loop → tie.After-advance Inv-loop μ-loop
+stops c = c .before .before .before .before .before .before .before .before .before .before .before
+
+loop-holds : tie.Need-loop-holds Inv-loop μ-loop
+loop-holds c =
+    let a = c .before .before .before .before .args in
+    let lent = lentIn (length (a .samples .now)) (length (a .weights .now)) (length (a .flow .now)) in (
+      subst₂ (λ (t : Tally) (n : Totals). Invariant lent (a .buffer .now) (record { window = record { start = 0; end = 0; ended = false }; at = 0; tally = t; totals = n }))
+          (sym (c .before .fresh .ensures)) (sym (c .no-jobs .ensures)) (begins lent (a .buffer .now)),
+      record {
+        bufferLength = refl;
+        samplesLength = refl;
+        weightsLength = refl;
+        flowLength = refl;
+        imageLength = refl;
+        workLength = refl;
+      },
+    )
+
+advance-requires : tie.Need-advance-requires Inv-loop μ-loop
+advance-requires c κs =
+    let l = c .before .before .before .before .before .before in
+    let same = l .loop .inv .1 in
+    let ready = started l .pre in (
+      subst⁻¹ (λ (lent : Lent). ValidState lent (l .loop .buffer) (l .loop .s)) (same-lent same) (l .loop .inv .0 .valid),
+      record {
+        bufferLong = omega (arith, same .bufferLength, ready .bufferLong);
+        samplesMost = omega (arith, same .samplesLength, ready .samplesMost);
+        holds =
+            record {
+              imageHolds = omega (arith, same .samplesLength, same .imageLength, ready .holds .imageHolds);
+              workHolds = omega (arith, same .flowLength, same .workLength, ready .holds .workHolds);
+            };
+      },
+    )
+
+-- what a step gives, by its case
+stepped : (c : tie.After-advance Inv-loop μ-loop) {x : Step} → c .advance .result ≡ x →
+    let l = in-loop c in
+    let a = started l .args in
+    StepOf (lentIn (length (a .samples .now)) (length (a .weights .now)) (length (a .flow .now))) (l .loop .buffer) (l .loop .s)
+    (c .advance .last .0) x
+stepped c {x} e =
+    let l = in-loop c in
+    subst (λ (lent : Lent). StepOf lent (l .loop .buffer) (l .loop .s) (c .advance .last .0) x) (same-lent (l .loop .inv .1))
+    (subst (StepOf _ (l .loop .buffer) (l .loop .s) (c .advance .last .0)) e (c .advance .ensures))
+
+-- the buffers after a step
+lengths : (c : tie.After-advance Inv-loop μ-loop) →
+    let a = started (in-loop c) .args in
+    let b = c .advance .last in
+    SameLengths (a .buffer .now) (a .samples .now) (a .weights .now) (a .flow .now) (a .image .now) (a .work .now) (b .0)
+    (b .1 .1 .0) (b .1 .1 .1 .0) (b .1 .1 .1 .1 .0) (b .1 .1 .1 .1 .1 .0) (b .1 .1 .1 .1 .1 .1 .0)
+lengths c =
+    let same = in-loop c .loop .inv .1 in
+    let kept = c .advance .kept in
+    record {
+      bufferLength = kept .0 ∙ same .bufferLength;
+      samplesLength = kept .1 .1 .0 ∙ same .samplesLength;
+      weightsLength = kept .1 .1 .1 .0 ∙ same .weightsLength;
+      flowLength = kept .1 .1 .1 .1 .0 ∙ same .flowLength;
+      imageLength = kept .1 .1 .1 .1 .1 .0 ∙ same .imageLength;
+      workLength = kept .1 .1 .1 .1 .1 .1 .0 ∙ same .workLength;
+    }
+
+loop-less : tie.Need-loop-less Inv-loop μ-loop
+loop-less c = stepped (continues c) (c .before .step .given .1) .less
+
+loop-again : tie.Need-loop-again Inv-loop μ-loop
+loop-again c =
+    let v = continues c in
+    (continued _ (in-loop v .loop .inv .0) (stepped v (c .before .step .given .1)), lengths v)
+
+returns : tie.Need-returns Inv-loop μ-loop
+returns c =
+    let v = stops c in
+    stopped _ (in-loop v .loop .inv .0) (stepped v (c .before .step2 .given .1))
+
+pub read-season-spec : {M : Type 1} → statement M
+read-season-spec =
+    tie.close
+    (tie.spec
+    Inv-loop
+    μ-loop
+    (λ c κs. search needs)
+    (λ c κs. search needs)
+    loop-holds
+    advance-requires
+    (λ c. search needs)
+    loop-less
+    loop-again
+    (λ c. search needs)
+    (λ c. lengths (stops c) .bufferLength)
+    (λ c. lengths (stops c) .samplesLength)
+    (λ c. lengths (stops c) .weightsLength)
+    (λ c. lengths (stops c) .flowLength)
+    (λ c. lengths (stops c) .imageLength)
+    (λ c. lengths (stops c) .workLength)
+    returns)

@@ -1,0 +1,191 @@
+// The jobs of standard input, one behind the other.
+
+use crate::window::Input;
+use crate::window::Window;
+use crate::window::more_bytes;
+use model::Totals;
+use model::Verdict;
+use records::tally::Tally;
+use records::tally::fresh;
+use stream::next::Next;
+use stream::next::next_job;
+use stream::totals::no_jobs;
+ghost use mathlib.Core.List.{List};
+ghost use Prim.Native.Nat.{ℕ};
+ghost use lib.ListN.{length};
+ghost use Rattle.model.specs.declared.Lent.{Lent};
+ghost use Rattle.stream.specs.Jobs.{lentIn};
+ghost use Rattle.stream.specs.AtHand.{NextJob};
+ghost use Rattle.season.specs.Window.{atHand};
+ghost use Rattle.season.specs.Jobs.{ValidState, CanRead, HasRead, StepOf, ReportOf, SeasonTables};
+
+// The bytes at hand, what has been read of the job at their front and where its next record begins,
+// and the totals of the jobs before it.
+pub struct State {
+    pub window: Window,
+    pub at: usize,
+    pub tally: Tally,
+    pub totals: Totals,
+}
+
+// How a season ended: its totals, whether a job was refused, whether the input has ended, and
+// whether a read failed.
+pub struct Ended {
+    pub totals: Totals,
+    pub ending: Verdict,
+    pub ended: bool,
+    pub failed: bool,
+}
+
+// One step: on to the next state, or the season's end.
+pub enum Step {
+    Continue(State),
+    Stop(Ended),
+}
+
+// More bytes, where the job at the front of those at hand wants them.
+fn read_for(buffer: &mut [u8], w: Window, n: Next) -> Input
+    requires { ⌜ CanRead (now buffer) w n ⌝ }
+    ensures { λ r. ⌜ HasRead (now (buffer .entry)) w n (now (buffer .exit)) r ⌝ }
+{
+    let unread = Input {
+        window: w,
+        failed: false,
+    };
+    match n {
+        Next::More(_, _) => more_bytes(buffer, w),
+        Next::Over => unread,
+        Next::Refused(_, _) => unread,
+        Next::Counted(_, _) => unread,
+    }
+}
+
+// The step that follows, once what the bytes at hand come to is known. The last of 65,535 jobs ends the season.
+fn step_on(s: State, n: Next, input: Input) -> Step
+    requires { ⌜ ((lent : Lent) × (buffer : List ℕ) × ValidState lent buffer s × NextJob (atHand buffer (s .window)) (s .window .ended) lent (s .totals) n) ⌝ }
+    ensures { λ r. ⌜ ((lent : Lent) (before after : List ℕ) → ValidState lent before s → NextJob (atHand before (s .window)) (s .window .ended) lent (s .totals) n → HasRead before (s .window) n after input → StepOf lent before s after r) ⌝ }
+{
+    let w = s.window;
+    let totals = s.totals;
+    match n {
+        Next::Over => Step::Stop(Ended {
+            totals,
+            ending: Verdict::Accept,
+            ended: w.ended,
+            failed: false,
+        }),
+        Next::Refused(number, place) => Step::Stop(Ended {
+            totals,
+            ending: Verdict::Refuse { number, place },
+            ended: w.ended,
+            failed: false,
+        }),
+        Next::Counted(after, size) => {
+            if after.jobs < 65535 {
+                let window = Window {
+                    start: w.start + size,
+                    end: w.end,
+                    ended: w.ended,
+                };
+                let tally = fresh();
+                return Step::Continue(State {
+                    window,
+                    at: 0,
+                    tally,
+                    totals: after,
+                });
+            }
+            Step::Stop(Ended {
+                totals: after,
+                ending: Verdict::Accept,
+                ended: w.ended,
+                failed: false,
+            })
+        }
+        Next::More(tally, at) => {
+            let window = input.window;
+            if input.failed {
+                return Step::Stop(Ended {
+                    totals,
+                    ending: Verdict::Accept,
+                    ended: w.ended,
+                    failed: true,
+                });
+            }
+            Step::Continue(State {
+                window,
+                at,
+                tally,
+                totals,
+            })
+        }
+    }
+}
+
+// A job is counted, or more bytes are read.
+fn advance(
+    buffer: &mut [u8],
+    s: State,
+    samples: &mut [u8],
+    weights: &mut [i32],
+    flow: &mut [i32],
+    image: &mut [i32],
+    work: &mut [i32],
+) -> Step
+    requires { ⌜ ValidState (lentIn (length (now samples)) (length (now weights)) (length (now flow))) (now buffer) s × SeasonTables (length (now buffer)) (length (now samples)) (length (now flow)) (length (now image)) (length (now work)) ⌝ }
+    ensures { λ r. ⌜ StepOf (lentIn (length (now (samples .entry))) (length (now (weights .entry))) (length (now (flow .entry)))) (now (buffer .entry)) s (now (buffer .exit)) r ⌝ }
+{
+    let w = s.window;
+    let start = w.start;
+    let end = w.end;
+    let n = next_job(
+        &buffer[start..end],
+        w.ended,
+        s.at,
+        s.tally,
+        s.totals,
+        samples,
+        weights,
+        flow,
+        image,
+        work,
+    );
+    let input = read_for(buffer, w, n);
+    step_on(s, n, input)
+}
+
+// The jobs of standard input, to its end, a refusal, or the last of 65,535.
+pub fn read_season(
+    buffer: &mut [u8],
+    samples: &mut [u8],
+    weights: &mut [i32],
+    flow: &mut [i32],
+    image: &mut [i32],
+    work: &mut [i32],
+) -> Ended
+    requires { ⌜ SeasonTables (length (now buffer)) (length (now samples)) (length (now flow)) (length (now image)) (length (now work)) ⌝ }
+    ensures { λ r. ⌜ ReportOf (lentIn (length (now (samples .entry))) (length (now (weights .entry))) (length (now (flow .entry)))) r ⌝ }
+{
+    let window = Window {
+        start: 0,
+        end: 0,
+        ended: false,
+    };
+    let mut s = State {
+        window,
+        at: 0,
+        tally: fresh(),
+        totals: no_jobs(),
+    };
+    loop {
+        let step = advance(buffer, s, samples, weights, flow, image, work);
+        match step {
+            Step::Continue(r) => {
+                s = r;
+            }
+            Step::Stop(e) => {
+                return e;
+            }
+        }
+    }
+}

@@ -1,2 +1,0 @@
--- The laws of a window's bytes.
-pub mod Buffers
