@@ -40,60 +40,67 @@ weights-most : (weighted : Bool) (pairs : ℕ) → allOf weighted pairs ≤ pair
 weights-most true pairs = omega arith
 weights-most false pairs = omega arith
 
+-- the places of the code: the start, behind the counts, and where the call begins
+abbrev started : tie.After-pairs → tie.Start
+started c = c .before .before .before
+
+abbrev counted : tie.After-own → tie.After-pairs
+counted c = c .before .before .before
+
+abbrev checking : tie.After-image → tie.After-own
+checking c = c .before .before .before .before .before
+
+abbrev running : tie.After-work → tie.After-own
+running c = c .before .before .before .before .before .before .before .before
+
 slice-aggregate-codes : tie.Need-slice-aggregate-codes
-slice-aggregate-codes c = lent _ (c .before .before .pixels .ensures) (c .before .before .before .before .pre .samplesHold)
+slice-aggregate-codes c = lent _ (c .before .before .pixels .ensures) (started (c .before) .pre .samplesHold)
 
 slice-aggregate-own : tie.Need-slice-aggregate-own
 slice-aggregate-own c =
-    let k = c .before .weight-count in
-    let m = c .before .before .before .pairs in
-    let s = c .before .before .before .before .before .before in
-    lent _ (k .ensures) (omega (arith, weights-most (s .args .weighted) (m .result), m .ensures, s .pre .weightsHold))
+    let p = counted c in
+    lent _ (c .before .weight-count .ensures)
+    (omega (arith, weights-most (started p .args .weighted) (p .pairs .result), p .pairs .ensures, started p .pre .weightsHold))
 
 slice-aggregate-check : tie.Need-slice-aggregate-check
-slice-aggregate-check c =
-    let p = c .before .before .before .before .before in
-    lent _ (p .pairs .ensures) (p .before .before .before .pre .flowHolds)
+slice-aggregate-check c = let p = counted (c .before .before) in lent _ (p .pairs .ensures) (started p .pre .flowHolds)
 
 slice-aggregate-check-2 : tie.Need-slice-aggregate-check-2
 slice-aggregate-check-2 c =
-    let p = c .before .before .before .before .before .before .before in
-    lent _ (p .pixels .ensures) (p .before .before .pre .imageHolds)
+    let p = counted (c .before .before .before) in lent _ (p .before .pixels .ensures) (started p .pre .imageHolds)
 
 slice-aggregate-run : tie.Need-slice-aggregate-run
-slice-aggregate-run c =
-    let p = c .before .before .before .before .before in
-    lent _ (p .pairs .ensures) (p .before .before .before .pre .flowHolds)
+slice-aggregate-run c = let p = counted (c .before .before) in lent _ (p .pairs .ensures) (started p .pre .flowHolds)
 
 slice-aggregate-run-2 : tie.Need-slice-aggregate-run-2
 slice-aggregate-run-2 c =
-    let p = c .before .before .before .before .before .before .before in
-    lent _ (p .pixels .ensures) (p .before .before .pre .imageHolds)
+    let p = counted (c .before .before .before) in lent _ (p .before .pixels .ensures) (started p .pre .imageHolds)
 
 slice-aggregate-run-3 : tie.Need-slice-aggregate-run-3
 slice-aggregate-run-3 c =
-    let p = c .before .before .before .before .before .before .before in
-    lent _ (ap (λ (n : ℕ). 2 * n) (p .pairs .ensures)) (p .before .before .before .pre .workHolds)
+    let p = counted (c .before .before .before .before) in
+    lent _ (ap (λ (n : ℕ). 2 * n) (p .pairs .ensures)) (started p .pre .workHolds)
 
 returns : tie.Need-returns
 returns c =
-    let start = c .before .before .before .before .before .before .before .before .before .before .before in
-    let p = c .before .before .before .before .before .before .before .before in
+    let o = checking c in
+    let p = counted o in
+    let a = started p .args in
     let q = c .before .check .ensures in
-    checked-in (start .args .t) (start .args .r) (start .args .weighted) (start .args .samples .now) (start .args .weights .now)
-    (start .args .flow .now) (start .args .image .now) (start .args .work .now) (p .before .pixels .ensures) (p .pairs .ensures)
-    (c .before .before .before .before .before .before .weight-count .ensures) (c .before .before .before .before .if1 .taken)
-    (q .0) (q .1 .0)
+    checked-in (a .t) (a .r) (a .weighted) (a .samples .now) (a .weights .now) (a .flow .now) (a .image .now) (a .work .now)
+    (p .before .pixels .ensures) (p .pairs .ensures) (o .before .weight-count .ensures)
+    (c .before .before .before .before .if1 .taken) (q .0) (q .1 .0)
 
 returns-2 : tie.Need-returns-2
 returns-2 c =
-    let start = c .before .before .before .before .before .before .before .before .before .before .before .before .before .before in
-    let p = c .before .before .before .before .before .before .before .before .before .before .before in
-    let q = c .before .before .before .run .ensures in
-    run-in (start .args .t) (start .args .r) (start .args .weighted) (start .args .samples .now) (start .args .weights .now)
-    (start .args .flow .now) (start .args .image .now) (start .args .work .now) (p .before .pixels .ensures) (p .pairs .ensures)
-    (c .before .before .before .before .before .before .before .before .before .weight-count .ensures)
-    (c .before .before .before .before .before .before .before .if1 .left) (q .0) (q .1 .1 .0)
+    let o = running c in
+    let p = counted o in
+    let a = started p .args in
+    let r = c .before .before .before in
+    let q = r .run .ensures in
+    run-in (a .t) (a .r) (a .weighted) (a .samples .now) (a .weights .now) (a .flow .now) (a .image .now) (a .work .now)
+    (p .before .pixels .ensures) (p .pairs .ensures) (o .before .weight-count .ensures)
+    (r .before .before .before .before .if1 .left) (q .0) (q .1 .1 .0)
 
 pub check-or-run-spec : {M : Type 1} → statement M
 check-or-run-spec =

@@ -11,12 +11,16 @@ returns c =
     let f = put-front (put-as (too-long (c .before .before .before .before .args .input .now) (c .before .before .if1 .taken)) (c .put-refusal .ensures)) in
     (f .counted, (f .filled, (f .within, f .first)))
 
+-- the input is not too long
+abbrev tested : tie.After-put-tape-answer → tie.Else1
+tested c = c .before .before .before .before .before .before .before
+
 returns-2 : tie.Need-returns-2
 returns-2 c =
-    let s = c .before .before .before .before .before in
-    let start = s .before .before .before .before .before .before .before .before .before in
-    let few = s .before .before .before .before .before .before .before .if1 .left in
-    let f = put-front (put-as (not-too-long (start .args .input .now) (omega (arith, few))) (s .put-tape-answer .ensures)) in
+    let call = c .before .before .before .before .before in
+    let short = tested call in
+    let input = short .before .before .args .input .now in
+    let f = put-front (put-as (not-too-long input (omega (arith, short .if1 .left))) (call .put-tape-answer .ensures)) in
     (f .counted, (f .filled, (f .within, f .first)))
 
 pub clean-spec : {M : Type 1} → statement M

@@ -17,13 +17,19 @@ abbrev μ-loop : tie.MeasureT-loop
 loop-holds : tie.Need-loop-holds Inv-loop μ-loop
 loop-holds c = (zero-le, refl, refl)
 
+-- the loop, from behind a read
+abbrev in-loop : tie.After-count Inv-loop μ-loop → tie.At-loop Inv-loop μ-loop
+in-loop c = c .before .before .before .before .before .before .before .before
+
 loop-less : tie.Need-loop-less Inv-loop μ-loop
 loop-less c = omega arith
 
 loop-again : tie.Need-loop-again Inv-loop μ-loop
 loop-again c =
-    let s = c .before .before .before .before .before .before .before .before .before .before .before in
-    (omega (arith, c .before .before .part4 .given .1, c .before .before .before .count .ensures .0 .0, s .loop .inv), omega (arith, c .before .before .part4 .given .1, s .loop .inv), s .loop .inv .2)
+    let counts = c .before .before .before in
+    let s = in-loop counts in
+    let same = c .before .before .part4 .given .1 in
+    (omega (arith, same, counts .count .ensures .0 .0, s .loop .inv), omega (arith, same, s .loop .inv), s .loop .inv .2)
 
 same-length : tie.Need-same-length Inv-loop μ-loop
 same-length c = c .before .loop .inv .1
@@ -32,11 +38,11 @@ returns : tie.Need-returns Inv-loop μ-loop
 returns c = (c .before .loop .inv .0, λ h. absurd (true≢false (sym h ∙ c .before .loop .inv .2)))
 
 same-length-2 : tie.Need-same-length-2 Inv-loop μ-loop
-same-length-2 c = omega (arith, c .before .before .part4 .given .1, c .before .before .before .before .before .before .before .before .before .before .before .loop .inv)
+same-length-2 c = omega (arith, c .before .before .part4 .given .1, in-loop (c .before .before .before) .loop .inv)
 
 returns-2 : tie.Need-returns-2 Inv-loop μ-loop
 returns-2 c =
-    let s = c .before .before .before .before .before .before .before .before .before .before .before in
+    let s = in-loop (c .before .before .before) in
     let same = c .before .before .part4 .given .1 in
     (omega (arith, same, s .loop .inv), λ _. omega (arith, same, s .loop .inv))
 

@@ -10,12 +10,6 @@ use borrow.Author.Needs.{needs}
 use Rattle.season.proofs.report.season_text.Statement.{statement}
 use Rattle.season.proofs.report.season_text.Tie as tie
 
-read-jobs-requires : tie.Need-read-jobs-requires
-read-jobs-requires c κs = search needs
-
-put-report-requires : tie.Need-put-report-requires
-put-report-requires c κs = search needs
-
 returns : tie.Need-returns
 returns c =
     let former : List ℕ = c .before .before .before .before .args .output .now in
@@ -33,4 +27,4 @@ returns c =
     )
 
 pub season-text-spec : {M : Type 1} → statement M
-season-text-spec = tie.close (tie.spec read-jobs-requires put-report-requires returns)
+season-text-spec = tie.close (tie.spec (λ c κs. search needs) (λ c κs. search needs) returns)

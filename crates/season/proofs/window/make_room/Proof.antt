@@ -12,19 +12,11 @@ use Rattle.season.proofs.window.make_room.Tie as tie
 returns : tie.Need-returns
 returns c = search needs
 
-sub-count : tie.Need-sub-count
-sub-count c = search needs
-
-move-to-front-requires : tie.Need-move-to-front-requires
-move-to-front-requires c κs = search needs
-
-same-length : tie.Need-same-length
-same-length c = search needs
-
 returns-2 : tie.Need-returns-2
 returns-2 c =
     let m = c .before .before in
-    let s = m .before .before .before .before .before .before in
+    let reached-end = m .before .before .before in
+    let s = reached-end .before .before .before in
     let w = s .args .w in
     let left : List ℕ = m .move-to-front .last .0 in
     let kept = m .move-to-front .kept .0 in
@@ -40,4 +32,4 @@ returns-2 c =
 
 pub make-room-spec : {M : Type 1} → statement M
 make-room-spec =
-    tie.close (tie.spec returns sub-count move-to-front-requires same-length returns-2)
+    tie.close (tie.spec returns (λ c. search needs) (λ c κs. search needs) (λ c. search needs) returns-2)

@@ -6,15 +6,6 @@ use borrow.Author.Needs.{needs}
 use Rattle.season.proofs.window.more_bytes.Statement.{statement}
 use Rattle.season.proofs.window.more_bytes.Tie as tie
 
-make-room-requires : tie.Need-make-room-requires
-make-room-requires c κs = search needs
-
-read-more-requires : tie.Need-read-more-requires
-read-more-requires c κs = search needs
-
-same-length : tie.Need-same-length
-same-length c = search needs
-
 returns : tie.Need-returns
 returns c =
     let r = c .before .before in
@@ -23,4 +14,4 @@ returns c =
     record { more = e .more; within = e .within; grown = e .grown ∙ ap (λ (l : List ℕ). l ++ e .more) (room .same); some = e .some }
 
 pub more-bytes-spec : {M : Type 1} → statement M
-more-bytes-spec = tie.close (tie.spec make-room-requires read-more-requires same-length returns)
+more-bytes-spec = tie.close (tie.spec (λ c κs. search needs) (λ c κs. search needs) (λ c. search needs) returns)

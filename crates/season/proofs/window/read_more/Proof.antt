@@ -15,12 +15,14 @@ use Rattle.season.proofs.window.read_more.Tie as tie
 
 returns : tie.Need-returns
 returns c =
-    let s = c .before .before .before .before .before .before .before .before .before .before in
+    let counts = c .before .before in
+    let reads = counts .before .before .before .before in
+    let s = reads .before .before .before .before in
     let buffer : List ℕ = s .args .buffer .now in
-    let part : List ℕ = c .before .before .before .before .before .before .read .last .1 .0 in
+    let part : List ℕ = reads .read .last .1 .0 in
     let behind : List ℕ = part ++ postOf (s .args .w .end) (length buffer - s .args .w .end) buffer in
-    let count : ℕ = c .before .before .count .result in
-    let few : count ≤ length part = c .before .before .count .ensures .0 .0 in
+    let count : ℕ = counts .count .result in
+    let few : count ≤ length part = counts .count .ensures .0 .0 in
     let size : length (take count behind) ≡ count = length-take-le count behind (omega (arith, length-append part (postOf (s .args .w .end) (length buffer - s .args .w .end) buffer))) in
     record {
       more = take count behind;

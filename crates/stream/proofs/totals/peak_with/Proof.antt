@@ -7,9 +7,6 @@ use borrow.Author.Needs.{needs}
 use Rattle.stream.proofs.totals.peak_with.Statement.{statement}
 use Rattle.stream.proofs.totals.peak_with.Tie as tie
 
-add-t9 : tie.Need-add-t9
-add-t9 c = search needs
-
 -- the peak by the test
 abbrev by : tie.Start → Bool → Peak
 by c leads =
@@ -23,4 +20,4 @@ returns-2 : tie.Need-returns-2
 returns-2 c = ap (by (c .before)) (sym (c .if1 .left))
 
 pub peak-with-spec : {M : Type 1} → statement M
-peak-with-spec = tie.close (tie.spec add-t9 returns returns-2)
+peak-with-spec = tie.close (tie.spec (λ c. search needs) returns returns-2)

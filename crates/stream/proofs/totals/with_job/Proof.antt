@@ -53,21 +53,34 @@ fit c =
       ),
     )
 
+-- behind the addend and the peak, from the sums
+abbrev settled-sum : tie.After-struct-known4 → tie.After-peak-with
+settled-sum c = c .before .before .before .before
+
+abbrev spent-sum : tie.After-struct-known6 → tie.After-peak-with
+spent-sum c = settled-sum (c .before .before)
+
+abbrev checked-sum : tie.After-struct-known8 → tie.After-peak-with
+checked-sum c = spent-sum (c .before .before)
+
+abbrev total-sum : tie.After-struct-known10 → tie.After-peak-with
+total-sum c = checked-sum (c .before .before)
+
 add-t9 : tie.Need-add-t9
-add-t9 c = omega (arith, fit (c .before .before .before .before .before) .0)
+add-t9 c = omega (arith, fit (settled-sum c .before) .0)
 
 add-t10 : tie.Need-add-t10
-add-t10 c = omega (arith, fit (c .before .before .before .before .before .before .before) .1 .0)
+add-t10 c = omega (arith, fit (spent-sum c .before) .1 .0)
 
 add-t11 : tie.Need-add-t11
-add-t11 c = omega (arith, fit (c .before .before .before .before .before .before .before .before .before) .1 .1 .0)
+add-t11 c = omega (arith, fit (checked-sum c .before) .1 .1 .0)
 
 add-t12 : tie.Need-add-t12
-add-t12 c = omega (arith, fit (c .before .before .before .before .before .before .before .before .before .before .before) .1 .1 .1)
+add-t12 c = omega (arith, fit (total-sum c .before) .1 .1 .1)
 
 returns : tie.Need-returns
 returns c =
-    let p = c .before .before .before .before .before .before .before .before .before .before in
+    let p = total-sum c in
     let a = p .before .before .args in
     by-addend (a .t) (a .pixels) (p .before .addend-of .ensures) (p .peak-with .ensures)
 

@@ -16,42 +16,47 @@ use Rattle.text.proofs.answer.put_answer.Tie as tie
 returns : tie.Need-returns
 unfolding answerText
 returns c =
-    let start = c .before .before .before .before .before .before .before .before in
-    put-as (ap (λ (a : Answer). answerText (answerOf a) (start .args .t) (start .args .image .now)) (sym (c .before .before .before .before .before .a .given .1)))
-    (c .before .before .put-refusal .ensures)
+    let call = c .before .before in
+    let case = call .before .before .before in
+    let start = case .before .before .before in
+    put-as (ap (λ (a : Answer). answerText (answerOf a) (start .args .t) (start .args .image .now)) (sym (case .a .given .1)))
+    (call .put-refusal .ensures)
 
 returns-2 : tie.Need-returns-2
 unfolding ascii
 returns-2 c =
-    let known = c .before .before .before .before .before in
+    let call = c .before .before in
+    let known = call .before .before .before in
     let v = known .before .a2 .given .0 in
     let a = known .before .before .before .before .args in
     put-as
     (accepted-text (a .t) (a .image .now) 0 (pos (v .0)) (v .1 .0) (pos (v .1 .1 .0)) (read w64 (known .known-told2 .given .1 .0 .1)) was-checked
     ∙ ap (λ (x : Answer). answerText (answerOf x) (a .t) (a .image .now)) (sym (known .before .a2 .given .1)))
-    (c .before .before .put-accepted .ensures)
+    (call .put-accepted .ensures)
 
 returns-3 : tie.Need-returns-3
 unfolding ascii
 returns-3 c =
-    let known = c .before .before .before .before .before in
+    let call = c .before .before in
+    let known = call .before .before .before in
     let v = known .before .a3 .given .0 in
     let a = known .before .before .before .before .args in
     put-as
     (accepted-text (a .t) (a .image .now) (v .0) (pos (v .1 .0)) (v .1 .1 .0) (pos (v .1 .1 .1 .0)) (read w64 (known .known-told3 .given .1 .1 .0 .1)) has-settled
     ∙ ap (λ (x : Answer). answerText (answerOf x) (a .t) (a .image .now)) (sym (known .before .a3 .given .1)))
-    (c .before .before .put-accepted2 .ensures)
+    (call .put-accepted2 .ensures)
 
 returns-4 : tie.Need-returns-4
 unfolding ascii
 returns-4 c =
-    let known = c .before .before .before .before .before in
+    let call = c .before .before in
+    let known = call .before .before .before in
     let v = known .before .a4 .given .0 in
     let a = known .before .before .before .before .args in
     put-as
     (accepted-text (a .t) (a .image .now) (v .0) (pos (v .1 .0)) (v .1 .1 .0) (pos (v .1 .1 .1 .0)) (read w64 (known .known-told4 .given .1 .1 .0 .1)) was-spent
     ∙ ap (λ (x : Answer). answerText (answerOf x) (a .t) (a .image .now)) (sym (known .before .a4 .given .1)))
-    (c .before .before .put-accepted3 .ensures)
+    (call .put-accepted3 .ensures)
 
 pub put-answer-spec : {M : Type 1} → statement M
 put-answer-spec =

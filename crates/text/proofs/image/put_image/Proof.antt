@@ -59,12 +59,13 @@ loop-less c = omega arith
 
 loop-again : tie.Need-loop-again Inv-loop μ-loop
 loop-again c =
-    let s = c .before .before .before .before .before in
+    let call = c .before .before in
+    let s = call .before .before .before in
     let a = s .before .before .args in
-    let n : suc (s .loop .row) ≤ a .height = omega (arith, c .before .before .before .before .loop-test .taken) in
-    let next : c .before .before .put-row .result ≤ a .o + (s .loop .row + 1) * (22 * a .width + 1) = omega (arith, s .loop .inv .2, c .before .before .put-row .ensures .1) in (
+    let n : suc (s .loop .row) ≤ a .height = omega (arith, call .before .before .loop-test .taken) in
+    let next : call .put-row .result ≤ a .o + (s .loop .row + 1) * (22 * a .width + 1) = omega (arith, s .loop .inv .2, call .put-row .ensures .1) in (
       omega arith,
-      chain-next (rows (a .image .now) (a .width)) (s .loop .row) (s .loop .inv .1) (c .before .before .put-row .ensures .0)
+      chain-next (rows (a .image .now) (a .width)) (s .loop .row) (s .loop .inv .1) (call .put-row .ensures .0)
           (omega (arith, below (suc (s .loop .row)) (a .height) (22 * a .width + 1) n, s .before .before .pre .1)),
       next,
     )

@@ -42,38 +42,40 @@ shared-slice-copy-out-put-value : tie.Need-shared-slice-copy-out-put-value Inv-l
 shared-slice-copy-out-put-value c = omega (arith, c .before .before .before .before .pre)
 
 put-value-requires : tie.Need-put-value-requires Inv-loop μ-loop
-put-value-requires c κs = omega (arith, kept (c .before .before .before), c .before .before .before .loop .inv, c .before .before .before .before .before .pre)
+put-value-requires c κs = let s = c .before .before .before in omega (arith, kept s, s .loop .inv, s .before .before .pre)
 
 loop-less : tie.Need-loop-less Inv-loop μ-loop
 loop-less c = omega arith
 
 loop-again : tie.Need-loop-again Inv-loop μ-loop
 loop-again c =
-    let s = c .before .before .before .before .before .before in
+    let call = c .before .before in
+    let s = call .before .before .before .before in
     let a = s .before .before .args in
     let j : ℕ = s .loop .column in
     let z : ℤ = at (a .image .now) (a .start + j) in
-    let f : SFits w32 z = record { sfits = c .before .before .before .put-value-arg2 .given } in (
+    let f : SFits w32 z = record { sfits = call .before .put-value-arg2 .given } in (
       omega arith,
       chain-next (values (a .image .now) (a .start)) j (s .loop .inv .1)
-          (put-as (ap (λ (y : ℤ). cond (eqb j 0) (signedDecimal y) (field (signedDecimal y))) (toZ-ofZ f)) (c .before .before .put-value .ensures .0))
+          (put-as (ap (λ (y : ℤ). cond (eqb j 0) (signedDecimal y) (field (signedDecimal y))) (toZ-ofZ f)) (call .put-value .ensures .0))
           (omega (arith, s .loop .inv, s .before .before .pre)),
       omega (arith, s .loop .inv),
     )
 
 put-byte-requires : tie.Need-put-byte-requires Inv-loop μ-loop
-put-byte-requires c κs = omega (arith, kept (c .before .before), c .before .before .loop .inv, c .before .before .before .before .pre)
+put-byte-requires c κs = let s = c .before .before in omega (arith, kept s, s .loop .inv, s .before .before .pre)
 
 same-length : tie.Need-same-length Inv-loop μ-loop
-same-length c = omega (arith, c .before .before .put-byte .kept .0, kept (c .before .before .before .before .before))
+same-length c = let call = c .before .before in omega (arith, call .put-byte .kept .0, kept (call .before .before .before))
 
 returns : tie.Need-returns Inv-loop μ-loop
 unfolding ascii
 returns c =
-    let s = c .before .before .before .before .before in
+    let call = c .before .before in
+    let s = call .before .before .before in
     let a = s .before .before .args in
-    let all : s .loop .column ≡ a .width = omega (arith, s .loop .inv, c .before .before .before .before .loop-test .left) in (
-      put-within (put-as (ap (λ (n : ℕ). chain n (values (a .image .now) (a .start))) all) (s .loop .inv .1)) (c .before .before .put-byte .ensures)
+    let all : s .loop .column ≡ a .width = omega (arith, s .loop .inv, call .before .before .loop-test .left) in (
+      put-within (put-as (ap (λ (n : ℕ). chain n (values (a .image .now) (a .start))) all) (s .loop .inv .1)) (call .put-byte .ensures)
           (omega (arith, s .loop .inv, s .before .before .pre)),
       omega (arith, s .loop .inv),
     )

@@ -25,8 +25,9 @@ put-bytes-requires c κs = omega (arith, count (c .before .before))
 
 returns : tie.Need-returns
 returns c =
-    let s = c .before .before .before .before .before in
-    (put-as (digits-of s) (c .before .before .put-bytes .ensures), omega (arith, count s))
+    let call = c .before .before in
+    let s = call .before .before .before in
+    (put-as (digits-of s) (call .put-bytes .ensures), omega (arith, count s))
 
 pub put-decimal-spec : {M : Type 1} → statement M
 put-decimal-spec =

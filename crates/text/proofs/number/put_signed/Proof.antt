@@ -25,12 +25,14 @@ size c = c .magnitude-wide .ensures ∙ ap natAbs (toZ-ofZ w64 _ (c .before .bef
 
 returns : tie.Need-returns
 returns c =
-    let s = c .before .before .before .before .before .before in
-    let a = s .before .before .before .before .before .args in (
+    let digits = c .before .before in
+    let sign = digits .before .before .before .before in
+    let negative = sign .before .before in
+    let start = negative .before .before .before in (
       put-as
-          (ap (λ (n : ℕ). 45 ∷ decimal n) (size (s .before .before .before))
-          ∙ below-zero (a .z) (<-read w64 (s .before .before .before .before .before .fits .z) zero-fits (s .before .before .if1 .taken)))
-          (put-within (s .put-byte .ensures) (c .before .before .put-decimal .ensures .0) (omega arith)),
+          (ap (λ (n : ℕ). 45 ∷ decimal n) (size (negative .before))
+          ∙ below-zero (start .args .z) (<-read w64 (start .fits .z) zero-fits (negative .if1 .taken)))
+          (put-within (sign .put-byte .ensures) (digits .put-decimal .ensures .0) (omega arith)),
       omega arith,
     )
 

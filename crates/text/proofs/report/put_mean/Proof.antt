@@ -19,14 +19,18 @@ some-pixels total (suc pixels) n = refl
 returns : tie.Need-returns
 unfolding ascii
 returns c =
-    let a = c .before .before .before .before .before .before .before .args in
-    (put-as (no-pixels (a .total) (a .pixels) (c .before .before .before .before .before .if1 .taken)) (c .before .before .put-line-of-two .ensures .0), c .before .before .put-line-of-two .ensures .1)
+    let call = c .before .before in
+    let none = call .before .before .before in
+    let a = none .before .before .args in
+    (put-as (no-pixels (a .total) (a .pixels) (none .if1 .taken)) (call .put-line-of-two .ensures .0), call .put-line-of-two .ensures .1)
 
 returns-2 : tie.Need-returns-2
 unfolding ascii
 returns-2 c =
-    let a = c .before .before .before .before .before .before .before .args in
-    (put-as (some-pixels (a .total) (a .pixels) (c .before .before .before .before .before .if1 .left)) (c .before .before .put-line-of-two2 .ensures .0), c .before .before .put-line-of-two2 .ensures .1)
+    let call = c .before .before in
+    let some = call .before .before .before in
+    let a = some .before .before .args in
+    (put-as (some-pixels (a .total) (a .pixels) (some .if1 .left)) (call .put-line-of-two2 .ensures .0), call .put-line-of-two2 .ensures .1)
 
 pub put-mean-spec : {M : Type 1} → statement M
 put-mean-spec =
