@@ -1,26 +1,29 @@
 -- What the loop over a season's jobs keeps: the report on all input that begins with the bytes read so far is the report on
 -- the bytes at hand and what follows, with the totals counted so far. Assumes nothing.
-use mathlib.Core.Path.{_≡_, refl, sym, ap, _∙_, subst⁻¹}
-use mathlib.Core.Bool.{true, false, true≢false}
+use mathlib.Core.Path.{_≡_, refl, sym, ap, _∙_, subst₂}
+use mathlib.Core.Bool.{false}
 use mathlib.Core.List.{List, [], _++_, append-assoc}
-use Prim.Native.Nat.{ℕ, _≤_, zero-le}
+use Prim.Native.Nat.{ℕ, zero-le}
 use native.Mathlib.Omega.{arith}
 use lib.IntN.{ℤ}
 use lib.ListN.{length}
 use Rattle.model.specs.declared.Lent.{Lent}
-use Rattle.model.specs.declared.Verdict.{Verdict}
 use Rattle.model.specs.Tape.{nothing}
 use Rattle.model.specs.Season.{totalsOf}
+use Rattle.records.specs.declared.tally.Tally.{Tally}
 use Rattle.records.specs.Tally.{tallyOf}
+use Rattle.tape_scan.specs.Scan.{Reached}
 use Rattle.tape_scan.proofs.Reached as scan
 use Rattle.stream.proofs.Sums.{bounded-none}
 use Rattle.stream.specs.Report.{reportFrom}
 use Rattle.stream.specs.Jobs.{lentIn}
-use Rattle.stream.specs.AtHand.{Reports}
+use Rattle.stream.specs.AtHand.{Reports, NeedsMore}
+use Rattle.season.specs.declared.window.Window.{Window}
 use Rattle.season.specs.declared.jobs.State.{State}
 use Rattle.season.specs.declared.jobs.Ended.{Ended}
-use Rattle.season.specs.Window.{atHand}
+use Rattle.season.specs.Window.{atHand, Grown}
 use Rattle.season.specs.Jobs.{ValidState, Continues, ReportOf}
+use Rattle.season.proofs.Steps.{more-valid}
 
 -- the buffers keep their lengths
 pub record SameLengths (buffer₀ samples₀ : List ℕ) (weights₀ flow₀ image₀ work₀ : List ℤ) (buffer samples : List ℕ)
@@ -47,7 +50,7 @@ pub record Invariant (lent : Lent) (buffer : List ℕ) (s : State) : Type 0 wher
 
 module _ (lent : Lent) where
   pub begins : (buffer : List ℕ) →
-      Invariant lent buffer (record { window = record { start = 0; end = 0; ended = false }; at = 0; tally = tallyOf nothing; totals = totalsOf [] })
+      Invariant lent buffer (record { window = record { start = 0; end = 0; ended = false; failed = false }; at = 0; tally = tallyOf nothing; totals = totalsOf [] })
   begins buffer =
       record {
         input = [];
@@ -63,14 +66,35 @@ module _ (lent : Lent) where
       }
 
   module _ {buffer : List ℕ} {s : State} (k : Invariant lent buffer s) where
-    pub continued : {after : List ℕ} {r : State} → Continues lent buffer s after r → Invariant lent after r
-    continued g =
+    pub continued : {r : State} → Continues lent buffer (s .window) (s .totals) r → Invariant lent buffer r
+    continued {r} g =
+        record {
+          input = k .input;
+          valid =
+              record {
+                within = g .within;
+                reached =
+                    subst₂ (λ (t : Tally) (o : ℕ). Reached (atHand buffer (r .window)) lent t o) (sym (g .unread)) (sym (g .first))
+                    (scan.start (atHand buffer (r .window)) lent);
+                near = omega (arith, g .first);
+                bounded = g .bounded;
+                notLast = g .notLast;
+              };
+          report = λ rest. k .report rest ∙ g .report rest;
+        }
+
+    pub grown : {t : Tally} {at : ℕ} {later : List ℕ} {i : Window} →
+        NeedsMore (atHand buffer (s .window)) (s .window .ended) lent t at → Grown buffer (s .window) later i →
+        Invariant lent later (record { window = i; at = at; tally = t; totals = s .totals })
+    grown {later = later} {i} h g =
         record {
           input = k .input ++ g .more;
-          valid = g .valid;
+          valid = more-valid (k .valid) h g;
           report =
               λ rest.
-              ap (reportFrom lent (totalsOf [])) (append-assoc (k .input) (g .more) rest) ∙ k .report (g .more ++ rest) ∙ g .report rest;
+              ap (reportFrom lent (totalsOf [])) (append-assoc (k .input) (g .more) rest)
+              ∙ k .report (g .more ++ rest)
+              ∙ ap (reportFrom lent (s .totals)) (sym (append-assoc (atHand buffer (s .window)) (g .more) rest) ∙ ap (λ (l : List ℕ). l ++ rest) (sym (g .grown)));
         }
 
     pub stopped : {e : Ended} →

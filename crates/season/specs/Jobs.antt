@@ -4,19 +4,20 @@ use mathlib.Core.Bool.{false, cond}
 use mathlib.Core.List.{List, [], _++_}
 use Prim.Native.Nat.{ℕ, _+_, _-_, _*_, _≤_, _<_}
 use Rattle.model.specs.declared.Lent.{Lent}
+use Rattle.model.specs.declared.Totals.{Totals}
+use Rattle.model.specs.Tape.{nothing}
 use Rattle.model.specs.Season.{totalsOf}
+use Rattle.records.specs.Tally.{tallyOf}
 use Rattle.tape_scan.specs.Scan.{Reached}
 use Rattle.job.specs.Tables.{Holds}
-use Rattle.stream.specs.declared.next.Next.{Next}
 use Rattle.stream.specs.Totals.{Bounded}
 use Rattle.stream.specs.Report.{reportFrom}
-use Rattle.stream.specs.AtHand.{Reports}
+use Rattle.stream.specs.AtHand.{Reports, NeedsMore}
 use Rattle.season.specs.declared.window.Window.{Window}
-use Rattle.season.specs.declared.window.Input.{Input}
 use Rattle.season.specs.declared.jobs.State.{State}
 use Rattle.season.specs.declared.jobs.Step.{Step}
 use Rattle.season.specs.declared.jobs.Ended.{Ended}
-use Rattle.season.specs.Window.{atHand, WindowIn, CanGrow, Grown}
+use Rattle.season.specs.Window.{atHand, WindowIn}
 
 -- a buffer that is longer than the most bytes at hand that are too few, and tables that hold every job of at most 4,096
 -- samples
@@ -40,35 +41,24 @@ left s =
     (65535 - s .totals .jobs) * 131076
     + (2 * (65537 - (s .window .end - s .window .start)) + cond (s .window .ended) 0 1)
 
--- bytes are read only where the job at hand wants more
-abbrev pub CanRead : List ℕ → Window → Next → Type 0
-CanRead buffer w (Next.More t at) = CanGrow buffer w
-CanRead buffer w Next.Over = Unit {0}
-CanRead buffer w (Next.Refused number place) = Unit {0}
-CanRead buffer w (Next.Counted after size) = Unit {0}
-
-abbrev pub HasRead : List ℕ → Window → Next → List ℕ → Input → Type 0
-HasRead before w (Next.More t at) after r = Grown before w after r
-HasRead before w Next.Over after r = after ≡ before
-HasRead before w (Next.Refused number place) after r = after ≡ before
-HasRead before w (Next.Counted totals size) after r = after ≡ before
-
--- a step on: with the bytes that came, the report on all that is at hand and more is that of the next state
-pub record Continues (lent : Lent) (before : List ℕ) (s : State) (after : List ℕ) (r : State) : Type 0 where
-  pub more : List ℕ
-  pub valid : ValidState lent after r
-  pub less : left r < left s
+-- a step on: the report on all that is at hand and may follow is that of the next state
+pub record Continues (lent : Lent) (buffer : List ℕ) (w : Window) (totals : Totals) (r : State) : Type 0 where
+  pub within : WindowIn buffer (r .window)
+  pub first : r .at ≡ 0
+  pub unread : r .tally ≡ tallyOf nothing
+  pub bounded : Bounded (r .totals)
+  pub one : r .totals .jobs ≡ totals .jobs + 1
+  pub notLast : r .totals .jobs < 65535
   pub report :
       (rest : List ℕ) →
-      reportFrom lent (s .totals) (atHand before (s .window) ++ (more ++ rest))
-      ≡ reportFrom lent (r .totals) (atHand after (r .window) ++ rest)
+      reportFrom lent totals (atHand buffer w ++ rest) ≡ reportFrom lent (r .totals) (atHand buffer (r .window) ++ rest)
 
--- .. or, where no read failed, the report on all that is at hand and may follow
-abbrev pub StepOf : Lent → List ℕ → State → List ℕ → Step → Type 0
-StepOf lent before s after (Step.Continue r) = Continues lent before s after r
-StepOf lent before s after (Step.Stop e) =
-    e .failed ≡ false →
-    Reports (atHand before (s .window)) (e .ended) lent (s .totals) (record { totals = e .totals; ending = e .ending })
+-- .. or more bytes are wanted; or, where no read failed, the report on all that is at hand and may follow
+abbrev pub StepOf : Lent → List ℕ → Window → Totals → Step → Type 0
+StepOf lent buffer w totals (Step.Continue r) = Continues lent buffer w totals r
+StepOf lent buffer w totals (Step.Read t at) = NeedsMore (atHand buffer w) (w .ended) lent t at
+StepOf lent buffer w totals (Step.Stop e) =
+    e .failed ≡ false → Reports (atHand buffer w) (e .ended) lent totals (record { totals = e .totals; ending = e .ending })
 
 -- the report of a season: for some bytes, and for these with any behind them if the input had not ended
 abbrev pub ReportOf : Lent → Ended → Type 0

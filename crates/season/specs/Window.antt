@@ -5,7 +5,6 @@ use mathlib.Core.List.{List, _++_}
 use Prim.Native.Nat.{ℕ, _+_, _-_, _≤_, _<_}
 use lib.ListN.{length, take, drop}
 use Rattle.season.specs.declared.window.Window.{Window}
-use Rattle.season.specs.declared.window.Input.{Input}
 
 abbrev pub atHand : List ℕ → Window → List ℕ
 atHand buffer w = take (w .end - w .start) (drop (w .start) buffer)
@@ -28,8 +27,8 @@ pub record WithRoom (before : List ℕ) (w : Window) (after : List ℕ) (r : Win
   pub same : atHand after r ≡ atHand before w
 
 -- the same bytes, and more behind them; none if the input has ended or the read failed
-pub record Grown (before : List ℕ) (w : Window) (after : List ℕ) (r : Input) : Type 0 where
+pub record Grown (before : List ℕ) (w : Window) (after : List ℕ) (r : Window) : Type 0 where
   pub more : List ℕ
-  pub within : WindowIn after (r .window)
-  pub grown : atHand after (r .window) ≡ atHand before w ++ more
-  pub some : r .window .ended ≡ false → 1 ≤ length more
+  pub within : WindowIn after r
+  pub grown : atHand after r ≡ atHand before w ++ more
+  pub some : r .ended ≡ false → 1 ≤ length more

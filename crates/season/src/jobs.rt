@@ -1,6 +1,5 @@
 // The jobs of standard input, one behind the other.
 
-use crate::window::Input;
 use crate::window::Window;
 use crate::window::more_bytes;
 use model::Totals;
@@ -11,13 +10,13 @@ use stream::next::Next;
 use stream::next::next_job;
 use stream::totals::no_jobs;
 ghost use mathlib.Core.List.{List};
-ghost use Prim.Native.Nat.{ℕ};
+ghost use Prim.Native.Nat.{ℕ, _<_};
 ghost use lib.ListN.{length};
 ghost use Rattle.model.specs.declared.Lent.{Lent};
 ghost use Rattle.stream.specs.Jobs.{lentIn};
 ghost use Rattle.stream.specs.AtHand.{NextJob};
-ghost use Rattle.season.specs.Window.{atHand};
-ghost use Rattle.season.specs.Jobs.{ValidState, CanRead, HasRead, StepOf, ReportOf, SeasonTables};
+ghost use Rattle.season.specs.Window.{atHand, WindowIn};
+ghost use Rattle.season.specs.Jobs.{ValidState, StepOf, ReportOf, SeasonTables};
 
 // The bytes at hand, what has been read of the job at their front and where its next record begins,
 // and the totals of the jobs before it.
@@ -37,48 +36,32 @@ pub struct Ended {
     pub failed: bool,
 }
 
-// One step: on to the next state, or the season's end.
+// One step: on to the next state, more bytes for the job, of which so much has been read, or the
+// season's end.
 pub enum Step {
     Continue(State),
+    Read(Tally, usize),
     Stop(Ended),
 }
 
-// More bytes, where the job at the front of those at hand wants them.
-fn read_for(buffer: &mut [u8], w: Window, n: Next) -> Input
-    requires { ⌜ CanRead (now buffer) w n ⌝ }
-    ensures { λ r. ⌜ HasRead (now (buffer .entry)) w n (now (buffer .exit)) r ⌝ }
+// The step that follows, once what the bytes at hand come to is known. The last of 65,535 jobs ends the
+// season.
+fn step_on(w: Window, totals: Totals, n: Next) -> Step
+    requires { ⌜ ((lent : Lent) × (buffer : List ℕ) × WindowIn buffer w × NextJob (atHand buffer w) (w .ended) lent totals n) ⌝ }
+    ensures { λ r. ⌜ ((lent : Lent) (buffer : List ℕ) → WindowIn buffer w → totals .jobs < 65535 → NextJob (atHand buffer w) (w .ended) lent totals n → StepOf lent buffer w totals r) ⌝ }
 {
-    let unread = Input {
-        window: w,
-        failed: false,
-    };
-    match n {
-        Next::More(_, _) => more_bytes(buffer, w),
-        Next::Over => unread,
-        Next::Refused(_, _) => unread,
-        Next::Counted(_, _) => unread,
-    }
-}
-
-// The step that follows, once what the bytes at hand come to is known. The last of 65,535 jobs ends the season.
-fn step_on(s: State, n: Next, input: Input) -> Step
-    requires { ⌜ ((lent : Lent) × (buffer : List ℕ) × ValidState lent buffer s × NextJob (atHand buffer (s .window)) (s .window .ended) lent (s .totals) n) ⌝ }
-    ensures { λ r. ⌜ ((lent : Lent) (before after : List ℕ) → ValidState lent before s → NextJob (atHand before (s .window)) (s .window .ended) lent (s .totals) n → HasRead before (s .window) n after input → StepOf lent before s after r) ⌝ }
-{
-    let w = s.window;
-    let totals = s.totals;
     match n {
         Next::Over => Step::Stop(Ended {
             totals,
             ending: Verdict::Accept,
             ended: w.ended,
-            failed: false,
+            failed: w.failed,
         }),
         Next::Refused(number, place) => Step::Stop(Ended {
             totals,
             ending: Verdict::Refuse { number, place },
             ended: w.ended,
-            failed: false,
+            failed: w.failed,
         }),
         Next::Counted(after, size) => {
             if after.jobs < 65535 {
@@ -86,6 +69,7 @@ fn step_on(s: State, n: Next, input: Input) -> Step
                     start: w.start + size,
                     end: w.end,
                     ended: w.ended,
+                    failed: w.failed,
                 };
                 let tally = fresh();
                 return Step::Continue(State {
@@ -99,32 +83,16 @@ fn step_on(s: State, n: Next, input: Input) -> Step
                 totals: after,
                 ending: Verdict::Accept,
                 ended: w.ended,
-                failed: false,
+                failed: w.failed,
             })
         }
-        Next::More(tally, at) => {
-            let window = input.window;
-            if input.failed {
-                return Step::Stop(Ended {
-                    totals,
-                    ending: Verdict::Accept,
-                    ended: w.ended,
-                    failed: true,
-                });
-            }
-            Step::Continue(State {
-                window,
-                at,
-                tally,
-                totals,
-            })
-        }
+        Next::More(tally, at) => Step::Read(tally, at),
     }
 }
 
-// A job is counted, or more bytes are read.
+// A job is counted, or more bytes are wanted.
 fn advance(
-    buffer: &mut [u8],
+    buffer: &[u8],
     s: State,
     samples: &mut [u8],
     weights: &mut [i32],
@@ -133,7 +101,7 @@ fn advance(
     work: &mut [i32],
 ) -> Step
     requires { ⌜ ValidState (lentIn (length (now samples)) (length (now weights)) (length (now flow))) (now buffer) s × SeasonTables (length (now buffer)) (length (now samples)) (length (now flow)) (length (now image)) (length (now work)) ⌝ }
-    ensures { λ r. ⌜ StepOf (lentIn (length (now (samples .entry))) (length (now (weights .entry))) (length (now (flow .entry)))) (now (buffer .entry)) s (now (buffer .exit)) r ⌝ }
+    ensures { λ r. ⌜ StepOf (lentIn (length (now (samples .entry))) (length (now (weights .entry))) (length (now (flow .entry)))) (now (buffer .entry)) (s .window) (s .totals) r ⌝ }
 {
     let w = s.window;
     let start = w.start;
@@ -150,8 +118,7 @@ fn advance(
         image,
         work,
     );
-    let input = read_for(buffer, w, n);
-    step_on(s, n, input)
+    step_on(w, s.totals, n)
 }
 
 // The jobs of standard input, to its end, a refusal, or the last of 65,535.
@@ -170,6 +137,7 @@ pub fn read_season(
         start: 0,
         end: 0,
         ended: false,
+        failed: false,
     };
     let mut s = State {
         window,
@@ -182,6 +150,17 @@ pub fn read_season(
         match step {
             Step::Continue(r) => {
                 s = r;
+            }
+            Step::Read(tally, at) => {
+                let w = s.window;
+                let totals = s.totals;
+                let window = more_bytes(buffer, w);
+                s = State {
+                    window,
+                    at,
+                    tally,
+                    totals,
+                };
             }
             Step::Stop(e) => {
                 return e;

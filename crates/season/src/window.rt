@@ -6,16 +6,12 @@ ghost use lib.ListN.{length, getD};
 ghost use Rattle.lists.specs.Lists.{table, overwritten};
 ghost use Rattle.season.specs.Window.{WindowIn, CanGrow, WithRoom, Grown};
 
-// Where they begin and end, and whether the input has ended behind them.
+// Where they begin and end, whether the input has ended behind them, and whether it did by a read that
+// failed.
 pub struct Window {
     pub start: usize,
     pub end: usize,
     pub ended: bool,
-}
-
-// A window after a read, and whether the read failed.
-pub struct Input {
-    pub window: Window,
     pub failed: bool,
 }
 
@@ -45,11 +41,12 @@ fn make_room(buffer: &mut [u8], w: Window) -> Window
         start: 0,
         end: count,
         ended: w.ended,
+        failed: w.failed,
     }
 }
 
 // One read, behind the bytes at hand.
-fn read_more(buffer: &mut [u8], w: Window) -> Input
+fn read_more(buffer: &mut [u8], w: Window) -> Window
     requires { ⌜ WindowIn (now buffer) w ⌝ }
     ensures { λ r. ⌜ Grown (now (buffer .entry)) w (now (buffer .exit)) r ⌝ }
 {
@@ -57,19 +54,16 @@ fn read_more(buffer: &mut [u8], w: Window) -> Input
     let part = &mut buffer[end..];
     let got = libc::read(0, part);
     let more = io::count(got, part);
-    let window = Window {
+    Window {
         start: w.start,
         end: end + more,
         ended: more == 0,
-    };
-    Input {
-        window,
         failed: got < 0,
     }
 }
 
 // More bytes behind those at hand, if the input has more.
-pub fn more_bytes(buffer: &mut [u8], w: Window) -> Input
+pub fn more_bytes(buffer: &mut [u8], w: Window) -> Window
     requires { ⌜ CanGrow (now buffer) w ⌝ }
     ensures { λ r. ⌜ Grown (now (buffer .entry)) w (now (buffer .exit)) r ⌝ }
 {

@@ -1,5 +1,5 @@
 -- The job at the front of some bytes, from what a scan says where it stops. Assumes nothing.
-use mathlib.Core.Path.{_≡_, refl, sym, ap, _∙_, subst⁻¹}
+use mathlib.Core.Path.{_≡_, refl, sym, ap, _∙_}
 use mathlib.Core.Bool.{Bool, true, false, true≢false}
 use mathlib.Core.List.{List, [], _∷_, _++_}
 use Prim.Native.Nat.{ℕ, _+_, _*_, _≤_, _<_}
@@ -19,22 +19,21 @@ use Rattle.model.specs.Grid.{weightOf}
 use Rattle.model.specs.Calls as Calls
 use Rattle.model.specs.Calls.{pixelsOf, firstBeyond, flowRow}
 use Rattle.model.specs.Answers.{answerOf, readAnswerOf}
-use Rattle.model.specs.Tape.{Progress, turned, whole, judged, unless, parse, tooShort, lentBy}
+use Rattle.model.specs.Tape.{Progress, turned, whole, judged, unless, parse, tooShort, lentBy, readAnswer, readSamples, readWeights, readFlow}
 use Rattle.model.specs.Season.{bytesOf}
 use Rattle.records.specs.declared.tally.Tally.{Tally}
 use Rattle.steps.specs.declared.Step.{Step}
 use Rattle.steps.specs.Step.{stepOf}
-use Rattle.tape_scan.specs.declared.scan.Scanned.{Scanned}
-use Rattle.tape_scan.specs.Scan.{recordsOf, WholeRecords, Reached, StopsAt}
+use Rattle.tape_scan.specs.Scan.{recordsOf, WholeRecords, Reached}
 use Rattle.tape_scan.proofs.Reached as scan
 use Rattle.roundtrip.proofs.Accepted.{accepted-job}
 use Rattle.roundtrip.proofs.Judged.{passed-parse}
 use Rattle.calls.specs.Slack.{mostSlack}
-use Rattle.job.specs.Tables.{TablesFor, answerFor}
+use Rattle.job.specs.Tables.{answerFor}
 use Rattle.job.proofs.Shown.{Shows}
-use Rattle.job.proofs.Tapes.{ReadFrom, turned-back, allowed, job-taken, tables-read, read-shown}
+use Rattle.job.proofs.Tapes.{ReadFrom, turned-back, allowed, job-taken, read-shown}
 use Rattle.job.proofs.Slacks.{front-bytes}
-use Rattle.stream.specs.Jobs.{Ready, lentIn, NumbersOf, Short, Refused, FrontJob}
+use Rattle.stream.specs.Jobs.{Ready, lentIn, Short, Refused, Stopped, Answered}
 
 module _ (bytes : List ℕ) (lent : Lent) {t : ParserState} {o : ℕ} (r : Reached bytes lent t o) where
   -- the scan stops at a record that is refused
@@ -115,49 +114,51 @@ module _ (bytes samples : List ℕ) (weights flow : List ℤ) {t : ParserState} 
 answer-shows : Shows (λ (a : Calls.Answer) (_ : List ℤ). a)
 answer-shows = record { alike = λ _ _ _ _. refl }
 
-module _ (bytes samples : List ℕ) (weights flow image work : List ℤ) (byte : (i : ℕ) → getD bytes i 0 < 256) {totals : Totals}
-    (ready : Ready totals (length samples) (length flow) (length image) (length work)) (S : List ℕ) (W F : List ℤ) where
-  -- the tape that ends where the scan has stopped
-  reads : (t : Tally) (o : ℕ) (r : ReadResult) → NumbersOf bytes (Scanned.Whole t o) r samples weights flow S W F →
-      ReadFrom (take (o + 1) bytes) samples weights flow r
-  reads t o r h = record { byte = front-bytes (o + 1) bytes byte; answer = h .0 }
+module _ (bytes samples : List ℕ) (weights flow : List ℤ) {t : Tally} {o : ℕ}
+    (r : Reached bytes (lentIn (length samples) (length weights) (length flow)) t o) where
+  -- at a record that is refused
+  pub stopped : {n q : ℕ} → Step.Refused n q ≡ stepOf bytes o t (lentIn (length samples) (length weights) (length flow)) →
+      Stopped bytes (lentIn (length samples) (length weights) (length flow)) n q t o
+  stopped e = (stopped-short bytes _ r e, stopped-refused bytes _ r e refl)
 
-  pub tables-for : (x : Scanned) (r : ReadResult) → NumbersOf bytes x r samples weights flow S W F → {s w f : ℕ} →
-      s ≡ length samples → w ≡ length weights → f ≡ length flow → TablesFor r s w f (length image) (length work)
-  tables-for (Scanned.Refused n q t o) r h {s} {w} {f} _ _ _ =
-      subst⁻¹ (λ (x : ReadResult). TablesFor x s w f (length image) (length work)) h tt
-  tables-for (Scanned.Whole t o) r h es ew ef = tables-read r (reads t o r h) (ready .holds) es ew ef
+  -- at the end record
+  module _ (e : Step.Done ≡ stepOf bytes o t (lentIn (length samples) (length weights) (length flow)))
+      (byte : (i : ℕ) → getD bytes i 0 < 256) {v : ReadResult}
+      (read : readAnswerOf v ≡ readAnswer (take (o + 1) bytes) samples weights flow) where
+    pub read-from : ReadFrom (take (o + 1) bytes) samples weights flow v
+    read-from = record { byte = front-bytes (o + 1) bytes byte; answer = read }
 
-  pub front-job : (x : Scanned) (r : ReadResult) (a : Answer) →
-      StopsAt bytes (lentIn (length samples) (length weights) (length flow)) x →
-      NumbersOf bytes x r samples weights flow S W F → answerOf a ≡ answerFor r S W F image work →
-      natAbs (answerOf a .slack) ≤ mostSlack * pixelsOf (readAnswerOf r .terms) →
-      FrontJob bytes (lentIn (length samples) (length weights) (length flow)) totals x r a
-  front-job (Scanned.Refused n q t o) r a (reached, e) h _ _ =
-      (stopped-short bytes _ reached e, stopped-refused bytes _ reached e refl)
-  front-job (Scanned.Whole t o) (ReadResult.Refused n q) a (reached, e) h _ _ =
-      let is = turned-back (take (o + 1) bytes) samples weights flow (front-bytes (o + 1) bytes byte) n q (h .0) in
+  pub answered : (e : Step.Done ≡ stepOf bytes o t (lentIn (length samples) (length weights) (length flow))) →
+      (byte : (i : ℕ) → getD bytes i 0 < 256) → {totals : Totals} (image work : List ℤ) →
+      Ready totals (length samples) (length flow) (length image) (length work) → {S : List ℕ} {W F : List ℤ} →
+      S ≡ readSamples (take (o + 1) bytes) samples weights flow → W ≡ readWeights (take (o + 1) bytes) samples weights flow →
+      F ≡ readFlow (take (o + 1) bytes) samples weights flow → (v : ReadResult) (a : Answer) →
+      readAnswerOf v ≡ readAnswer (take (o + 1) bytes) samples weights flow → answerOf a ≡ answerFor v S W F image work →
+      natAbs (answerOf a .slack) ≤ mostSlack * pixelsOf (readAnswerOf v .terms) →
+      Answered bytes (lentIn (length samples) (length weights) (length flow)) totals v a (o + 1)
+  answered e byte image work ready s w f (ReadResult.Refused n q) a read _ _ =
+      let is = turned-back (take (o + 1) bytes) samples weights flow (front-bytes (o + 1) bytes byte) n q read in
       record {
-        refused = λ behind. same bytes samples weights flow reached e behind ∙ is;
-        faulty = faulty bytes samples weights flow reached e is;
+        refused = λ behind. same bytes samples weights flow r e behind ∙ is;
+        faulty = faulty bytes samples weights flow r e is;
       }
-  front-job (Scanned.Whole t o) (ReadResult.Job u v own given) a (reached, e) h answer small =
-      let k = job-taken (reads t o (ReadResult.Job u v own given) h) in
+  answered e byte image work ready s w f (ReadResult.Job u v own given) a read answer small =
+      let k = job-taken (read-from e byte read) in
       let pixels = ap (λ (x : Terms). pixelsOf x) (k .terms) in
-      let answered = read-shown k image work (ready .holds) (h .1) (h .2) (h .3) (λ (_ : Terms) (x : Calls.Answer) (_ : List ℤ). x) (λ _. answer-shows) answer refl in
+      let shown = read-shown k image work (ready .holds) s w f (λ (_ : Terms) (x : Calls.Answer) (_ : List ℤ). x) (λ _. answer-shows) answer refl in
       record {
         job = k .p;
-        read = λ behind. same bytes samples weights flow reached e behind ∙ k .is;
-        length-in-bytes = sym (size bytes samples weights flow reached e) ∙ bytes-of bytes samples weights flow reached e byte (k .is);
-        inside = inside bytes samples weights flow reached e;
+        read = λ behind. same bytes samples weights flow r e behind ∙ k .is;
+        length-in-bytes = sym (size bytes samples weights flow r e) ∙ bytes-of bytes samples weights flow r e byte (k .is);
+        inside = inside bytes samples weights flow r e;
         sized = allowed k;
         pixels = pixels;
-        answer = answered;
+        answer = shown;
         countable =
             record {
               bounded = ready .bounded;
               notLast = ready .notLast;
               pixelsAllowed = omega (arith, k .fits .samplesHold, ready .samplesMost);
-              slackAllowed = omega (arith, small, ap (λ (x : Calls.Answer). natAbs (x .slack)) answered, ap (λ (n : ℕ). mostSlack * n) pixels);
+              slackAllowed = omega (arith, small, ap (λ (x : Calls.Answer). natAbs (x .slack)) shown, ap (λ (n : ℕ). mostSlack * n) pixels);
             };
       }

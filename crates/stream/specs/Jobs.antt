@@ -2,9 +2,8 @@
 use mathlib.Core.Path.{_≡_}
 use mathlib.Core.Bool.{true, false}
 use mathlib.Core.List.{List, _++_}
-use Prim.Native.Nat.{ℕ, _+_, _≤_, _<_}
-use lib.IntN.{ℤ}
-use lib.ListN.{length, take}
+use Prim.Native.Nat.{ℕ, _≤_, _<_}
+use lib.ListN.{length}
 use Rattle.model.specs.declared.Lent.{Lent}
 use Rattle.model.specs.declared.Terms.{Terms}
 use Rattle.model.specs.declared.Totals.{Totals}
@@ -12,12 +11,11 @@ use Rattle.model.specs.declared.Answer.{Answer}
 use Rattle.model.specs.declared.ReadResult.{ReadResult}
 use Rattle.model.specs.Grid.{sizeAllowed}
 use Rattle.model.specs.Calls.{pixelsOf}
-use Rattle.model.specs.Answers.{answerOf, readAnswerOf}
-use Rattle.model.specs.Tape.{Progress, turned, whole, parse, tooShort, readAnswer, readSamples, readWeights, readFlow}
+use Rattle.model.specs.Answers.{answerOf}
+use Rattle.model.specs.Tape.{Progress, turned, whole, parse, tooShort}
 use Rattle.model.specs.Program.{jobAnswer}
 use Rattle.model.specs.Season.{bytesOf, treated}
 use Rattle.records.specs.declared.tally.Tally.{Tally}
-use Rattle.tape_scan.specs.declared.scan.Scanned.{Scanned}
 use Rattle.tape_scan.specs.Scan.{Reached}
 use Rattle.job.specs.Tables.{Holds}
 use Rattle.stream.specs.Totals.{Bounded, Countable}
@@ -32,16 +30,6 @@ pub record Ready (totals : Totals) (samples flow image work : ℕ) : Type 0 wher
   pub notLast : totals .jobs < 65535
   pub samplesMost : samples ≤ 4096
   pub holds : Holds samples flow image work
-
--- what is read where a scan has stopped: its refusal, or the numbers of the tape that ends there
-module _ (bytes : List ℕ) where
-  abbrev pub NumbersOf : Scanned → ReadResult → List ℕ → List ℤ → List ℤ → List ℕ → List ℤ → List ℤ → Type 0
-  NumbersOf (Scanned.Refused number place t at) r samples weights flow s w f = r ≡ ReadResult.Refused number place
-  NumbersOf (Scanned.Whole t at) r samples weights flow s w f =
-      (readAnswerOf r ≡ readAnswer (take (at + 1) bytes) samples weights flow)
-      × (s ≡ readSamples (take (at + 1) bytes) samples weights flow)
-      × (w ≡ readWeights (take (at + 1) bytes) samples weights flow)
-      × (f ≡ readFlow (take (at + 1) bytes) samples weights flow)
 
 module _ (bytes : List ℕ) (lent : Lent) where
   -- the bytes end before the job does; its records up to this offset are whole
@@ -66,8 +54,12 @@ module _ (bytes : List ℕ) (lent : Lent) where
     pub answer : answerOf a ≡ jobAnswer job
     pub countable : Countable totals (treated job)
 
-  abbrev pub FrontJob : Totals → Scanned → ReadResult → Answer → Type 0
-  FrontJob totals (Scanned.Refused number place t at) r a =
+  -- where a scan has stopped at a record that it refuses
+  abbrev pub Stopped : ℕ → ℕ → Tally → ℕ → Type 0
+  Stopped number place t at =
       (tooShort number ≡ true → Short number place t at) × (tooShort number ≡ false → Refused number place)
-  FrontJob totals (Scanned.Whole t at) (ReadResult.Refused number place) a = Refused number place
-  FrontJob totals (Scanned.Whole t at) (ReadResult.Job terms r weighted flowed) a = Whole totals terms a (at + 1)
+
+  -- .. or at the end record: what was read of the tape that ends there
+  abbrev pub Answered : Totals → ReadResult → Answer → ℕ → Type 0
+  Answered totals (ReadResult.Refused number place) a size = Refused number place
+  Answered totals (ReadResult.Job t r weighted flowed) a size = Whole totals t a size

@@ -11,11 +11,14 @@ use records::tally::Tally;
 use tape_read::read::take_numbers;
 use tape_scan::scan::Scanned;
 use tape_scan::scan::scan_tape;
-ghost use Prim.Native.Nat.{_≤_, _<_};
+ghost use mathlib.Core.Bool.{Bool};
+ghost use mathlib.Core.List.{List};
+ghost use Prim.Native.Nat.{ℕ, _≤_, _<_};
 ghost use lib.ListN.{length, take};
 ghost use Rattle.model.specs.declared.Lent.{Lent};
-ghost use Rattle.tape_scan.specs.Scan.{Reached, StopsAt};
-ghost use Rattle.stream.specs.Jobs.{Ready, lentIn, NumbersOf, FrontJob};
+ghost use Rattle.model.specs.declared.Totals.{Totals};
+ghost use Rattle.tape_scan.specs.Scan.{Reached};
+ghost use Rattle.stream.specs.Jobs.{Ready, lentIn, Stopped, Answered};
 ghost use Rattle.stream.specs.AtHand.{NextJob};
 
 pub enum Next {
@@ -29,68 +32,43 @@ pub enum Next {
     Counted(Totals, usize),
 }
 
-// The numbers of a job whose records have passed, where 8 is judged; else the scan's refusal.
-fn read_numbers(
-    bytes: &[u8],
-    scanned: Scanned,
-    samples: &mut [u8],
-    weights: &mut [i32],
-    flow: &mut [i32],
-) -> ReadResult
-    requires { ⌜ StopsAt (now bytes) (lentIn (length (now samples)) (length (now weights)) (length (now flow))) scanned ⌝ }
-    ensures { λ r. ⌜ NumbersOf (now (bytes .entry)) scanned r (now (samples .entry)) (now (weights .entry)) (now (flow .entry)) (now (samples .exit)) (now (weights .exit)) (now (flow .exit)) ⌝ }
+// A job whose records have not all passed: refused, or the bytes at hand are too few; 17 where they are
+// and the input goes past its first 65,536.
+fn unfinished(bytes: &[u8], ended: bool, number: u32, place: usize, t: Tally, at: usize) -> Next
+    ensures { λ r. ⌜ ((lent : Lent) (totals : Totals) → totals .jobs < 65535 → Stopped (take 65536 (now (bytes .entry))) lent number place t at → NextJob (now (bytes .entry)) ended lent totals r) ⌝ }
 {
-    match scanned {
-        Scanned::Refused(number, place, _, _) => ReadResult::Refused { number, place },
-        Scanned::Whole(t, at) => {
-            let size = at + 1;
-            take_numbers(&bytes[..size], t, samples, weights, flow)
-        }
+    if !too_short(number) {
+        return Next::Refused(number, place);
+    }
+    if 65536 < bytes.len() {
+        return Next::Refused(17, 0);
+    }
+    if !ended {
+        return Next::More(t, at);
+    }
+    if bytes.len() == 0 {
+        Next::Over
+    } else {
+        Next::Refused(number, place)
     }
 }
 
-// The job at the front of the bytes at hand, by what its first 65,536 bytes come to: 17 where they are
-// too few and the input goes past them.
-fn decide(
-    bytes: &[u8],
-    ended: bool,
-    scanned: Scanned,
-    read: ReadResult,
-    answer: Answer,
-    totals: Totals,
-) -> Next
-    requires { ⌜ (totals .jobs < 65535) × ((lent : Lent) × FrontJob (take 65536 (now bytes)) lent totals scanned read answer) ⌝ }
-    ensures { λ r. ⌜ ((lent : Lent) → FrontJob (take 65536 (now (bytes .entry))) lent totals scanned read answer → NextJob (now (bytes .entry)) ended lent totals r) ⌝ }
+// A job of so many bytes whose records have passed: refused by 8, or counted with its answer.
+fn count_job(read: ReadResult, answer: Answer, totals: Totals, size: usize) -> Next
+    requires { ⌜ ((bytes : List ℕ) × (lent : Lent) × Answered bytes lent totals read answer size) ⌝ }
+    ensures { λ r. ⌜ ((bytes : List ℕ) (ended : Bool) (lent : Lent) → totals .jobs < 65535 → Answered (take 65536 bytes) lent totals read answer size → NextJob bytes ended lent totals r) ⌝ }
 {
-    match scanned {
-        Scanned::Refused(number, place, t, at) => {
-            if !too_short(number) {
-                return Next::Refused(number, place);
-            }
-            if 65536 < bytes.len() {
-                return Next::Refused(17, 0);
-            }
-            if !ended {
-                return Next::More(t, at);
-            }
-            if bytes.len() == 0 {
-                Next::Over
-            } else {
-                Next::Refused(number, place)
-            }
+    match read {
+        ReadResult::Refused { number, place } => Next::Refused(number, place),
+        ReadResult::Job {
+            terms,
+            rounds: _,
+            weighted: _,
+            flowed: _,
+        } => {
+            let n = terms::pixels(terms.width, terms.height);
+            Next::Counted(with_job(totals, n, answer), size)
         }
-        Scanned::Whole(_, at) => match read {
-            ReadResult::Refused { number, place } => Next::Refused(number, place),
-            ReadResult::Job {
-                terms,
-                rounds: _,
-                weighted: _,
-                flowed: _,
-            } => {
-                let n = terms::pixels(terms.width, terms.height);
-                Next::Counted(with_job(totals, n, answer), at + 1)
-            }
-        },
     }
 }
 
@@ -121,7 +99,20 @@ pub fn next_job(
     let count = if 65536 < len { 65536 } else { len };
     let front = &bytes[..count];
     let scanned = scan_tape(front, at, before, lent);
-    let read = read_numbers(front, scanned, samples, weights, flow);
-    let answer = answer_of(read, samples, weights, flow, image, work);
-    decide(bytes, ended, scanned, read, answer, totals)
+    match scanned {
+        Scanned::Refused(number, place, t, next) => unfinished(
+            bytes,
+            ended,
+            number,
+            place,
+            t,
+            next,
+        ),
+        Scanned::Whole(t, last) => {
+            let size = last + 1;
+            let read = take_numbers(&front[..size], t, samples, weights, flow);
+            let answer = answer_of(read, samples, weights, flow, image, work);
+            count_job(read, answer, totals, size)
+        }
+    }
 }
