@@ -34,7 +34,7 @@ unfoldable pub bytesOf : Progress → ℕ
 bytesOf p = length (tapeOf (p .terms) (p .rounds) (p .samples) (p .weights) (p .flow))
 
 -- A job that was treated: its pixels, and the answer that the cleaning program gives. (A job that was read whole is refused
--- by no call any more; this is proved, and promised by `job_answer::answer_of`.)
+-- by no call any more; this is proved: `whole-accepted` in `job/proofs/Accepts`.)
 pub record Treated : Type 0 where
   pub pixels : ℕ
   pub answer : Answer
