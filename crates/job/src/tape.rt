@@ -3,7 +3,7 @@
 use crate::answer::answer_of;
 use crate::answer::pixels_of;
 use crate::answer::terms_of;
-use tape_read::read::read;
+use tape_reader::read::read;
 use text::answer::put_answer;
 ghost use lib.ListN.{length};
 ghost use Rattle.model.specs.Tape.{lentBy, parse};

@@ -10,10 +10,10 @@ use lib.ListN.{length}
 use Rattle.model.specs.declared.Lent.{Lent}
 use Rattle.model.specs.Tape.{nothing}
 use Rattle.model.specs.Season.{totalsOf}
-use Rattle.records.specs.declared.tally.Tally.{Tally}
-use Rattle.records.specs.Tally.{tallyOf}
-use Rattle.tape_scan.specs.Scan.{Reached}
-use Rattle.tape_scan.proofs.Reached as scan
+use Rattle.tape_records.specs.declared.state.ParserState.{ParserState}
+use Rattle.tape_records.specs.State.{stateOf}
+use Rattle.tape_reader.specs.Scan.{Reached}
+use Rattle.tape_reader.proofs.Reached as scan
 use Rattle.stream.proofs.Sums.{bounded-none}
 use Rattle.stream.specs.Report.{reportFrom}
 use Rattle.stream.specs.Jobs.{lentIn}
@@ -50,7 +50,7 @@ pub record Invariant (lent : Lent) (buffer : List ℕ) (s : State) : Type 0 wher
 
 module _ (lent : Lent) where
   pub begins : (buffer : List ℕ) →
-      Invariant lent buffer (record { window = record { start = 0; end = 0; ended = false; failed = false }; at = 0; tally = tallyOf nothing; totals = totalsOf [] })
+      Invariant lent buffer (record { window = record { start = 0; end = 0; ended = false; failed = false }; at = 0; tally = stateOf nothing; totals = totalsOf [] })
   begins buffer =
       record {
         input = [];
@@ -74,7 +74,7 @@ module _ (lent : Lent) where
               record {
                 within = g .within;
                 reached =
-                    subst₂ (λ (t : Tally) (o : ℕ). Reached (atHand buffer (r .window)) lent t o) (sym (g .unread)) (sym (g .first))
+                    subst₂ (λ (t : ParserState) (o : ℕ). Reached (atHand buffer (r .window)) lent t o) (sym (g .unread)) (sym (g .first))
                     (scan.start (atHand buffer (r .window)) lent);
                 near = omega (arith, g .first);
                 bounded = g .bounded;
@@ -83,7 +83,7 @@ module _ (lent : Lent) where
           report = λ rest. k .report rest ∙ g .report rest;
         }
 
-    pub grown : {t : Tally} {at : ℕ} {later : List ℕ} {i : Window} →
+    pub grown : {t : ParserState} {at : ℕ} {later : List ℕ} {i : Window} →
         NeedsMore (atHand buffer (s .window)) (s .window .ended) lent t at → Grown buffer (s .window) later i →
         Invariant lent later (record { window = i; at = at; tally = t; totals = s .totals })
     grown {later = later} {i} h g =

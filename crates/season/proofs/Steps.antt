@@ -42,7 +42,7 @@ module _ (lent : Lent) (buffer : List ℕ) (w : Window) (within : WindowIn buffe
       ∙ ap (take (w .end - w .start - n)) (drop-drop n (w .start) buffer)
       ∙ ap (λ (k : ℕ). take k (drop (w .start + n) buffer)) fewer
 
-  pub job-counted : after .jobs < 65535 → Continues lent buffer w totals (record { window = behind; at = 0; tally = tallyOf nothing; totals = after })
+  pub job-counted : after .jobs < 65535 → Continues lent buffer w totals (record { window = behind; at = 0; tally = stateOf nothing; totals = after })
   job-counted few =
       record {
         within = record { ordered = omega (arith, size, g .inside, within .ordered); inside = within .inside };
@@ -73,7 +73,7 @@ less-left s {r} few g = go (r .window .ended) (s .window .ended)
     go false false = omega (arith, g .one)
 
 -- with more bytes
-module _ {lent : Lent} {buffer : List ℕ} {s : State} (st : ValidState lent buffer s) {t : Tally} {at : ℕ}
+module _ {lent : Lent} {buffer : List ℕ} {s : State} (st : ValidState lent buffer s) {t : ParserState} {at : ℕ}
     (h : NeedsMore (atHand buffer (s .window)) (s .window .ended) lent t at) {later : List ℕ} {i : Window}
     (g : Grown buffer (s .window) later i) where
   abbrev longer : State

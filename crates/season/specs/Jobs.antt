@@ -7,8 +7,8 @@ use Rattle.model.specs.declared.Lent.{Lent}
 use Rattle.model.specs.declared.Totals.{Totals}
 use Rattle.model.specs.Tape.{nothing}
 use Rattle.model.specs.Season.{totalsOf}
-use Rattle.records.specs.Tally.{tallyOf}
-use Rattle.tape_scan.specs.Scan.{Reached}
+use Rattle.tape_records.specs.State.{stateOf}
+use Rattle.tape_reader.specs.Scan.{Reached}
 use Rattle.job.specs.Tables.{Holds}
 use Rattle.stream.specs.Totals.{Bounded}
 use Rattle.stream.specs.Report.{reportFrom}
@@ -45,7 +45,7 @@ left s =
 pub record Continues (lent : Lent) (buffer : List ℕ) (w : Window) (totals : Totals) (r : State) : Type 0 where
   pub within : WindowIn buffer (r .window)
   pub first : r .at ≡ 0
-  pub unread : r .tally ≡ tallyOf nothing
+  pub unread : r .tally ≡ stateOf nothing
   pub bounded : Bounded (r .totals)
   pub one : r .totals .jobs ≡ totals .jobs + 1
   pub notLast : r .totals .jobs < 65535

@@ -4,8 +4,8 @@ use crate::window::Window;
 use crate::window::more_bytes;
 use model::Totals;
 use model::Verdict;
-use records::tally::Tally;
-use records::tally::fresh;
+use tape_records::state::ParserState;
+use tape_records::state::initial;
 use stream::next::Next;
 use stream::next::next_job;
 use stream::totals::no_jobs;
@@ -23,7 +23,7 @@ ghost use Rattle.season.specs.Jobs.{ValidState, StepOf, ReportOf, Season
 pub struct State {
     pub window: Window,
     pub at: usize,
-    pub tally: Tally,
+    pub tally: ParserState,
     pub totals: Totals,
 }
 
@@ -40,7 +40,7 @@ pub struct Ended {
 // season's end.
 pub enum Step {
     Continue(State),
-    Read(Tally, usize),
+    Read(ParserState, usize),
     Stop(Ended),
 }
 
@@ -71,7 +71,7 @@ fn step_on(w: Window, totals: Totals, n: Next) -> Step
                     ended: w.ended,
                     failed: w.failed,
                 };
-                let tally = fresh();
+                let tally = initial();
                 return Step::Continue(State {
                     window,
                     at: 0,
@@ -142,7 +142,7 @@ pub fn read_season(
     let mut s = State {
         window,
         at: 0,
-        tally: fresh(),
+        tally: initial(),
         totals: no_jobs(),
     };
     loop {

@@ -14,8 +14,8 @@ use Rattle.model.specs.declared.Answer.{Answer}
 use Rattle.model.specs.declared.Verdict.{Verdict}
 use Rattle.model.specs.Tape.{turned, parse}
 use Rattle.model.specs.Season.{bytesOf, treated}
-use Rattle.records.specs.declared.tally.Tally.{Tally}
-use Rattle.tape_scan.specs.Scan.{Reached}
+use Rattle.tape_records.specs.declared.state.ParserState.{ParserState}
+use Rattle.tape_reader.specs.Scan.{Reached}
 use Rattle.roundtrip.proofs.Offsets.{tape-length}
 use Rattle.stream.specs.Totals.{withJob, Bounded}
 use Rattle.stream.specs.Report.{Report, reportFrom}

@@ -21,11 +21,11 @@ use Rattle.model.specs.Calls.{pixelsOf, firstBeyond, flowRow}
 use Rattle.model.specs.Answers.{answerOf, readAnswerOf}
 use Rattle.model.specs.Tape.{Progress, turned, whole, judged, unless, parse, tooShort, lentBy, readAnswer, readSamples, readWeights, readFlow}
 use Rattle.model.specs.Season.{bytesOf}
-use Rattle.records.specs.declared.tally.Tally.{Tally}
-use Rattle.steps.specs.declared.Step.{Step}
-use Rattle.steps.specs.Step.{stepOf}
-use Rattle.tape_scan.specs.Scan.{recordsOf, WholeRecords, Reached}
-use Rattle.tape_scan.proofs.Reached as scan
+use Rattle.tape_records.specs.declared.state.ParserState.{ParserState}
+use Rattle.tape_reader.specs.declared.transition.Transition.{Transition}
+use Rattle.tape_reader.specs.Transition.{transitionAt}
+use Rattle.tape_reader.specs.Scan.{recordsOf, WholeRecords, Reached}
+use Rattle.tape_reader.proofs.Reached as scan
 use Rattle.roundtrip.proofs.Accepted.{accepted-job}
 use Rattle.roundtrip.proofs.Judged.{passed-parse}
 use Rattle.calls.specs.Slack.{mostSlack}
@@ -37,7 +37,7 @@ use Rattle.stream.specs.Jobs.{Ready, lentIn, Short, Refused, Stopped, An
 
 module _ (bytes : List ℕ) (lent : Lent) {t : ParserState} {o : ℕ} (r : Reached bytes lent t o) where
   -- the scan stops at a record that is refused
-  module _ {n q : ℕ} (e : Step.Refused n q ≡ stepOf bytes o t lent) where
+  module _ {n q : ℕ} (e : Transition.Refused n q ≡ transitionAt bytes o t lent) where
     stopped-short : tooShort n ≡ true → Short bytes lent n q t o
     unfolding parse
     stopped-short s = record { reached = r; refused = ap judged (scan.refused bytes lent r e); short = s }
@@ -114,21 +114,21 @@ module _ (bytes samples : List ℕ) (weights flow : List ℤ) {t : ParserState} 
 answer-shows : Shows (λ (a : Calls.Answer) (_ : List ℤ). a)
 answer-shows = record { alike = λ _ _ _ _. refl }
 
-module _ (bytes samples : List ℕ) (weights flow : List ℤ) {t : Tally} {o : ℕ}
+module _ (bytes samples : List ℕ) (weights flow : List ℤ) {t : ParserState} {o : ℕ}
     (r : Reached bytes (lentIn (length samples) (length weights) (length flow)) t o) where
   -- at a record that is refused
-  pub stopped : {n q : ℕ} → Step.Refused n q ≡ stepOf bytes o t (lentIn (length samples) (length weights) (length flow)) →
+  pub stopped : {n q : ℕ} → Transition.Refused n q ≡ transitionAt bytes o t (lentIn (length samples) (length weights) (length flow)) →
       Stopped bytes (lentIn (length samples) (length weights) (length flow)) n q t o
   stopped e = (stopped-short bytes _ r e, stopped-refused bytes _ r e refl)
 
   -- at the end record
-  module _ (e : Step.Done ≡ stepOf bytes o t (lentIn (length samples) (length weights) (length flow)))
+  module _ (e : Transition.Done ≡ transitionAt bytes o t (lentIn (length samples) (length weights) (length flow)))
       (byte : (i : ℕ) → getD bytes i 0 < 256) {v : ReadResult}
       (read : readAnswerOf v ≡ readAnswer (take (o + 1) bytes) samples weights flow) where
     pub read-from : ReadFrom (take (o + 1) bytes) samples weights flow v
     read-from = record { byte = front-bytes (o + 1) bytes byte; answer = read }
 
-  pub answered : (e : Step.Done ≡ stepOf bytes o t (lentIn (length samples) (length weights) (length flow))) →
+  pub answered : (e : Transition.Done ≡ transitionAt bytes o t (lentIn (length samples) (length weights) (length flow))) →
       (byte : (i : ℕ) → getD bytes i 0 < 256) → {totals : Totals} (image work : List ℤ) →
       Ready totals (length samples) (length flow) (length image) (length work) → {S : List ℕ} {W F : List ℤ} →
       S ≡ readSamples (take (o + 1) bytes) samples weights flow → W ≡ readWeights (take (o + 1) bytes) samples weights flow →

@@ -8,8 +8,8 @@ use Rattle.model.specs.declared.Lent.{Lent}
 use Rattle.model.specs.declared.Totals.{Totals}
 use Rattle.model.specs.declared.Verdict.{Verdict}
 use Rattle.model.specs.Season.{Follows}
-use Rattle.records.specs.declared.tally.Tally.{Tally}
-use Rattle.tape_scan.specs.Scan.{Reached}
+use Rattle.tape_records.specs.declared.state.ParserState.{ParserState}
+use Rattle.tape_reader.specs.Scan.{Reached}
 use Rattle.stream.specs.Totals.{Bounded}
 use Rattle.stream.specs.declared.next.Next.{Next}
 use Rattle.stream.specs.Report.{Report, reportFrom}
@@ -26,7 +26,7 @@ pub record CountsJob (bytes : List ℕ) (lent : Lent) (before after : Totals) (s
   pub report : (rest : List ℕ) → reportFrom lent before (bytes ++ rest) ≡ reportFrom lent after (drop size bytes ++ rest)
 
 -- more bytes are wanted: these are too few for the job, and the input goes on
-pub record NeedsMore (bytes : List ℕ) (ended : Bool) (lent : Lent) (t : Tally) (at : ℕ) : Type 0 where
+pub record NeedsMore (bytes : List ℕ) (ended : Bool) (lent : Lent) (t : ParserState) (at : ℕ) : Type 0 where
   pub reached : Reached bytes lent t at
   pub few : length bytes ≤ 65536
   pub notEnded : ended ≡ false

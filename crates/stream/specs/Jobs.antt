@@ -15,8 +15,8 @@ use Rattle.model.specs.Answers.{answerOf}
 use Rattle.model.specs.Tape.{Progress, turned, whole, parse, tooShort}
 use Rattle.model.specs.Program.{jobAnswer}
 use Rattle.model.specs.Season.{bytesOf, treated}
-use Rattle.records.specs.declared.tally.Tally.{Tally}
-use Rattle.tape_scan.specs.Scan.{Reached}
+use Rattle.tape_records.specs.declared.state.ParserState.{ParserState}
+use Rattle.tape_reader.specs.Scan.{Reached}
 use Rattle.job.specs.Tables.{Holds}
 use Rattle.stream.specs.Totals.{Bounded, Countable}
 
@@ -33,7 +33,7 @@ pub record Ready (totals : Totals) (samples flow image work : ℕ) : Type 0 wher
 
 module _ (bytes : List ℕ) (lent : Lent) where
   -- the bytes end before the job does; its records up to this offset are whole
-  pub record Short (number place : ℕ) (t : Tally) (at : ℕ) : Type 0 where
+  pub record Short (number place : ℕ) (t : ParserState) (at : ℕ) : Type 0 where
     pub reached : Reached bytes lent t at
     pub refused : parse bytes lent ≡ turned number place
     pub short : tooShort number ≡ true
@@ -55,7 +55,7 @@ module _ (bytes : List ℕ) (lent : Lent) where
     pub countable : Countable totals (treated job)
 
   -- where a scan has stopped at a record that it refuses
-  abbrev pub Stopped : ℕ → ℕ → Tally → ℕ → Type 0
+  abbrev pub Stopped : ℕ → ℕ → ParserState → ℕ → Type 0
   Stopped number place t at =
       (tooShort number ≡ true → Short number place t at) × (tooShort number ≡ false → Refused number place)
 

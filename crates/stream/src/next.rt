@@ -6,18 +6,18 @@ use model::Answer;
 use model::Lent;
 use model::ReadResult;
 use model::Totals;
-use records::record::too_short;
-use records::tally::Tally;
-use tape_read::read::take_numbers;
-use tape_scan::scan::Scanned;
-use tape_scan::scan::scan_tape;
+use tape_records::parse::too_short;
+use tape_records::state::ParserState;
+use tape_reader::read::read_numbers;
+use tape_reader::scan::Scanned;
+use tape_reader::scan::scan_tape;
 ghost use mathlib.Core.Bool.{Bool};
 ghost use mathlib.Core.List.{List};
 ghost use Prim.Native.Nat.{ℕ, _≤_, _<_};
 ghost use lib.ListN.{length, take};
 ghost use Rattle.model.specs.declared.Lent.{Lent};
 ghost use Rattle.model.specs.declared.Totals.{Totals};
-ghost use Rattle.tape_scan.specs.Scan.{Reached};
+ghost use Rattle.tape_reader.specs.Scan.{Reached};
 ghost use Rattle.stream.specs.Jobs.{Ready, lentIn, Stopped, Answered};
 ghost use Rattle.stream.specs.AtHand.{NextJob};
 
@@ -34,7 +34,7 @@ pub enum Next {
 
 // A job whose records have not all passed: refused, or the bytes at hand are too few; 17 where they are
 // and the input goes past its first 65,536.
-fn unfinished(bytes: &[u8], ended: bool, number: u32, place: usize, t: Tally, at: usize) -> Next
+fn unfinished(bytes: &[u8], ended: bool, number: u32, place: usize, t: ParserState, at: usize) -> Next
     ensures { λ r. ⌜ ((lent : Lent) (totals : Totals) → totals .jobs < 65535 → Stopped (take 65536 (now (bytes .entry))) lent number place t at → NextJob (now (bytes .entry)) ended lent totals r) ⌝ }
 {
     if !too_short(number) {
@@ -110,7 +110,7 @@ pub fn next_job(
         ),
         Scanned::Whole(t, last) => {
             let size = last + 1;
-            let read = take_numbers(&front[..size], t, samples, weights, flow);
+            let read = read_numbers(&front[..size], t, samples, weights, flow);
             let answer = answer_of(read, samples, weights, flow, image, work);
             count_job(read, answer, totals, size)
         }

@@ -7,7 +7,7 @@ use lib.IntN.{ℤ}
 use lib.ListN.{length, take}
 use lib.Seq.{length-take-le}
 use Rattle.model.specs.declared.Terms.{Terms}
-use Rattle.output.proofs.Laid.{put-as}
+use Rattle.output.proofs.Puts.{put-as}
 use Rattle.job.proofs.Tapes.{ReadFrom, size-read, tables-read, held-read}
 use Rattle.job.proofs.Texts.{read-text, enough}
 use borrow.Author.Needs.{needs}

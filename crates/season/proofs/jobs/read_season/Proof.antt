@@ -6,7 +6,7 @@ use borrow.Author.Needs.{needs}
 use lib.ListN.{length}
 use Rattle.model.specs.declared.Lent.{Lent}
 use Rattle.model.specs.declared.Totals.{Totals}
-use Rattle.records.specs.declared.tally.Tally.{Tally}
+use Rattle.tape_records.specs.declared.state.ParserState.{ParserState}
 use Rattle.stream.specs.Jobs.{lentIn}
 use Rattle.season.specs.declared.jobs.Step.{Step}
 use Rattle.season.specs.Jobs.{ValidState, left, StepOf}
@@ -40,8 +40,8 @@ loop-holds : tie.Need-loop-holds Inv-loop μ-loop
 loop-holds c =
     let a = c .before .before .before .before .args in
     let lent = lentIn (length (a .samples .now)) (length (a .weights .now)) (length (a .flow .now)) in (
-      subst₂ (λ (t : Tally) (n : Totals). Invariant lent (a .buffer .now) (record { window = record { start = 0; end = 0; ended = false; failed = false }; at = 0; tally = t; totals = n }))
-          (sym (c .before .fresh .ensures)) (sym (c .no-jobs .ensures)) (begins lent (a .buffer .now)),
+      subst₂ (λ (t : ParserState) (n : Totals). Invariant lent (a .buffer .now) (record { window = record { start = 0; end = 0; ended = false; failed = false }; at = 0; tally = t; totals = n }))
+          (sym (c .before .initial .ensures)) (sym (c .no-jobs .ensures)) (begins lent (a .buffer .now)),
       record {
         bufferLength = refl;
         samplesLength = refl;

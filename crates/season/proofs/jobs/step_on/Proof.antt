@@ -4,7 +4,7 @@ use mathlib.Core.List.{List}
 use Prim.Native.Nat.{ℕ, _+_}
 use native.Mathlib.Omega.{arith}
 use Rattle.model.specs.declared.Lent.{Lent}
-use Rattle.records.specs.declared.tally.Tally.{Tally}
+use Rattle.tape_records.specs.declared.state.ParserState.{ParserState}
 use Rattle.stream.specs.declared.next.Next.{Next}
 use Rattle.stream.specs.AtHand.{NextJob}
 use Rattle.season.specs.Window.{atHand}
@@ -34,7 +34,7 @@ returns c lent buffer within few next =
     let w = s .args .w in
     let v = g .n2 .given .0 in
     subst⁻¹
-    (λ (t : Tally).
+    (λ (t : ParserState).
     Continues lent buffer w (s .args .totals)
     (record {
       window = record { start = w .start + v .1 .0; end = w .end; ended = w .ended; failed = w .failed };
@@ -42,7 +42,7 @@ returns c lent buffer within few next =
       tally = t;
       totals = v .0;
     }))
-    (c .fresh .ensures)
+    (c .initial .ensures)
     (job-counted lent buffer w within (next-is s lent buffer (g .n2 .given .1) next) (small .if1 .taken))
 
 returns-2 : tie.Need-returns-2

@@ -6,10 +6,10 @@ use Prim.Native.Nat.{ℕ, _+_, _≤_, _<_}
 use native.Mathlib.Omega.{arith}
 use lib.ListN.{length, getD, take, length-take}
 use lib.Seq.{length-take-le, take-length, take-all, take-take}
-use Rattle.tape_scan.proofs.Reached.{moved}
+use Rattle.tape_reader.proofs.Reached.{moved}
 use Rattle.job.proofs.Slacks.{front-bytes}
-use Rattle.tape_scan.specs.declared.scan.Scanned.{Scanned}
-use Rattle.tape_scan.specs.Scan.{StopsAt}
+use Rattle.tape_reader.specs.declared.scan.Scanned.{Scanned}
+use Rattle.tape_reader.specs.Scan.{StopsAt}
 use Rattle.job.proofs.Tapes.{tables-read}
 use Rattle.stream.specs.Jobs.{lentIn, Stopped, Answered}
 use Rattle.stream.proofs.Jobs.{inside, records, stopped, read-from, answered}
@@ -24,10 +24,10 @@ started c = c .before .before .before
 abbrev scanned : tie.After-scanned2 → tie.After-scan-tape
 scanned c = c .before .before
 
-abbrev was-read : tie.After-answer-of → tie.After-take-numbers
+abbrev was-read : tie.After-answer-of → tie.After-read-numbers
 was-read c = c .before .before .before .before .before .before .before .before .before .before
 
-abbrev whole : tie.After-take-numbers → tie.After-scanned2
+abbrev whole : tie.After-read-numbers → tie.After-scanned2
 whole c = c .before .before .before .before .before .before
 
 -- the bytes that are scanned are the first 65,536
@@ -86,11 +86,11 @@ add-size c =
     let j = scanned (c .before) .before .before in
     omega (arith, long (c .before), length-take (j .if1 .count) (started j .args .bytes .now), started j .good)
 
-slice-aggregate-take-numbers : tie.Need-slice-aggregate-take-numbers
-slice-aggregate-take-numbers c = sym (length-take-le _ _ (long (c .before .before)))
+slice-aggregate-read-numbers : tie.Need-slice-aggregate-read-numbers
+slice-aggregate-read-numbers c = sym (length-take-le _ _ (long (c .before .before)))
 
-take-numbers-requires : tie.Need-take-numbers-requires
-take-numbers-requires c κs =
+read-numbers-requires : tie.Need-read-numbers-requires
+read-numbers-requires c κs =
     let w = c .before .before .before .before .before in
     let j = scanned w .before .before in
     let a = started j .args in
@@ -102,30 +102,30 @@ answer-of-requires c κs =
     let w = whole r in
     let j = scanned w .before .before in
     let a = started j .args in
-    let kept = r .take-numbers .kept in
-    tables-read (r .take-numbers .result)
+    let kept = r .read-numbers .kept in
+    tables-read (r .read-numbers .result)
     (read-from (take (j .if1 .count) (a .bytes .now)) (a .samples .now) (a .weights .now) (a .flow .now) (at-end w .0) (at-end w .1)
-    (bytes j) (r .take-numbers .ensures .0))
+    (bytes j) (r .read-numbers .ensures .0))
     (started j .pre .2 .holds) (kept .1 .1 .0) (kept .1 .1 .1 .0) (kept .1 .1 .1 .1 .0)
 
 -- the job that was read and answered
 read-front : (c : tie.After-answer-of) → let r = was-read c in let w = whole r in let a = started (scanned w .before .before) .args in
     Answered (take 65536 (a .bytes .now)) (lentIn (length (a .samples .now)) (length (a .weights .now)) (length (a .flow .now)))
-    (a .totals) (r .take-numbers .result) (c .answer-of .result) (w .scanned2 .given .0 .1 .0 + 1)
+    (a .totals) (r .read-numbers .result) (c .answer-of .result) (w .scanned2 .given .0 .1 .0 + 1)
 read-front c =
     let r = was-read c in
     let w = whole r in
     let j = scanned w .before .before in
     let a = started j .args in
-    let e = r .take-numbers .ensures in
+    let e = r .read-numbers .ensures in
     let answer = c .answer-of .ensures in
     subst
     (λ (l : List ℕ).
     Answered l (lentIn (length (a .samples .now)) (length (a .weights .now)) (length (a .flow .now))) (a .totals)
-    (r .take-numbers .result) (c .answer-of .result) (w .scanned2 .given .0 .1 .0 + 1))
+    (r .read-numbers .result) (c .answer-of .result) (w .scanned2 .given .0 .1 .0 + 1))
     (front j)
     (answered (take (j .if1 .count) (a .bytes .now)) (a .samples .now) (a .weights .now) (a .flow .now) (at-end w .0) (at-end w .1)
-    (bytes j) (a .image .now) (a .work .now) (started j .pre .2) (e .1 .0) (e .1 .1 .0) (e .1 .1 .1) (r .take-numbers .result)
+    (bytes j) (a .image .now) (a .work .now) (started j .pre .2) (e .1 .0) (e .1 .1 .0) (e .1 .1 .1) (r .read-numbers .result)
     (c .answer-of .result) (e .0) (answer .0) (answer .1 .1))
 
 count-job-requires : tie.Need-count-job-requires
@@ -163,8 +163,8 @@ next-job-spec =
     (λ c κs. search needs)
     (λ c. search needs)
     add-size
-    slice-aggregate-take-numbers
-    take-numbers-requires
+    slice-aggregate-read-numbers
+    read-numbers-requires
     answer-of-requires
     count-job-requires
     returns

@@ -7,7 +7,7 @@ use Rattle.model.specs.Text.{ascii}
 use Rattle.model.specs.Program.{answerText}
 use Rattle.model.specs.declared.Answer.{Answer}
 use Rattle.model.specs.Answers.{answerOf}
-use Rattle.output.proofs.Laid.{put-as}
+use Rattle.output.proofs.Puts.{put-as}
 use Rattle.text.proofs.Answers.{accepted-text, was-checked, has-settled, was-spent}
 use borrow.Author.Needs.{needs}
 use Rattle.text.proofs.answer.put_answer.Statement.{statement}

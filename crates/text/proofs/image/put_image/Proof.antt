@@ -10,7 +10,7 @@ use lib.ListN.{length}
 use Rattle.lists.specs.Lists.{at, chain}
 use Rattle.model.specs.Program.{rowText}
 use Rattle.output.specs.Put.{Put}
-use Rattle.output.proofs.Laid.{put-as, put-length, chain-start, chain-next}
+use Rattle.output.proofs.Puts.{put-as, put-length, chain-start, chain-next}
 use Rattle.text.proofs.image.put_image.Statement.{statement}
 use Rattle.text.proofs.image.put_image.Tie as tie
 

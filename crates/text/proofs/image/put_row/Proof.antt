@@ -15,7 +15,7 @@ use Rattle.lists.specs.Lists.{at, chain}
 use Rattle.model.specs.Text.{ascii, signedDecimal}
 use Rattle.model.specs.Program.{field}
 use Rattle.output.specs.Put.{Put}
-use Rattle.output.proofs.Laid.{put-as, put-length, put-within, chain-start, chain-next}
+use Rattle.output.proofs.Puts.{put-as, put-length, put-within, chain-start, chain-next}
 use Rattle.text.proofs.image.put_row.Statement.{statement}
 use Rattle.text.proofs.image.put_row.Tie as tie
 

@@ -4,7 +4,7 @@ use mathlib.Core.Path.{_≡_, sym, ap, _∙_}
 use Prim.Native.Nat.{ℕ, _≤_}
 use lib.ListN.{length, take}
 use Rattle.model.specs.Text.{decimal}
-use Rattle.output.proofs.Laid.{put-as}
+use Rattle.output.proofs.Puts.{put-as}
 use Rattle.text.proofs.Lengths.{twenty-digits}
 use Rattle.text.proofs.Digits.{digits-decimal}
 use borrow.Author.Needs.{needs}

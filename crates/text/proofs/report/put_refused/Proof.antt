@@ -2,7 +2,7 @@
 use native.Mathlib.Omega.{arith}
 use Rattle.model.specs.Text.{ascii}
 use Rattle.model.specs.Season.{endingText}
-use Rattle.output.proofs.Laid.{put-within}
+use Rattle.output.proofs.Puts.{put-within}
 use Rattle.text.proofs.Lengths.{refusal-length}
 use borrow.Author.Needs.{needs}
 use Rattle.text.proofs.report.put_refused.Statement.{statement}
