@@ -27,10 +27,6 @@ pub fn check(t: Terms, samples: &[u8], weights: &[i32], flow: &[i32], image: &mu
     let lower = pixel::low_end(t.low);
     let upper = pixel::high_end(t.high);
     fill_image(image, samples, flow, s, lower, upper);
-    let f = figures::of_flow(t, samples, weights, flow, image);
-    Answer::Checked {
-        price: f.price,
-        floor: f.floor,
-        slack: f.slack,
-    }
+    let figures = figures::of_flow(t, samples, weights, flow, image);
+    Answer::Checked { figures }
 }

@@ -1,6 +1,7 @@
 // Price, floor and slack of a flow and its image, in 64 bits.
 
 use integers::signed;
+use model::Figures;
 use model::Terms;
 use passes::pixels::misfit;
 use passes::sums::total_product;
@@ -13,12 +14,6 @@ ghost use Rattle.lists.specs.Lists.{at};
 ghost use Rattle.model.specs.Problem;
 ghost use Rattle.model.specs.Grid.{grid};
 ghost use Rattle.calls.specs.Ready.{PriceReady, FlowReady, scaleOf};
-
-pub struct Figures {
-    pub price: u64,
-    pub floor: i64,
-    pub slack: u64,
-}
 
 // The objective: the data fidelity term plus twice the weighted total variation, which is the sum over
 // pairs times its factor.

@@ -2,6 +2,7 @@
 
 use crate::figures;
 use model::Answer;
+use model::Figures;
 use model::Terms;
 use model::Verdict;
 use stencil::pixel;
@@ -21,9 +22,12 @@ pub fn price(t: Terms, samples: &[u8], weights: &[i32], image: &[i32]) -> Answer
     if let Verdict::Refuse { number, place } = verdict {
         return Answer::Refused { number, place };
     }
+    let price = figures::image_price(t, samples, weights, image);
     Answer::Checked {
-        price: figures::image_price(t, samples, weights, image),
-        floor: 0,
-        slack: 0,
+        figures: Figures {
+            price,
+            floor: 0,
+            slack: 0,
+        },
     }
 }

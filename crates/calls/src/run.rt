@@ -1,8 +1,8 @@
 // Run does a job's rounds and fills its flow and image.
 
 use crate::figures;
-use crate::figures::Figures;
 use model::Answer;
+use model::Figures;
 use model::Rounds;
 use model::Terms;
 use model::Verdict;
@@ -11,31 +11,20 @@ use stencil::pixel;
 ghost use mathlib.Core.Path.{_≡_};
 ghost use mathlib.Core.Bool.{cond};
 ghost use mathlib.Core.Logic.{_↔_};
-ghost use lib.IntN.{pos};
 ghost use Rattle.model.specs.Calls as Calls;
-ghost use Rattle.model.specs.Calls.{figures, runAnswer, runFlow, runImage, runWork};
+ghost use Rattle.model.specs.Calls.{runAnswer, runFlow, runImage, runWork};
 ghost use Rattle.model.specs.Accepted.{RunAllowed};
 ghost use Rattle.model.specs.Demand.{RunDemand};
-ghost use Rattle.model.specs.Answers.{answerOf};
+ghost use Rattle.model.specs.Answers.{accepted, answerOf};
 
 // The answer of a run, from how its rounds ended and the figures of the flow that they ended with.
-fn answer_of(settled: bool, moved: u32, f: Figures) -> Answer
-    ensures { λ a. ⌜ answerOf a ≡ figures (cond settled Calls.settled Calls.spent) moved (pos (f .price)) (f .floor) (pos (f .slack)) ⌝ }
+fn answer_of(settled: bool, moved: u32, figures: Figures) -> Answer
+    ensures { λ a. ⌜ answerOf a ≡ accepted (cond settled Calls.settled Calls.spent) moved figures ⌝ }
 {
     if settled {
-        Answer::Settled {
-            moved,
-            price: f.price,
-            floor: f.floor,
-            slack: f.slack,
-        }
+        Answer::Settled { moved, figures }
     } else {
-        Answer::Spent {
-            moved,
-            price: f.price,
-            floor: f.floor,
-            slack: f.slack,
-        }
+        Answer::Spent { moved, figures }
     }
 }
 

@@ -1,21 +1,27 @@
 -- Document 01's numbers and values for each case of the enums that the calls give (declared in src/lib.rt) (SPECIFICATION 4.3,
 -- 4.4, 4.8, 4.9).
 use mathlib.Core.Bool.{false}
+use Prim.Native.Nat.{ℕ}
 use lib.IntN.{pos}
+use Rattle.model.specs.declared.Figures.{Figures}
 use Rattle.model.specs.declared.Answer.{Answer}
 use Rattle.model.specs.declared.Answer.the-variants.{Refused, Checked, Settled, Spent}
 use Rattle.model.specs.declared.ReadResult.{ReadResult}
 use Rattle.model.specs.declared.WriteResult.{WriteResult}
 use Rattle.model.specs.Calls as Calls
-use Rattle.model.specs.Calls.{refusal, figures, checked, settled, spent}
+use Rattle.model.specs.Calls.{Outcome, refusal, figures, checked, settled, spent}
 use Rattle.model.specs.Tape.{nothing, ReadAnswer, WriteAnswer}
+
+-- an accepted call's outcome, moved and figures
+abbrev pub accepted : Outcome → ℕ → Figures → Calls.Answer
+accepted o moved f = figures o moved (pos (f .price)) (f .floor) (pos (f .slack))
 
 -- check, price and run
 abbrev pub answerOf : Answer → Calls.Answer
 answerOf (Refused number place) = refusal number place
-answerOf (Checked price floor slack) = figures checked 0 (pos price) floor (pos slack)
-answerOf (Settled moved price floor slack) = figures settled moved (pos price) floor (pos slack)
-answerOf (Spent moved price floor slack) = figures spent moved (pos price) floor (pos slack)
+answerOf (Checked f) = accepted checked 0 f
+answerOf (Settled moved f) = accepted settled moved f
+answerOf (Spent moved f) = accepted spent moved f
 
 -- Read. Accepted: number and place are 0. Refused: zeros but for number and place
 abbrev pub readAnswerOf : ReadResult → ReadAnswer

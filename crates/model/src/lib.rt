@@ -24,30 +24,20 @@ pub enum Verdict {
     Refuse { number: u32, place: usize },
 }
 
+// The figures of an image and its flow: the price, the floor and the slack between them.
+pub struct Figures {
+    pub price: u64,
+    pub floor: i64,
+    pub slack: u64,
+}
+
 // What check, price and run give. specs/Answers.antt has document 01's number and values for each case
 // of this and of the two enums below.
 pub enum Answer {
-    Refused {
-        number: u32,
-        place: usize,
-    },
-    Checked {
-        price: u64,
-        floor: i64,
-        slack: u64,
-    },
-    Settled {
-        moved: u32,
-        price: u64,
-        floor: i64,
-        slack: u64,
-    },
-    Spent {
-        moved: u32,
-        price: u64,
-        floor: i64,
-        slack: u64,
-    },
+    Refused { number: u32, place: usize },
+    Checked { figures: Figures },
+    Settled { moved: u32, figures: Figures },
+    Spent { moved: u32, figures: Figures },
 }
 
 // What read gives: the job's terms and whether weights and whether a flow were there (no, where there

@@ -27,46 +27,32 @@ pub fn numbers_of(a: Answer) -> Numbers
             floor: 0,
             slack: 0,
         },
-        Answer::Checked {
-            price,
-            floor,
-            slack,
-        } => Numbers {
+        Answer::Checked { figures } => Numbers {
             number: 0,
             place: 0,
             outcome: 1,
             moved: 0,
-            price,
-            floor,
-            slack,
+            price: figures.price,
+            floor: figures.floor,
+            slack: figures.slack,
         },
-        Answer::Settled {
-            moved,
-            price,
-            floor,
-            slack,
-        } => Numbers {
+        Answer::Settled { moved, figures } => Numbers {
             number: 0,
             place: 0,
             outcome: 2,
             moved,
-            price,
-            floor,
-            slack,
+            price: figures.price,
+            floor: figures.floor,
+            slack: figures.slack,
         },
-        Answer::Spent {
-            moved,
-            price,
-            floor,
-            slack,
-        } => Numbers {
+        Answer::Spent { moved, figures } => Numbers {
             number: 0,
             place: 0,
             outcome: 3,
             moved,
-            price,
-            floor,
-            slack,
+            price: figures.price,
+            floor: figures.floor,
+            slack: figures.slack,
         },
     }
 }

@@ -50,7 +50,7 @@ pub record Invariant (lent : Lent) (buffer : List ℕ) (s : State) : Type 0 wher
 
 module _ (lent : Lent) where
   pub begins : (buffer : List ℕ) →
-      Invariant lent buffer (record { window = record { start = 0; end = 0; ended = false; failed = false }; at = 0; tally = stateOf nothing; totals = totalsOf [] })
+      Invariant lent buffer (record { window = record { start = 0; end = 0; ended = false; failed = false }; at = 0; parser = stateOf nothing; totals = totalsOf [] })
   begins buffer =
       record {
         input = [];
@@ -85,7 +85,7 @@ module _ (lent : Lent) where
 
     pub grown : {t : ParserState} {at : ℕ} {later : List ℕ} {i : Window} →
         NeedsMore (atHand buffer (s .window)) (s .window .ended) lent t at → Grown buffer (s .window) later i →
-        Invariant lent later (record { window = i; at = at; tally = t; totals = s .totals })
+        Invariant lent later (record { window = i; at = at; parser = t; totals = s .totals })
     grown {later = later} {i} h g =
         record {
           input = k .input ++ g .more;

@@ -42,7 +42,7 @@ module _ (lent : Lent) (buffer : List ℕ) (w : Window) (within : WindowIn buffe
       ∙ ap (take (w .end - w .start - n)) (drop-drop n (w .start) buffer)
       ∙ ap (λ (k : ℕ). take k (drop (w .start + n) buffer)) fewer
 
-  pub job-counted : after .jobs < 65535 → Continues lent buffer w totals (record { window = behind; at = 0; tally = stateOf nothing; totals = after })
+  pub job-counted : after .jobs < 65535 → Continues lent buffer w totals (record { window = behind; at = 0; parser = stateOf nothing; totals = after })
   job-counted few =
       record {
         within = record { ordered = omega (arith, size, g .inside, within .ordered); inside = within .inside };
@@ -77,7 +77,7 @@ module _ {lent : Lent} {buffer : List ℕ} {s : State} (st : ValidState lent buf
     (h : NeedsMore (atHand buffer (s .window)) (s .window .ended) lent t at) {later : List ℕ} {i : Window}
     (g : Grown buffer (s .window) later i) where
   abbrev longer : State
-  longer = record { window = i; at = at; tally = t; totals = s .totals }
+  longer = record { window = i; at = at; parser = t; totals = s .totals }
 
   now : length (atHand buffer (s .window)) ≡ s .window .end - s .window .start
   now = size-of buffer (s .window) (st .within)

@@ -30,7 +30,7 @@ pub record SeasonTables (buffer samples flow image work : ℕ) : Type 0 where
 -- be counted
 pub record ValidState (lent : Lent) (buffer : List ℕ) (s : State) : Type 0 where
   pub within : WindowIn buffer (s .window)
-  pub reached : Reached (atHand buffer (s .window)) lent (s .tally) (s .at)
+  pub reached : Reached (atHand buffer (s .window)) lent (s .parser) (s .at)
   pub near : s .at ≤ 65536
   pub bounded : Bounded (s .totals)
   pub notLast : s .totals .jobs < 65535
@@ -45,7 +45,7 @@ left s =
 pub record Continues (lent : Lent) (buffer : List ℕ) (w : Window) (totals : Totals) (r : State) : Type 0 where
   pub within : WindowIn buffer (r .window)
   pub first : r .at ≡ 0
-  pub unread : r .tally ≡ stateOf nothing
+  pub unread : r .parser ≡ stateOf nothing
   pub bounded : Bounded (r .totals)
   pub one : r .totals .jobs ≡ totals .jobs + 1
   pub notLast : r .totals .jobs < 65535

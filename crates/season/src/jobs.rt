@@ -4,11 +4,11 @@ use crate::window::Window;
 use crate::window::more_bytes;
 use model::Totals;
 use model::Verdict;
-use tape_records::state::ParserState;
-use tape_records::state::initial;
 use stream::next::Next;
 use stream::next::next_job;
 use stream::totals::no_jobs;
+use tape_records::state::ParserState;
+use tape_records::state::initial;
 ghost use mathlib.Core.List.{List};
 ghost use Prim.Native.Nat.{ℕ, _<_};
 ghost use lib.ListN.{length};
@@ -23,7 +23,7 @@ ghost use Rattle.season.specs.Jobs.{ValidState, StepOf, ReportOf, Season
 pub struct State {
     pub window: Window,
     pub at: usize,
-    pub tally: ParserState,
+    pub parser: ParserState,
     pub totals: Totals,
 }
 
@@ -71,11 +71,11 @@ fn step_on(w: Window, totals: Totals, n: Next) -> Step
                     ended: w.ended,
                     failed: w.failed,
                 };
-                let tally = initial();
+                let parser = initial();
                 return Step::Continue(State {
                     window,
                     at: 0,
-                    tally,
+                    parser,
                     totals: after,
                 });
             }
@@ -86,7 +86,7 @@ fn step_on(w: Window, totals: Totals, n: Next) -> Step
                 failed: w.failed,
             })
         }
-        Next::More(tally, at) => Step::Read(tally, at),
+        Next::More(parser, at) => Step::Read(parser, at),
     }
 }
 
@@ -110,7 +110,7 @@ fn advance(
         &buffer[start..end],
         w.ended,
         s.at,
-        s.tally,
+        s.parser,
         s.totals,
         samples,
         weights,
@@ -142,7 +142,7 @@ pub fn read_season(
     let mut s = State {
         window,
         at: 0,
-        tally: initial(),
+        parser: initial(),
         totals: no_jobs(),
     };
     loop {
@@ -151,14 +151,14 @@ pub fn read_season(
             Step::Continue(r) => {
                 s = r;
             }
-            Step::Read(tally, at) => {
+            Step::Read(parser, at) => {
                 let w = s.window;
                 let totals = s.totals;
                 let window = more_bytes(buffer, w);
                 s = State {
                     window,
                     at,
-                    tally,
+                    parser,
                     totals,
                 };
             }

@@ -5,7 +5,6 @@ use Prim.Native.Nat.{ℕ, _*_, _-_, _^_, _≤_, _<_}
 use lib.IntN.{ℤ}
 use lib.ListN.{length}
 use Rattle.model.specs.declared.Terms.{Terms}
-use Rattle.model.specs.declared.Rounds.{Rounds}
 use Rattle.model.specs.Grid.{gridPairs}
 use Rattle.model.specs.Rounds.{Quick}
 use Rattle.model.specs.Accepted.{TermsAllowed, WeightsAllowed}
@@ -40,10 +39,6 @@ pub record QuickJob (t : Terms) (quick : ℕ) (samples : List ℕ) (weights flow
   pub lengths : JobLengths t samples flow image
   pub quick-most : quick ≤ 4096
   pub work-length : length work ≡ 2 * length flow
-
--- a job's rounds, from their two numbers
-abbrev pub rounds : ℕ → ℕ → Rounds
-rounds quick allowance = record { quick = quick; allowance = allowance }
 
 -- before steady rounds: a flow within the limit of weights
 pub record SteadyReady (t : Terms) (samples : List ℕ) (weights flow image : List ℤ) : Type 0 where

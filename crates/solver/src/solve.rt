@@ -10,9 +10,10 @@ use model::Terms;
 ghost use mathlib.Core.Path.{_≡_};
 ghost use lib.ListN.{length};
 ghost use Rattle.lists.specs.Lists.{zeros};
+ghost use Rattle.model.specs.Plain.{roundsOf};
 ghost use Rattle.model.specs.Calls.{imageOf, ending};
 ghost use Rattle.passes.specs.Ends.{BoxEnds};
-ghost use Rattle.solver.specs.Ready.{QuickJob, rounds};
+ghost use Rattle.solver.specs.Ready.{QuickJob};
 
 // The flow gets the one that the rounds end with, the image that flow's, and the work buffer is
 // cleared.
@@ -29,11 +30,11 @@ pub fn solve(
     work: &mut [i32],
 ) -> Steady
     requires { ⌜ BoxEnds t lower upper × QuickJob t quick (now samples) (now weights) (now flow) (now image) (now work) ⌝ }
-    ensures { λ _. ⌜ now (flow .exit) ≡ ending t (rounds quick allowance) (now (samples .entry)) (now (weights .entry)) .flow ⌝ }
-    ensures { λ _. ⌜ now (image .exit) ≡ imageOf t (now (samples .entry)) (ending t (rounds quick allowance) (now (samples .entry)) (now (weights .entry)) .flow) ⌝ }
+    ensures { λ _. ⌜ now (flow .exit) ≡ ending t (roundsOf quick allowance) (now (samples .entry)) (now (weights .entry)) .flow ⌝ }
+    ensures { λ _. ⌜ now (image .exit) ≡ imageOf t (now (samples .entry)) (ending t (roundsOf quick allowance) (now (samples .entry)) (now (weights .entry)) .flow) ⌝ }
     ensures { λ _. ⌜ now (work .exit) ≡ zeros (length (now (work .entry))) ⌝ }
-    ensures { λ e. ⌜ e .moved ≡ ending t (rounds quick allowance) (now (samples .entry)) (now (weights .entry)) .moved ⌝ }
-    ensures { λ e. ⌜ e .settled ≡ ending t (rounds quick allowance) (now (samples .entry)) (now (weights .entry)) .settled ⌝ }
+    ensures { λ e. ⌜ e .moved ≡ ending t (roundsOf quick allowance) (now (samples .entry)) (now (weights .entry)) .moved ⌝ }
+    ensures { λ e. ⌜ e .settled ≡ ending t (roundsOf quick allowance) (now (samples .entry)) (now (weights .entry)) .settled ⌝ }
 {
     quick_rounds(t, lower, upper, quick, samples, weights, flow, image, work);
     buffers::clear(work);

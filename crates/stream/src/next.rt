@@ -6,11 +6,11 @@ use model::Answer;
 use model::Lent;
 use model::ReadResult;
 use model::Totals;
-use tape_records::parse::too_short;
-use tape_records::state::ParserState;
 use tape_reader::read::read_numbers;
 use tape_reader::scan::Scanned;
 use tape_reader::scan::scan_tape;
+use tape_records::parse::too_short;
+use tape_records::state::ParserState;
 ghost use mathlib.Core.Bool.{Bool};
 ghost use mathlib.Core.List.{List};
 ghost use Prim.Native.Nat.{ℕ, _≤_, _<_};
@@ -34,7 +34,14 @@ pub enum Next {
 
 // A job whose records have not all passed: refused, or the bytes at hand are too few; 17 where they are
 // and the input goes past its first 65,536.
-fn unfinished(bytes: &[u8], ended: bool, number: u32, place: usize, t: ParserState, at: usize) -> Next
+fn unfinished(
+    bytes: &[u8],
+    ended: bool,
+    number: u32,
+    place: usize,
+    t: ParserState,
+    at: usize,
+) -> Next
     ensures { λ r. ⌜ ((lent : Lent) (totals : Totals) → totals .jobs < 65535 → Stopped (take 65536 (now (bytes .entry))) lent number place t at → NextJob (now (bytes .entry)) ended lent totals r) ⌝ }
 {
     if !too_short(number) {

@@ -52,33 +52,19 @@ fn addend_of(answer: Answer) -> Addend
             number: _,
             place: _,
         } => s,
-        Answer::Checked {
-            price: _,
-            floor: _,
-            slack,
-        } => {
+        Answer::Checked { figures } => {
             s.checked = 1;
-            s.slack = slack;
+            s.slack = figures.slack;
             s
         }
-        Answer::Settled {
-            moved: _,
-            price: _,
-            floor: _,
-            slack,
-        } => {
+        Answer::Settled { moved: _, figures } => {
             s.settled = 1;
-            s.slack = slack;
+            s.slack = figures.slack;
             s
         }
-        Answer::Spent {
-            moved: _,
-            price: _,
-            floor: _,
-            slack,
-        } => {
+        Answer::Spent { moved: _, figures } => {
             s.spent = 1;
-            s.slack = slack;
+            s.slack = figures.slack;
             s
         }
     }

@@ -1,11 +1,13 @@
--- The text of an accepted answer, whose floor was read as z. Assumes nothing.
-use mathlib.Core.Path.{_≡_, ap}
+-- The text of an accepted answer. Assumes nothing.
+use mathlib.Core.Path.{_≡_, refl}
 use mathlib.Core.List.{List, _++_}
 use Prim.Native.Nat.{ℕ}
-use lib.IntN.{ℤ}
+use lib.IntN.{ℤ, pos}
 use Rattle.model.specs.declared.Terms.{Terms}
 use Rattle.model.specs.Text.{ascii}
-use Rattle.model.specs.Calls.{Outcome, checked, settled, spent, figures}
+use Rattle.model.specs.declared.Figures.{Figures}
+use Rattle.model.specs.Calls.{Outcome, checked, settled, spent}
+use Rattle.model.specs.Answers.{accepted}
 use Rattle.model.specs.Program.{word, numbersText, figuresText, imageText, answerText}
 
 pub data Accepted : Outcome → Type 0 where
@@ -13,12 +15,10 @@ pub data Accepted : Outcome → Type 0 where
   has-settled : Accepted settled
   was-spent : Accepted spent
 
-module _ (t : Terms) (values : List ℤ) (m : ℕ) (p f s : ℤ) {z : ℤ} (e : z ≡ f) where
-  abbrev parts : Outcome → ℤ → List ℕ
-  parts k x = ascii "outcome moved price floor slack\n" ++ ascii (word k) ++ numbersText m p x s ++ imageText t values
-
-  pub accepted-text : {k : Outcome} → Accepted k → parts k z ≡ answerText (figures k m p f s) t values
-  unfolding answerText figuresText
-  accepted-text was-checked = ap (parts checked) e
-  accepted-text has-settled = ap (parts settled) e
-  accepted-text was-spent = ap (parts spent) e
+pub accepted-text : (t : Terms) (values : List ℤ) (m : ℕ) (f : Figures) {k : Outcome} → Accepted k →
+    ascii "outcome moved price floor slack\n" ++ ascii (word k) ++ numbersText m (pos (f .price)) (f .floor) (pos (f .slack)) ++ imageText t values
+    ≡ answerText (accepted k m f) t values
+unfolding answerText figuresText
+accepted-text t values m f was-checked = refl
+accepted-text t values m f has-settled = refl
+accepted-text t values m f was-spent = refl

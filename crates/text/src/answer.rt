@@ -4,6 +4,7 @@ use crate::image::put_image;
 use crate::line::put_figures;
 use crate::line::put_refusal;
 use model::Answer;
+use model::Figures;
 use model::Terms;
 ghost use mathlib.Core.List.{_++_};
 ghost use Prim.Native.Nat.{_+_, _*_, _≤_};
@@ -20,16 +21,14 @@ fn put_accepted(
     o: usize,
     word: &[u8],
     moved: u32,
-    price: u64,
-    floor: i64,
-    slack: u64,
+    figures: Figures,
     t: Terms,
     image: &[i32],
 ) -> usize
     requires { ⌜ (length (now word) ≤ 7) × (t .height * t .width ≤ length (now image)) × (o + 125 + t .height * (22 * t .width + 1) ≤ length (now output)) ⌝ }
-    ensures { λ r. ⌜ Put o (ascii "outcome moved price floor slack\n" ++ now (word .entry) ++ numbersText moved (pos price) floor (pos slack) ++ imageText t (now (image .entry))) (now (output .entry)) r (now (output .exit)) ⌝ }
+    ensures { λ r. ⌜ Put o (ascii "outcome moved price floor slack\n" ++ now (word .entry) ++ numbersText moved (pos (figures .price)) (figures .floor) (pos (figures .slack)) ++ imageText t (now (image .entry))) (now (output .entry)) r (now (output .exit)) ⌝ }
 {
-    let next = put_figures(output, o, word, moved, price, floor, slack);
+    let next = put_figures(output, o, word, moved, figures);
     put_image(output, next, image, t.width as usize, t.height as usize)
 }
 
@@ -39,22 +38,12 @@ pub fn put_answer(output: &mut [u8], o: usize, a: Answer, t: Terms, image: &[i32
 {
     match a {
         Answer::Refused { number, place } => put_refusal(output, o, number, place),
-        Answer::Checked {
-            price,
-            floor,
-            slack,
-        } => put_accepted(output, o, b"checked", 0, price, floor, slack, t, image),
-        Answer::Settled {
-            moved,
-            price,
-            floor,
-            slack,
-        } => put_accepted(output, o, b"settled", moved, price, floor, slack, t, image),
-        Answer::Spent {
-            moved,
-            price,
-            floor,
-            slack,
-        } => put_accepted(output, o, b"spent", moved, price, floor, slack, t, image),
+        Answer::Checked { figures } => put_accepted(output, o, b"checked", 0, figures, t, image),
+        Answer::Settled { moved, figures } => {
+            put_accepted(output, o, b"settled", moved, figures, t, image)
+        }
+        Answer::Spent { moved, figures } => {
+            put_accepted(output, o, b"spent", moved, figures, t, image)
+        }
     }
 }

@@ -3,6 +3,7 @@
 use crate::number::put_decimal;
 use crate::number::put_field;
 use crate::number::put_signed_field;
+use model::Figures;
 use output::put_byte;
 use output::put_bytes;
 ghost use mathlib.Core.List.{_++_};
@@ -26,33 +27,25 @@ pub fn put_refusal(output: &mut [u8], o: usize, number: u32, place: usize) -> us
 }
 
 // The numbers of an accepted answer, to the end of their line.
-fn put_numbers(output: &mut [u8], o: usize, moved: u32, price: u64, floor: i64, slack: u64) -> usize
+fn put_numbers(output: &mut [u8], o: usize, moved: u32, figures: Figures) -> usize
     requires { ⌜ o + 86 ≤ length (now output) ⌝ }
-    ensures { λ r. ⌜ Put o (numbersText moved (pos price) floor (pos slack)) (now (output .entry)) r (now (output .exit)) ⌝ }
+    ensures { λ r. ⌜ Put o (numbersText moved (pos (figures .price)) (figures .floor) (pos (figures .slack))) (now (output .entry)) r (now (output .exit)) ⌝ }
     ensures { λ r. ⌜ r ≤ o + 86 ⌝ }
 {
     let first = put_field(output, o, moved as u64);
-    let second = put_field(output, first, price);
-    let third = put_signed_field(output, second, floor);
-    let fourth = put_field(output, third, slack);
+    let second = put_field(output, first, figures.price);
+    let third = put_signed_field(output, second, figures.floor);
+    let fourth = put_field(output, third, figures.slack);
     put_byte(output, fourth, b'\n')
 }
 
 // The header line, then the line of numbers with the word of the outcome in front.
-pub fn put_figures(
-    output: &mut [u8],
-    o: usize,
-    word: &[u8],
-    moved: u32,
-    price: u64,
-    floor: i64,
-    slack: u64,
-) -> usize
+pub fn put_figures(output: &mut [u8], o: usize, word: &[u8], moved: u32, figures: Figures) -> usize
     requires { ⌜ (length (now word) ≤ 7) × (o + 125 ≤ length (now output)) ⌝ }
-    ensures { λ r. ⌜ Put o (ascii "outcome moved price floor slack\n" ++ now (word .entry) ++ numbersText moved (pos price) floor (pos slack)) (now (output .entry)) r (now (output .exit)) ⌝ }
+    ensures { λ r. ⌜ Put o (ascii "outcome moved price floor slack\n" ++ now (word .entry) ++ numbersText moved (pos (figures .price)) (figures .floor) (pos (figures .slack))) (now (output .entry)) r (now (output .exit)) ⌝ }
     ensures { λ r. ⌜ r ≤ o + 125 ⌝ }
 {
     let first = put_bytes(output, o, b"outcome moved price floor slack\n");
     let second = put_bytes(output, first, word);
-    put_numbers(output, second, moved, price, floor, slack)
+    put_numbers(output, second, moved, figures)
 }

@@ -1,7 +1,7 @@
 -- `calls::check::check` meets its contract. Assumes nothing.
 use mathlib.Core.Path.{_≡_, sym, _∙_}
 use borrow.Author.Needs.{needs}
-use mir.Syntax.{w32, w64}
+use mir.Syntax.{w32}
 use Rattle.integers.proofs.Machine.{read}
 use Rattle.model.specs.declared.Verdict.{Verdict}
 use Rattle.lists.specs.Lists.{at}
@@ -92,8 +92,7 @@ of-flow-requires c κs =
 
 returns-2 : tie.Need-returns-2
 returns-2 c =
-    let r = c .before in
-    let i = r .before .before .before in
+    let i = c .before .before .before in
     let e = i .before .before .before .before .before in
     let s = e .before .before .before .before in
     let t = s .args .t in
@@ -102,7 +101,7 @@ returns-2 c =
     let f = s .args .flow .now in
     let x = s .args .image .now in
     let k =
-    figured checked 0 t b o f (r .of-flow .ensures .0) (read w64 (r .of-flow .ok .1 .1 .1 .0 .1) ∙ r .of-flow .ensures .1 .0) (r .of-flow .ensures .1 .1)
+    figured checked 0 t b o f (c .of-flow .ensures .0) (c .of-flow .ensures .1 .0) (c .of-flow .ensures .1 .1)
     ∙ sym (check-answer t b o f x (accepted e))
     in
     let g = filled i ∙ sym (check-image t b o f x (accepted e)) in

@@ -12,13 +12,13 @@ returns : tie.Need-returns
 returns c = same (ap answerOf (sym (c .before .a .given .1))) refl (record { number = refl; place = refl; outcome = refl; moved = refl; price = refl; floor = refl; slack = refl })
 
 returns-2 : tie.Need-returns-2
-returns-2 c = same (ap answerOf (sym (c .before .a2 .given .1))) (read w64 (c .known-told2 .given .1 .0 .1)) (record { number = refl; place = refl; outcome = refl; moved = refl; price = refl; floor = refl; slack = refl })
+returns-2 c = same (ap answerOf (sym (c .before .before .a2 .given .1))) (read w64 (c .struct-told .given .1 .0 .1)) (record { number = refl; place = refl; outcome = refl; moved = refl; price = refl; floor = refl; slack = refl })
 
 returns-3 : tie.Need-returns-3
-returns-3 c = same (ap answerOf (sym (c .before .a3 .given .1))) (read w64 (c .known-told3 .given .1 .1 .0 .1)) (record { number = refl; place = refl; outcome = refl; moved = refl; price = refl; floor = refl; slack = refl })
+returns-3 c = same (ap answerOf (sym (c .before .before .a3 .given .1))) (read w64 (c .struct-told2 .given .1 .0 .1)) (record { number = refl; place = refl; outcome = refl; moved = refl; price = refl; floor = refl; slack = refl })
 
 returns-4 : tie.Need-returns-4
-returns-4 c = same (ap answerOf (sym (c .before .a4 .given .1))) (read w64 (c .known-told4 .given .1 .1 .0 .1)) (record { number = refl; place = refl; outcome = refl; moved = refl; price = refl; floor = refl; slack = refl })
+returns-4 c = same (ap answerOf (sym (c .before .before .a4 .given .1))) (read w64 (c .struct-told3 .given .1 .0 .1)) (record { number = refl; place = refl; outcome = refl; moved = refl; price = refl; floor = refl; slack = refl })
 
 pub numbers-of-spec : {M : Type 1} → statement M
 numbers-of-spec =

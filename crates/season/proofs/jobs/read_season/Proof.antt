@@ -40,7 +40,7 @@ loop-holds : tie.Need-loop-holds Inv-loop μ-loop
 loop-holds c =
     let a = c .before .before .before .before .args in
     let lent = lentIn (length (a .samples .now)) (length (a .weights .now)) (length (a .flow .now)) in (
-      subst₂ (λ (t : ParserState) (n : Totals). Invariant lent (a .buffer .now) (record { window = record { start = 0; end = 0; ended = false; failed = false }; at = 0; tally = t; totals = n }))
+      subst₂ (λ (t : ParserState) (n : Totals). Invariant lent (a .buffer .now) (record { window = record { start = 0; end = 0; ended = false; failed = false }; at = 0; parser = t; totals = n }))
           (sym (c .before .initial .ensures)) (sym (c .no-jobs .ensures)) (begins lent (a .buffer .now)),
       record {
         bufferLength = refl;

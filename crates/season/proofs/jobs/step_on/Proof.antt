@@ -39,7 +39,7 @@ returns c lent buffer within few next =
     (record {
       window = record { start = w .start + v .1 .0; end = w .end; ended = w .ended; failed = w .failed };
       at = 0;
-      tally = t;
+      parser = t;
       totals = v .0;
     }))
     (c .initial .ensures)

@@ -10,10 +10,10 @@ use mir.ValLaws.{toZ-ofZ}
 use Rattle.model.specs.Problem.{Problem}
 use Rattle.model.specs.Grid.{grid}
 use Rattle.model.specs.Rounds.{eighth, nearestEighth, Steady, steadyRounds}
+use Rattle.model.specs.Plain.{roundsOf}
 use Rattle.model.specs.Calls.{imageOf, quickFlow, ending}
 use Rattle.model.proofs.Sizes.{iterate-size}
 use Rattle.passes.specs.Limits.{Within}
-use Rattle.solver.specs.Ready.{rounds}
 use Rattle.solver.proofs.Kept.{iterate-within}
 use Rattle.solver.proofs.solve.solve.Statement.{statement}
 use Rattle.solver.proofs.solve.solve.Tie as tie
@@ -28,7 +28,7 @@ module _ (c : tie.After-quick-rounds) where
   problem = grid (entry .args .t) (entry .args .samples .now) (entry .args .weights .now)
 
   -- the flow that they leave
-  iterate : c .quick-rounds .last .1 .1 .1 .1 .1 .1 .0 ≡ quickFlow (entry .args .t) (rounds (entry .args .quick) (entry .args .allowance)) (entry .args .samples .now) (entry .args .weights .now)
+  iterate : c .quick-rounds .last .1 .1 .1 .1 .1 .1 .0 ≡ quickFlow (entry .args .t) (roundsOf (entry .args .quick) (entry .args .allowance)) (entry .args .samples .now) (entry .args .weights .now)
   unfolding quickFlow
   iterate = c .quick-rounds .ensures .0
 

@@ -1,8 +1,5 @@
 -- `text::answer::put_answer` meets its contract. Assumes nothing.
 use mathlib.Core.Path.{sym, ap, _∙_}
-use lib.IntN.{pos}
-use mir.Syntax.{w64}
-use Rattle.integers.proofs.Machine.{read}
 use Rattle.model.specs.Text.{ascii}
 use Rattle.model.specs.Program.{answerText}
 use Rattle.model.specs.declared.Answer.{Answer}
@@ -30,7 +27,7 @@ returns-2 c =
     let v = known .before .a2 .given .0 in
     let a = known .before .before .before .before .args in
     put-as
-    (accepted-text (a .t) (a .image .now) 0 (pos (v .0)) (v .1 .0) (pos (v .1 .1 .0)) (read w64 (known .known-told2 .given .1 .0 .1)) was-checked
+    (accepted-text (a .t) (a .image .now) 0 (v .0) was-checked
     ∙ ap (λ (x : Answer). answerText (answerOf x) (a .t) (a .image .now)) (sym (known .before .a2 .given .1)))
     (call .put-accepted .ensures)
 
@@ -42,7 +39,7 @@ returns-3 c =
     let v = known .before .a3 .given .0 in
     let a = known .before .before .before .before .args in
     put-as
-    (accepted-text (a .t) (a .image .now) (v .0) (pos (v .1 .0)) (v .1 .1 .0) (pos (v .1 .1 .1 .0)) (read w64 (known .known-told3 .given .1 .1 .0 .1)) has-settled
+    (accepted-text (a .t) (a .image .now) (v .0) (v .1 .0) has-settled
     ∙ ap (λ (x : Answer). answerText (answerOf x) (a .t) (a .image .now)) (sym (known .before .a3 .given .1)))
     (call .put-accepted2 .ensures)
 
@@ -54,7 +51,7 @@ returns-4 c =
     let v = known .before .a4 .given .0 in
     let a = known .before .before .before .before .args in
     put-as
-    (accepted-text (a .t) (a .image .now) (v .0) (pos (v .1 .0)) (v .1 .1 .0) (pos (v .1 .1 .1 .0)) (read w64 (known .known-told4 .given .1 .1 .0 .1)) was-spent
+    (accepted-text (a .t) (a .image .now) (v .0) (v .1 .0) was-spent
     ∙ ap (λ (x : Answer). answerText (answerOf x) (a .t) (a .image .now)) (sym (known .before .a4 .given .1)))
     (call .put-accepted3 .ensures)
 

@@ -1,12 +1,7 @@
 -- `text::line::put_figures` meets its contract. Assumes nothing.
 use native.Mathlib.Omega.{arith}
-use mathlib.Core.Path.{ap}
-use lib.IntN.{ℤ, pos}
-use mir.Syntax.{w64}
-use mir.ValLaws.{toZ-ofZ}
 use Rattle.model.specs.Text.{ascii}
-use Rattle.model.specs.Program.{numbersText}
-use Rattle.output.proofs.Puts.{put-as, put-within}
+use Rattle.output.proofs.Puts.{put-within}
 use borrow.Author.Needs.{needs}
 use Rattle.text.proofs.line.put_figures.Statement.{statement}
 use Rattle.text.proofs.line.put_figures.Tie as tie
@@ -17,9 +12,8 @@ returns c =
     let s2 = c .before .before in
     let s1 = s2 .before .before .before .before in
     let s0 = s1 .before .before .before .before in
-    let start = s0 .before .before .before .before .before in
-    let a = start .args in (
-      put-within (put-within (s0 .put-bytes .ensures) (s1 .put-bytes2 .ensures) (omega arith)) (put-as (ap (λ (z : ℤ). numbersText (a .moved) (pos (a .price)) z (pos (a .slack))) (toZ-ofZ w64 (a .floor) (start .fits .floor))) (s2 .put-numbers .ensures .0)) (omega arith),
+    let start = s0 .before .before .before .before .before in (
+      put-within (put-within (s0 .put-bytes .ensures) (s1 .put-bytes2 .ensures) (omega arith)) (s2 .put-numbers .ensures .0) (omega arith),
       omega arith,
     )
 
