@@ -19,7 +19,7 @@ pub fn check(t: Terms, samples: &[u8], weights: &[i32], flow: &[i32], image: &mu
     ensures { λ r. ⌜ ((answerOf r .number ≡ 0) ↔ CheckAllowed t (now (samples .entry)) (now (weights .entry)) (now (flow .entry)) (now (image .entry))) ⌝ }
     ensures { λ r. ⌜ (answerOf r .number ≡ 0 → CheckDemand t (now (samples .entry)) (now (weights .entry)) (now (flow .entry)) (now (image .exit)) (answerOf r)) ⌝ }
 {
-    let verdict = judges::judge_check(t, samples.len(), weights, flow, image.len());
+    let verdict = validation::judge_check(t, samples.len(), weights, flow, image.len());
     if let Verdict::Refuse { number, place } = verdict {
         return Answer::Refused { number, place };
     }

@@ -18,7 +18,7 @@ pub fn price(t: Terms, samples: &[u8], weights: &[i32], image: &[i32]) -> Answer
 {
     let lower = pixel::low_end(t.low);
     let upper = pixel::high_end(t.high);
-    let verdict = judges::judge_price(t, lower, upper, samples.len(), weights, image);
+    let verdict = validation::judge_price(t, lower, upper, samples.len(), weights, image);
     if let Verdict::Refuse { number, place } = verdict {
         return Answer::Refused { number, place };
     }

@@ -44,7 +44,7 @@ pub fn run(
     ensures { λ a. ⌜ ((answerOf a .number ≡ 0) ↔ RunAllowed t r (now (samples .entry)) (now (weights .entry)) (now (flow .entry)) (now (image .entry)) (now (work .entry))) ⌝ }
     ensures { λ a. ⌜ (answerOf a .number ≡ 0 → RunDemand t r (now (samples .entry)) (now (weights .entry)) (now (flow .exit)) (now (image .exit)) (answerOf a)) ⌝ }
 {
-    let verdict = judges::judge_run(
+    let verdict = validation::judge_run(
         t,
         r.quick,
         samples.len(),

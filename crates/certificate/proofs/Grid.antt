@@ -21,7 +21,7 @@ use Rattle.model.proofs.Range.{ends-ordered}
 use Rattle.layout.proofs.Pairs.{pixels-inside}
 use Rattle.layout.proofs.Degree.{degree-at-most-4}
 use Rattle.model.proofs.Answers.{check-answer, check-image, runFigures, run-answer, run-flow, run-image, held-image}
-use Rattle.model.proofs.Accepted.{told, check-feasible, check-accepted, check-number, run-accepted, run-number}
+use Rattle.model.proofs.Accepted.{zero-as, check-feasible, check-accepted, check-number, run-accepted, run-number}
 use Rattle.model.specs.Demand.{FiguresOf, TwoFlows, CheckDemand, RunDemand}
 use Rattle.certificate.proofs.Lagrangian.{Sound}
 use Rattle.certificate.proofs.Congruence.{price-cong}
@@ -56,7 +56,7 @@ held t samples weights box flow o moved e g =
 pub check-demand : (t : Terms) (samples : List ℕ) (weights flow former : List ℤ) {values : List ℤ} {a : Answer} →
     a ≡ checkAnswer t samples weights flow former → values ≡ checkImage t samples weights flow former → a .number ≡ 0 → CheckDemand t samples weights flow values a
 check-demand t samples weights flow former {values} {a} e g none =
-    let allowed : CheckAllowed t samples weights flow former = told e (check-number t samples weights flow former) .0 none in
+    let allowed : CheckAllowed t samples weights flow former = zero-as e (check-number t samples weights flow former) .0 none in
     let yes = check-accepted t samples weights flow former .1 allowed in
     let box = allowed .terms .box in
     certificate (grid t samples weights) (grid-sound t samples weights box) flow values a (check-feasible t samples weights flow former allowed)
@@ -107,9 +107,9 @@ fourfold : {x : ℤ} (k : ℕ) → x <ℤ pos (2 * k) → x <ℤ pos (8 * k)
 fourfold k h = by-< (search parts depth 12) (omega (whole, of-< h (search parts depth 12)))
 
 -- the outcome tells whether the rounds settled
-told-settled : (b : Bool) → cond b settled spent ≡ settled → b ≡ true
-told-settled true e = refl
-told-settled false e = cc
+settled-only : (b : Bool) → cond b settled spent ≡ settled → b ≡ true
+settled-only true e = refl
+settled-only false e = cc
 
 -- Run, of the flow and the image that it leaves
 pub run-demand : (t : Terms) (r : Rounds) (samples : List ℕ) (weights former formerImage work : List ℤ) {flow values : List ℤ} {a : Answer} →
@@ -117,7 +117,7 @@ pub run-demand : (t : Terms) (r : Rounds) (samples : List ℕ) (weights former f
     values ≡ runImage t r samples weights former formerImage work → a .number ≡ 0 → RunDemand t r samples weights flow values a
 unfolding figuresOf
 run-demand t r samples weights former formerImage work {flow} {values} {a} e f g none =
-    let allowed : RunAllowed t r samples weights former formerImage work = told e (run-number t r samples weights former formerImage work) .0 none in
+    let allowed : RunAllowed t r samples weights former formerImage work = zero-as e (run-number t r samples weights former formerImage work) .0 none in
     let yes = run-accepted t r samples weights former formerImage work .1 allowed in
     let box = allowed .terms .box in
     let p : Problem = grid t samples weights in
@@ -139,5 +139,5 @@ run-demand t r samples weights former formerImage work {flow} {values} {a} e f g
       settled =
           λ h.
           subst (λ (s : ℤ). s ≤ℤ (pos 16 *ℤ weightSum p)) (sym (ap (λ (x : Answer). x .slack) given))
-          (run-bounds t r samples weights box .2 (told-settled (ending t r samples weights .settled) (sym outcome ∙ h)));
+          (run-bounds t r samples weights box .2 (settled-only (ending t r samples weights .settled) (sym outcome ∙ h)));
     }

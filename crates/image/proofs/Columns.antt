@@ -10,7 +10,7 @@ use Rattle.integers.specs.Whole.{clamp}
 use Rattle.integers.proofs.Clamp.{clamp-≥, clamp-≤}
 use Rattle.lists.specs.Lists.{at, table}
 use Rattle.lists.proofs.Tables.{length-table, getD-table}
-use Rattle.passes.specs.Ends.{Between}
+use Rattle.stencil.specs.Ends.{Between}
 use Rattle.passes.specs.Limits.{Within}
 use Rattle.stencil.specs.Limits.{most}
 use Rattle.image.specs.Limits.{ColumnLimits, RowLimits}

@@ -13,7 +13,7 @@ use Rattle.model.specs.declared.Terms.{Terms}
 use Rattle.model.specs.Problem.{pull, image}
 use Rattle.model.specs.Grid.{readingOf, lowEnd, highEnd, grid}
 use Rattle.model.specs.Calls.{imageOf}
-use Rattle.passes.specs.Ends.{BoxEnds}
+use Rattle.stencil.specs.Ends.{BoxEnds}
 use Rattle.image.specs.Image.{imageValue}
 use Rattle.image.proofs.Stencil.{pull-gathered}
 

@@ -9,7 +9,7 @@ ghost use Prim.Native.Nat.{_<_};
 ghost use lib.ListN.{length};
 ghost use lib.Signed.{_≤ℤ_};
 ghost use Rattle.lists.specs.Lists.{table};
-ghost use Rattle.passes.specs.Ends.{Between};
+ghost use Rattle.stencil.specs.Ends.{Between};
 ghost use Rattle.image.specs.Limits.{ColumnLimits, RowLimits};
 ghost use Rattle.image.specs.Columns.{columnValue, rowValue};
 

@@ -12,7 +12,7 @@ use Rattle.model.specs.Calls.{Answer, pixelsOf}
 use Rattle.model.specs.Tape.{Parse, turned, whole, lentBy, parse, readSamples, readWeights, readFlow}
 use Rattle.model.specs.Program.{answerText, readText}
 use Rattle.model.specs.Answers.{readAnswerOf}
-use Rattle.terms.proofs.Size.{allowed-size}
+use Rattle.validation.proofs.Size.{allowed-size}
 use Rattle.job.specs.Tables.{Holds, answerFor, imageFor}
 use Rattle.job.proofs.Shown.{Shows}
 use Rattle.job.proofs.Tapes.{ReadFrom, allowed, held, job-taken, shownOf, answer-shown}

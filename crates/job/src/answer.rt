@@ -52,7 +52,7 @@ pub fn pixels_of(read: ReadResult) -> usize
             rounds: _,
             weighted: _,
             flowed: _,
-        } => terms::pixels(terms.width, terms.height),
+        } => validation::pixels(terms.width, terms.height),
     }
 }
 

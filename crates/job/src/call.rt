@@ -35,8 +35,8 @@ pub fn check_or_run(
     ensures { λ a. ⌜ answerOf a ≡ answerIn t r weighted flowed (now (samples .entry)) (now (weights .entry)) (now (flow .entry)) (now (image .entry)) (now (work .entry)) ⌝ }
     ensures { λ _. ⌜ now (image .exit) ≡ imageIn t r weighted flowed (now (samples .entry)) (now (weights .entry)) (now (flow .entry)) (now (image .entry)) (now (work .entry)) ⌝ }
 {
-    let n = terms::pixels(t.width, t.height);
-    let m = terms::pairs(t.width, t.height);
+    let n = validation::pixels(t.width, t.height);
+    let m = validation::pairs(t.width, t.height);
     let codes = &samples[..n];
     let count = weight_count(weighted, m);
     let own = &weights[..count];

@@ -185,8 +185,8 @@ pub zero-by : {n m : ℕ} {A : Type 0} → n ≡ m → ((m ≡ 0) ↔ A) → (n 
 zero-by e f = (λ z. f .0 (sym e ∙ z), λ k. e ∙ f .1 k)
 
 -- so of the number of an equal answer
-pub told : {a b : Answer} {A : Type 0} → a ≡ b → ((b .number ≡ 0) ↔ A) → (a .number ≡ 0) ↔ A
-told e = zero-by (ap (λ (x : Answer). x .number) e)
+pub zero-as : {a b : Answer} {A : Type 0} → a ≡ b → ((b .number ≡ 0) ↔ A) → (a .number ≡ 0) ↔ A
+zero-as e = zero-by (ap (λ (x : Answer). x .number) e)
 
 -- a call's number is 0 exactly when its rows accept, so exactly when what they ask holds
 number-allowed : (rows : List Row) → Numbered rows → (a : Answer) → a .number ≡ 0 → {A : Type 0} → ((firstRefusal rows ≡ Accept) ↔ A) →

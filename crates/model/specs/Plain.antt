@@ -30,8 +30,8 @@ outcomeOf (suc (suc zero)) = settled
 outcomeOf (suc (suc (suc n))) = spent
 
 -- the answer that plain numbers tell
-abbrev pub told : (number place outcome moved price : ℕ) (floor : ℤ) (slack : ℕ) → Answer
-told number place outcome moved price floor slack =
+abbrev pub answerFrom : (number place outcome moved price : ℕ) (floor : ℤ) (slack : ℕ) → Answer
+answerFrom number place outcome moved price floor slack =
     record {
       outcome = outcomeOf outcome;
       number = number;
@@ -43,7 +43,7 @@ told number place outcome moved price floor slack =
     }
 
 -- What price, check and run hand out: the plain numbers n, q, o, m, p, f and s are those of an answer
-pub record Handed (n q o m p : ℕ) (f : ℤ) (s : ℕ) (a : Answer) : Type 0 where
+pub record AnswerNumbers (n q o m p : ℕ) (f : ℤ) (s : ℕ) (a : Answer) : Type 0 where
   pub number : n ≡ a .number
   pub place : q ≡ a .place
   pub outcome : o ≡ outcomeNumber (a .outcome)
@@ -54,7 +54,7 @@ pub record Handed (n q o m p : ℕ) (f : ℤ) (s : ℕ) (a : Answer) : Type 0 wh
 
 -- What read hands out: n and q are the number and place of its answer, t and r the job's terms and rounds, w is 1 where weights
 -- were there, f is 1 where a flow was, else 0
-pub record HandedJob (n q : ℕ) (t : Terms) (r : Rounds) (w f : ℕ) (a : ReadAnswer) : Type 0 where
+pub record JobNumbers (n q : ℕ) (t : Terms) (r : Rounds) (w f : ℕ) (a : ReadAnswer) : Type 0 where
   pub number : n ≡ a .number
   pub place : q ≡ a .place
   pub terms : t ≡ a .terms
@@ -63,7 +63,7 @@ pub record HandedJob (n q : ℕ) (t : Terms) (r : Rounds) (w f : ℕ) (a : ReadA
   pub flowed : f ≡ cond (a .flowed) 1 0
 
 -- What write hands out: number, place and byte count of its answer
-pub record HandedTape (n q c : ℕ) (a : WriteAnswer) : Type 0 where
+pub record WriteNumbers (n q c : ℕ) (a : WriteAnswer) : Type 0 where
   pub number : n ≡ a .number
   pub place : q ≡ a .place
   pub count : c ≡ a .count

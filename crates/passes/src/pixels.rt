@@ -8,7 +8,6 @@ ghost use Rattle.integers.specs.Whole.{square};
 ghost use Rattle.integers.specs.Sum.{total};
 ghost use Rattle.lists.specs.Lists.{at};
 ghost use Rattle.model.specs.Grid.{readingOf};
-ghost use Rattle.passes.specs.Ends.{firstOutsideRange};
 ghost use Rattle.passes.specs.Limits.{MisfitLimits};
 
 // The data term: the sum of the squared differences of values and readings.
@@ -23,18 +22,4 @@ pub fn misfit(image: &[i32], samples: &[u8]) -> u64
         i += 1;
     }
     sum
-}
-
-// The first value that lies outside a range, or their number where none does.
-pub fn first_outside(values: &[i32], low: i32, high: i32) -> usize
-    ensures { λ r. ⌜ r ≡ firstOutsideRange low high (now (values .entry)) ⌝ }
-{
-    let mut i = 0;
-    while i < values.len() {
-        if pixel::outside(values[i], low, high) {
-            return i;
-        }
-        i += 1;
-    }
-    i
 }

@@ -14,13 +14,13 @@ use Rattle.model.specs.Calls.{Outcome, refused, checked, settled, spent, Answer
 use Rattle.model.specs.Tape.{ReadAnswer, WriteAnswer}
 use Rattle.model.specs.Demand.{Certificate, RunDemand}
 use Rattle.model.specs.RoundTrip.{ReadsBack, WritesBack, weightCount, flowCount}
-use Rattle.model.specs.Plain.{outcomeNumber, outcomeOf, told, Handed, HandedJob, HandedTape}
+use Rattle.model.specs.Plain.{outcomeNumber, outcomeOf, answerFrom, AnswerNumbers, JobNumbers, WriteNumbers}
 
 -- price, check and run; the sign of a floor is read from its bits
-pub same : {number place outcome moved price : ℕ} {floor bits : ℤ} {slack : ℕ} {a b : Answer} → a ≡ b → bits ≡ floor → Handed number place outcome moved price floor slack a →
-    Handed number place outcome moved price bits slack b
+pub same : {number place outcome moved price : ℕ} {floor bits : ℤ} {slack : ℕ} {a b : Answer} → a ≡ b → bits ≡ floor → AnswerNumbers number place outcome moved price floor slack a →
+    AnswerNumbers number place outcome moved price bits slack b
 same {number} {place} {outcome} {moved} {price} {floor} {bits} {slack} {a} {b} e f h =
-    subst (λ (z : ℤ). Handed number place outcome moved price z slack b) (sym f) (subst (Handed number place outcome moved price floor slack) e h)
+    subst (λ (z : ℤ). AnswerNumbers number place outcome moved price z slack b) (sym f) (subst (AnswerNumbers number place outcome moved price floor slack) e h)
 
 -- an outcome is told by its number
 outcome-back : (o : Outcome) → outcomeOf (outcomeNumber o) ≡ o
@@ -29,10 +29,10 @@ outcome-back checked = refl
 outcome-back settled = refl
 outcome-back spent = refl
 
-module _ {number place outcome moved price : ℕ} {floor : ℤ} {slack : ℕ} {a : Answer} (h : Handed number place outcome moved price floor slack a) where
+module _ {number place outcome moved price : ℕ} {floor : ℤ} {slack : ℕ} {a : Answer} (h : AnswerNumbers number place outcome moved price floor slack a) where
   -- the plain numbers tell the answer
-  told-is : told number place outcome moved price floor slack ≡ a
-  told-is = λ i.
+  answer-is : answerFrom number place outcome moved price floor slack ≡ a
+  answer-is = λ i.
       record {
         outcome = (ap outcomeOf (h .outcome) ∙ outcome-back (a .outcome)) i;
         number = h .number i;
@@ -45,17 +45,17 @@ module _ {number place outcome moved price : ℕ} {floor : ℤ} {slack : ℕ} {a
 
   -- demand 3, of the numbers that are handed out
   pub check-by : {p : Problem} {flow image : List ℤ} → (a .number ≡ 0 → Certificate p flow image a) → number ≡ 0 →
-      Certificate p flow image (told number place outcome moved price floor slack)
-  check-by {p} {flow} {image} k z = subst (Certificate p flow image) (sym told-is) (k (sym (h .number) ∙ z))
+      Certificate p flow image (answerFrom number place outcome moved price floor slack)
+  check-by {p} {flow} {image} k z = subst (Certificate p flow image) (sym answer-is) (k (sym (h .number) ∙ z))
 
   pub run-by : {t : Terms} {r : Rounds} {samples : List ℕ} {weights flow image : List ℤ} → (a .number ≡ 0 → RunDemand t r samples weights flow image a) → number ≡ 0 →
-      RunDemand t r samples weights flow image (told number place outcome moved price floor slack)
-  run-by {t} {r} {samples} {weights} {flow} {image} k z = subst (RunDemand t r samples weights flow image) (sym told-is) (k (sym (h .number) ∙ z))
+      RunDemand t r samples weights flow image (answerFrom number place outcome moved price floor slack)
+  run-by {t} {r} {samples} {weights} {flow} {image} k z = subst (RunDemand t r samples weights flow image) (sym answer-is) (k (sym (h .number) ∙ z))
 
 -- read
-module _ {number place : ℕ} {t : Terms} {r : Rounds} {w f : ℕ} {a : ReadAnswer} (h : HandedJob number place t r w f a) where
-  pub same-job : {b : ReadAnswer} → a ≡ b → HandedJob number place t r w f b
-  same-job e = subst (HandedJob number place t r w f) e h
+module _ {number place : ℕ} {t : Terms} {r : Rounds} {w f : ℕ} {a : ReadAnswer} (h : JobNumbers number place t r w f a) where
+  pub same-job : {b : ReadAnswer} → a ≡ b → JobNumbers number place t r w f b
+  same-job e = subst (JobNumbers number place t r w f) e h
 
   times : (x : Bool) (n : ℕ) → cond x 1 0 * n ≡ cond x n 0
   times true n = omega arith
@@ -79,9 +79,9 @@ module _ {number place : ℕ} {t : Terms} {r : Rounds} {w f : ℕ} {a : ReadAnsw
       (k (sym (h .number) ∙ z))
 
 -- write
-module _ {number place count : ℕ} {a : WriteAnswer} (h : HandedTape number place count a) where
-  pub same-tape : {b : WriteAnswer} → a ≡ b → HandedTape number place count b
-  same-tape e = subst (HandedTape number place count) e h
+module _ {number place count : ℕ} {a : WriteAnswer} (h : WriteNumbers number place count a) where
+  pub same-tape : {b : WriteAnswer} → a ≡ b → WriteNumbers number place count b
+  same-tape e = subst (WriteNumbers number place count) e h
 
   pub tape-by : (t : Terms) (r : Rounds) (samples : List ℕ) (weights numbers : List ℤ) (left : List ℕ) →
       (a .number ≡ 0 → ReadsBack t r samples weights numbers (take (a .count) left)) → number ≡ 0 → ReadsBack t r samples weights numbers (take count left)

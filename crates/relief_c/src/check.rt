@@ -8,7 +8,7 @@ ghost use mathlib.Core.Logic.{_↔_};
 ghost use Rattle.model.specs.Calls.{checkAnswer, checkImage};
 ghost use Rattle.model.specs.Accepted.{CheckAllowed};
 ghost use Rattle.model.specs.Demand.{CheckDemand};
-ghost use Rattle.model.specs.Plain.{termsOf, told, Handed};
+ghost use Rattle.model.specs.Plain.{termsOf, answerFrom, AnswerNumbers};
 
 #[no_mangle]
 pub extern "C" fn relief_call_check(
@@ -28,10 +28,10 @@ pub extern "C" fn relief_call_check(
     floor: &mut i64,
     slack: &mut u64,
 ) -> u32
-    ensures { λ r. ⌜ Handed r (now (place .exit)) (now (outcome .exit)) (now (moved .exit)) (now (price .exit)) (now (floor .exit)) (now (slack .exit)) (checkAnswer (termsOf width height weight low high) (now (samples .entry)) (now (weights .entry)) (now (flow .entry)) (now (image .entry))) ⌝ }
+    ensures { λ r. ⌜ AnswerNumbers r (now (place .exit)) (now (outcome .exit)) (now (moved .exit)) (now (price .exit)) (now (floor .exit)) (now (slack .exit)) (checkAnswer (termsOf width height weight low high) (now (samples .entry)) (now (weights .entry)) (now (flow .entry)) (now (image .entry))) ⌝ }
     ensures { λ _. ⌜ now (image .exit) ≡ checkImage (termsOf width height weight low high) (now (samples .entry)) (now (weights .entry)) (now (flow .entry)) (now (image .entry)) ⌝ }
     ensures { λ r. ⌜ ((r ≡ 0) ↔ CheckAllowed (termsOf width height weight low high) (now (samples .entry)) (now (weights .entry)) (now (flow .entry)) (now (image .entry))) ⌝ }
-    ensures { λ r. ⌜ (r ≡ 0 → CheckDemand (termsOf width height weight low high) (now (samples .entry)) (now (weights .entry)) (now (flow .entry)) (now (image .exit)) (told r (now (place .exit)) (now (outcome .exit)) (now (moved .exit)) (now (price .exit)) (now (floor .exit)) (now (slack .exit)))) ⌝ }
+    ensures { λ r. ⌜ (r ≡ 0 → CheckDemand (termsOf width height weight low high) (now (samples .entry)) (now (weights .entry)) (now (flow .entry)) (now (image .exit)) (answerFrom r (now (place .exit)) (now (outcome .exit)) (now (moved .exit)) (now (price .exit)) (now (floor .exit)) (now (slack .exit)))) ⌝ }
 {
     let t = Terms {
         width,

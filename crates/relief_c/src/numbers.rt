@@ -2,7 +2,7 @@
 
 use model::Answer;
 ghost use Rattle.model.specs.Answers.{answerOf};
-ghost use Rattle.model.specs.Plain.{Handed};
+ghost use Rattle.model.specs.Plain.{AnswerNumbers};
 
 pub struct Numbers {
     pub number: u32,
@@ -15,7 +15,7 @@ pub struct Numbers {
 }
 
 pub fn numbers_of(a: Answer) -> Numbers
-    ensures { λ r. ⌜ Handed (r .number) (r .place) (r .outcome) (r .moved) (r .price) (r .floor) (r .slack) (answerOf a) ⌝ }
+    ensures { λ r. ⌜ AnswerNumbers (r .number) (r .place) (r .outcome) (r .moved) (r .price) (r .floor) (r .slack) (answerOf a) ⌝ }
 {
     match a {
         Answer::Refused { number, place } => Numbers {

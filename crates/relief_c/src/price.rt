@@ -7,7 +7,7 @@ ghost use mathlib.Core.Path.{_≡_};
 ghost use mathlib.Core.Logic.{_↔_};
 ghost use Rattle.model.specs.Calls.{priceAnswer};
 ghost use Rattle.model.specs.Accepted.{PriceAllowed};
-ghost use Rattle.model.specs.Plain.{termsOf, Handed};
+ghost use Rattle.model.specs.Plain.{termsOf, AnswerNumbers};
 
 #[no_mangle]
 pub extern "C" fn relief_call_price(
@@ -26,7 +26,7 @@ pub extern "C" fn relief_call_price(
     floor: &mut i64,
     slack: &mut u64,
 ) -> u32
-    ensures { λ r. ⌜ Handed r (now (place .exit)) (now (outcome .exit)) (now (moved .exit)) (now (price .exit)) (now (floor .exit)) (now (slack .exit)) (priceAnswer (termsOf width height weight low high) (now (samples .entry)) (now (weights .entry)) (now (image .entry))) ⌝ }
+    ensures { λ r. ⌜ AnswerNumbers r (now (place .exit)) (now (outcome .exit)) (now (moved .exit)) (now (price .exit)) (now (floor .exit)) (now (slack .exit)) (priceAnswer (termsOf width height weight low high) (now (samples .entry)) (now (weights .entry)) (now (image .entry))) ⌝ }
     ensures { λ r. ⌜ ((r ≡ 0) ↔ PriceAllowed (termsOf width height weight low high) (now (samples .entry)) (now (weights .entry)) (now (image .entry))) ⌝ }
 {
     let t = Terms {

@@ -13,7 +13,7 @@ ghost use Rattle.model.specs.Accepted.{ReadAllowed};
 ghost use Rattle.model.specs.RoundTrip.{WritesBack};
 ghost use Rattle.model.specs.Tape.{readAnswer, readSamples, readWeights, readFlow};
 ghost use Rattle.model.specs.Answers.{readAnswerOf};
-ghost use Rattle.model.specs.Plain.{termsOf, roundsOf, HandedJob};
+ghost use Rattle.model.specs.Plain.{termsOf, roundsOf, JobNumbers};
 
 // What read gives as plain numbers: a job's terms, or zeros beside a refusal.
 pub struct Job {
@@ -26,7 +26,7 @@ pub struct Job {
 }
 
 fn job_of(a: ReadResult) -> Job
-    ensures { λ r. ⌜ HandedJob (r .number) (r .place) (r .terms) (r .rounds) (r .weighted) (r .flowed) (readAnswerOf a) ⌝ }
+    ensures { λ r. ⌜ JobNumbers (r .number) (r .place) (r .terms) (r .rounds) (r .weighted) (r .flowed) (readAnswerOf a) ⌝ }
 {
     match a {
         ReadResult::Job {
@@ -87,7 +87,7 @@ pub extern "C" fn relief_call_read(
     weighted: &mut u32,
     flowed: &mut u32,
 ) -> u32
-    ensures { λ r. ⌜ HandedJob r (now (place .exit)) (termsOf (now (width .exit)) (now (height .exit)) (now (weight .exit)) (now (low .exit)) (now (high .exit))) (roundsOf (now (quick .exit)) (now (allowance .exit))) (now (weighted .exit)) (now (flowed .exit)) (readAnswer (now (tape .entry)) (now (samples .entry)) (now (weights .entry)) (now (flow .entry))) ⌝ }
+    ensures { λ r. ⌜ JobNumbers r (now (place .exit)) (termsOf (now (width .exit)) (now (height .exit)) (now (weight .exit)) (now (low .exit)) (now (high .exit))) (roundsOf (now (quick .exit)) (now (allowance .exit))) (now (weighted .exit)) (now (flowed .exit)) (readAnswer (now (tape .entry)) (now (samples .entry)) (now (weights .entry)) (now (flow .entry))) ⌝ }
     ensures { λ _. ⌜ now (samples .exit) ≡ readSamples (now (tape .entry)) (now (samples .entry)) (now (weights .entry)) (now (flow .entry)) ⌝ }
     ensures { λ _. ⌜ now (weights .exit) ≡ readWeights (now (tape .entry)) (now (samples .entry)) (now (weights .entry)) (now (flow .entry)) ⌝ }
     ensures { λ _. ⌜ now (flow .exit) ≡ readFlow (now (tape .entry)) (now (samples .entry)) (now (weights .entry)) (now (flow .entry)) ⌝ }

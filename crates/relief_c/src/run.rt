@@ -9,7 +9,7 @@ ghost use mathlib.Core.Logic.{_↔_};
 ghost use Rattle.model.specs.Calls.{runAnswer, runFlow, runImage, runWork};
 ghost use Rattle.model.specs.Accepted.{RunAllowed};
 ghost use Rattle.model.specs.Demand.{RunDemand};
-ghost use Rattle.model.specs.Plain.{termsOf, roundsOf, told, Handed};
+ghost use Rattle.model.specs.Plain.{termsOf, roundsOf, answerFrom, AnswerNumbers};
 
 #[no_mangle]
 pub extern "C" fn relief_call_run(
@@ -32,12 +32,12 @@ pub extern "C" fn relief_call_run(
     floor: &mut i64,
     slack: &mut u64,
 ) -> u32
-    ensures { λ r. ⌜ Handed r (now (place .exit)) (now (outcome .exit)) (now (moved .exit)) (now (price .exit)) (now (floor .exit)) (now (slack .exit)) (runAnswer (termsOf width height weight low high) (roundsOf quick allowance) (now (samples .entry)) (now (weights .entry)) (now (flow .entry)) (now (image .entry)) (now (work .entry))) ⌝ }
+    ensures { λ r. ⌜ AnswerNumbers r (now (place .exit)) (now (outcome .exit)) (now (moved .exit)) (now (price .exit)) (now (floor .exit)) (now (slack .exit)) (runAnswer (termsOf width height weight low high) (roundsOf quick allowance) (now (samples .entry)) (now (weights .entry)) (now (flow .entry)) (now (image .entry)) (now (work .entry))) ⌝ }
     ensures { λ _. ⌜ now (flow .exit) ≡ runFlow (termsOf width height weight low high) (roundsOf quick allowance) (now (samples .entry)) (now (weights .entry)) (now (flow .entry)) (now (image .entry)) (now (work .entry)) ⌝ }
     ensures { λ _. ⌜ now (image .exit) ≡ runImage (termsOf width height weight low high) (roundsOf quick allowance) (now (samples .entry)) (now (weights .entry)) (now (flow .entry)) (now (image .entry)) (now (work .entry)) ⌝ }
     ensures { λ _. ⌜ now (work .exit) ≡ runWork (termsOf width height weight low high) (roundsOf quick allowance) (now (samples .entry)) (now (weights .entry)) (now (flow .entry)) (now (image .entry)) (now (work .entry)) ⌝ }
     ensures { λ r. ⌜ ((r ≡ 0) ↔ RunAllowed (termsOf width height weight low high) (roundsOf quick allowance) (now (samples .entry)) (now (weights .entry)) (now (flow .entry)) (now (image .entry)) (now (work .entry))) ⌝ }
-    ensures { λ r. ⌜ (r ≡ 0 → RunDemand (termsOf width height weight low high) (roundsOf quick allowance) (now (samples .entry)) (now (weights .entry)) (now (flow .exit)) (now (image .exit)) (told r (now (place .exit)) (now (outcome .exit)) (now (moved .exit)) (now (price .exit)) (now (floor .exit)) (now (slack .exit)))) ⌝ }
+    ensures { λ r. ⌜ (r ≡ 0 → RunDemand (termsOf width height weight low high) (roundsOf quick allowance) (now (samples .entry)) (now (weights .entry)) (now (flow .exit)) (now (image .exit)) (answerFrom r (now (place .exit)) (now (outcome .exit)) (now (moved .exit)) (now (price .exit)) (now (floor .exit)) (now (slack .exit)))) ⌝ }
 {
     let t = Terms {
         width,

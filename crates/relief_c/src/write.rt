@@ -11,7 +11,7 @@ ghost use Rattle.model.specs.Tape.{writeAnswer, writeOutput};
 ghost use Rattle.model.specs.Accepted.{WriteAllowed};
 ghost use Rattle.model.specs.RoundTrip.{ReadsBack};
 ghost use Rattle.model.specs.Answers.{writeAnswerOf};
-ghost use Rattle.model.specs.Plain.{termsOf, roundsOf, HandedTape};
+ghost use Rattle.model.specs.Plain.{termsOf, roundsOf, WriteNumbers};
 
 // What write gives as plain numbers.
 pub struct Written {
@@ -21,7 +21,7 @@ pub struct Written {
 }
 
 fn written_of(a: WriteResult) -> Written
-    ensures { λ r. ⌜ HandedTape (r .number) (r .place) (r .count) (writeAnswerOf a) ⌝ }
+    ensures { λ r. ⌜ WriteNumbers (r .number) (r .place) (r .count) (writeAnswerOf a) ⌝ }
 {
     match a {
         WriteResult::Written { count } => Written {
@@ -53,7 +53,7 @@ pub extern "C" fn relief_call_write(
     place: &mut u64,
     count: &mut u64,
 ) -> u32
-    ensures { λ r. ⌜ HandedTape r (now (place .exit)) (now (count .exit)) (writeAnswer (termsOf width height weight low high) (roundsOf quick allowance) (now (samples .entry)) (now (weights .entry)) (now (flow .entry)) (now (output .entry))) ⌝ }
+    ensures { λ r. ⌜ WriteNumbers r (now (place .exit)) (now (count .exit)) (writeAnswer (termsOf width height weight low high) (roundsOf quick allowance) (now (samples .entry)) (now (weights .entry)) (now (flow .entry)) (now (output .entry))) ⌝ }
     ensures { λ _. ⌜ now (output .exit) ≡ writeOutput (termsOf width height weight low high) (roundsOf quick allowance) (now (samples .entry)) (now (weights .entry)) (now (flow .entry)) (now (output .entry)) ⌝ }
     ensures { λ r. ⌜ ((r ≡ 0) ↔ WriteAllowed (termsOf width height weight low high) (roundsOf quick allowance) (now (samples .entry)) (now (weights .entry)) (now (flow .entry)) (now (output .entry))) ⌝ }
     ensures { λ r. ⌜ (r ≡ 0 → ReadsBack (termsOf width height weight low high) (roundsOf quick allowance) (now (samples .entry)) (now (weights .entry)) (now (flow .entry)) (take (now (count .exit)) (now (output .exit)))) ⌝ }

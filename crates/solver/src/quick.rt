@@ -14,7 +14,7 @@ ghost use lib.ListN.{length, drop};
 ghost use Rattle.model.specs.Grid.{grid};
 ghost use Rattle.model.specs.Rounds.{eighth, quickRound, quickRounds};
 ghost use Rattle.model.specs.Calls.{imageOf};
-ghost use Rattle.passes.specs.Ends.{BoxEnds};
+ghost use Rattle.stencil.specs.Ends.{BoxEnds};
 ghost use Rattle.solver.specs.Ready.{QuickReady, held, QuickJob};
 ghost use Rattle.solver.specs.Left.{quickWork, quickImage};
 

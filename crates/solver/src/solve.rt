@@ -12,7 +12,7 @@ ghost use lib.ListN.{length};
 ghost use Rattle.lists.specs.Lists.{zeros};
 ghost use Rattle.model.specs.Plain.{roundsOf};
 ghost use Rattle.model.specs.Calls.{imageOf, ending};
-ghost use Rattle.passes.specs.Ends.{BoxEnds};
+ghost use Rattle.stencil.specs.Ends.{BoxEnds};
 ghost use Rattle.solver.specs.Ready.{QuickJob};
 
 // The flow gets the one that the rounds end with, the image that flow's, and the work buffer is

@@ -14,7 +14,7 @@ ghost use Rattle.model.specs.Problem.{pairCount};
 ghost use Rattle.model.specs.Grid.{grid};
 ghost use Rattle.model.specs.Rounds.{nearestEighth, firstMoving, steadyRounds};
 ghost use Rattle.model.specs.Calls.{imageOf};
-ghost use Rattle.passes.specs.Ends.{BoxEnds};
+ghost use Rattle.stencil.specs.Ends.{BoxEnds};
 ghost use Rattle.solver.specs.Ready.{SteadyReady};
 
 // How steady rounds end: how many there were, and whether no pair would move.

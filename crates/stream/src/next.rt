@@ -73,7 +73,7 @@ fn count_job(read: ReadResult, answer: Answer, totals: Totals, size: usize) -> N
             weighted: _,
             flowed: _,
         } => {
-            let n = terms::pixels(terms.width, terms.height);
+            let n = validation::pixels(terms.width, terms.height);
             Next::Counted(with_job(totals, n, answer), size)
         }
     }

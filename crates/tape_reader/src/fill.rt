@@ -2,7 +2,7 @@
 
 use tape_records::bytes::four_at;
 use tape_records::bytes::two_at;
-use terms::is_beyond;
+use validation::is_beyond;
 ghost use mathlib.Core.Path.{_≡_};
 ghost use Prim.Native.Nat.{_+_, _*_, _≤_};
 ghost use lib.IntN.{pos};

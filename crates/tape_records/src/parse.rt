@@ -5,7 +5,7 @@ use crate::bytes::two_at;
 use crate::state::ParserState;
 use model::Entry;
 use model::Verdict;
-use terms::all_or_none;
+use validation::all_or_none;
 ghost use mathlib.Core.Path.{_≡_};
 ghost use Prim.Native.Nat.{_+_, _≤_, _<_};
 ghost use lib.ListN.{length, getD};

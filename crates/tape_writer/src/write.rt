@@ -1,11 +1,11 @@
 // Write: the job is judged before anything is written.
 
 use crate::put::put_tape;
-use judges::judge_write;
 use model::Rounds;
 use model::Terms;
 use model::Verdict;
 use model::WriteResult;
+use validation::judge_write;
 ghost use mathlib.Core.Path.{_≡_};
 ghost use mathlib.Core.Logic.{_↔_};
 ghost use lib.ListN.{take};

@@ -10,7 +10,7 @@ use Rattle.model.specs.Grid.{grid}
 use Rattle.model.specs.Calls.{checked, checkVerdict, imageOf}
 use Rattle.model.specs.Accepted.{CheckAllowed}
 use Rattle.model.proofs.Answers.{check-answer, check-image}
-use Rattle.model.proofs.Accepted.{told, check-feasible, check-accepted, check-number}
+use Rattle.model.proofs.Accepted.{zero-as, check-feasible, check-accepted, check-number}
 use Rattle.layout.proofs.Pairs.{grid-count}
 use Rattle.certificate.proofs.Grid.{check-demand}
 use Rattle.image.proofs.Model.{image-is}
@@ -31,7 +31,7 @@ returns c =
     let x = s .args .image .now in
     let e = sym (check-answer t b o f x h) in
     let g = sym (check-image t b o f x h) in
-    (e, (g, (told e (check-number t b o f x), check-demand t b o f x e g)))
+    (e, (g, (zero-as e (check-number t b o f x), check-demand t b o f x e g)))
 
 -- past the verdict
 accepted : (c : tie.After-enum-told) → let s = c .before .before .before .before in
@@ -105,7 +105,7 @@ returns-2 c =
     ∙ sym (check-answer t b o f x (accepted e))
     in
     let g = filled i ∙ sym (check-image t b o f x (accepted e)) in
-    (k, (g, (told k (check-number t b o f x), check-demand t b o f x k g)))
+    (k, (g, (zero-as k (check-number t b o f x), check-demand t b o f x k g)))
 
 pub check-spec : {M : Type 1} → statement M
 check-spec =

@@ -7,8 +7,8 @@ use Rattle.integers.proofs.Machine.{read}
 use Rattle.model.specs.declared.Verdict.{Verdict}
 use Rattle.model.specs.Calls.{figures, checked, priceVerdict}
 use Rattle.model.proofs.Answers.{price-answer}
-use Rattle.model.proofs.Accepted.{told, price-inside, price-accepted, price-number}
-use Rattle.judges.proofs.Rows.{price-verdict}
+use Rattle.model.proofs.Accepted.{zero-as, price-inside, price-accepted, price-number}
+use Rattle.validation.proofs.UnderTerms.{price-verdict}
 use Rattle.calls.proofs.price.price.Statement.{statement}
 use Rattle.calls.proofs.price.price.Tie as tie
 
@@ -27,7 +27,7 @@ returns : tie.Need-returns
 returns c =
     let s = c .before .before .before .before .before .before .before in
     let e = sym (price-answer (s .args .t) (s .args .samples .now) (s .args .weights .now) (s .args .image .now) (sym (judged (c .before .before .before)) ∙ c .before .verdict .given .1)) in
-    (e, told e (price-number (s .args .t) (s .args .samples .now) (s .args .weights .now) (s .args .image .now)))
+    (e, zero-as e (price-number (s .args .t) (s .args .samples .now) (s .args .weights .now) (s .args .image .now)))
 
 -- past the verdict
 accepted : (c : tie.After-enum-told) → let s = c .before .before .before .before .before .before in
@@ -53,7 +53,7 @@ returns-2 c =
     ap (λ (z : ℤ). figures checked 0 z (pos 0) (pos 0)) (c .image-price .ensures)
     ∙ sym (price-answer (s .args .t) (s .args .samples .now) (s .args .weights .now) (s .args .image .now) (accepted (c .before)))
     in
-    (e, told e (price-number (s .args .t) (s .args .samples .now) (s .args .weights .now) (s .args .image .now)))
+    (e, zero-as e (price-number (s .args .t) (s .args .samples .now) (s .args .weights .now) (s .args .image .now)))
 
 pub price-spec : {M : Type 1} → statement M
 price-spec =

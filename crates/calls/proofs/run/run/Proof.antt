@@ -18,9 +18,9 @@ use Rattle.model.specs.Rounds.{Steady}
 use Rattle.model.specs.Calls.{settled, spent, imageOf, figuresOf, ending, runVerdict}
 use Rattle.model.specs.Accepted.{RunAllowed}
 use Rattle.model.proofs.Answers.{run-answer, run-flow, run-image, run-work}
-use Rattle.model.proofs.Accepted.{told, run-accepted, run-number}
+use Rattle.model.proofs.Accepted.{zero-as, run-accepted, run-number}
 use Rattle.certificate.proofs.Grid.{run-demand, ending-flow}
-use Rattle.passes.specs.Ends.{BoxEnds}
+use Rattle.stencil.specs.Ends.{BoxEnds}
 use Rattle.calls.proofs.Objectives.{figured}
 use Rattle.calls.proofs.run.run.Statement.{statement}
 use Rattle.calls.proofs.run.run.Tie as tie
@@ -40,7 +40,7 @@ returns c =
     let e = sym (run-answer t r b o′ f x w h) in
     let g = sym (run-flow t r b o′ f x w h) in
     let k = sym (run-image t r b o′ f x w h) in
-    (e, (g, (k, (sym (run-work t r b o′ f x w h), (told e (run-number t r b o′ f x w), run-demand t r b o′ f x w e g k)))))
+    (e, (g, (k, (sym (run-work t r b o′ f x w h), (zero-as e (run-number t r b o′ f x w), run-demand t r b o′ f x w e g k)))))
 
 -- past the verdict
 accepted : (c : tie.After-enum-told) → let s = c .before .before .before .before in
@@ -137,7 +137,7 @@ returns-2 c =
     let flow = flow-is l ∙ sym (run-flow t r b o f x w yes) in
     let image = image-is l ∙ sym (run-image t r b o f x w yes) in
     let work = n .0 ∙ ap (λ (i : ℕ). replicate i (pos 0)) (facts (past l) .work-length) ∙ sym (run-work t r b o f x w yes) in
-    (answer, (flow, (image, (work, (told answer (run-number t r b o f x w), run-demand t r b o f x w answer flow image)))))
+    (answer, (flow, (image, (work, (zero-as answer (run-number t r b o f x w), run-demand t r b o f x w answer flow image)))))
 
 pub run-spec : {M : Type 1} → statement M
 run-spec =
