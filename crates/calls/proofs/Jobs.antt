@@ -10,7 +10,7 @@ use Rattle.integers.proofs.Absolute.{natAbs-upto}
 use Rattle.model.specs.declared.Terms.{Terms}
 use Rattle.lists.specs.Lists.{at}
 use Rattle.model.specs.Problem.{Feasible, image, InBox}
-use Rattle.model.specs.Grid.{grid}
+use Rattle.model.specs.Grid.{limit, grid}
 use Rattle.model.specs.Calls.{pixelsOf, pairsOf, imageOf}
 use Rattle.model.specs.Accepted.{TermsAllowed, WeightsAllowed}
 use Rattle.model.proofs.Weights.{weight-most}
@@ -30,7 +30,7 @@ module _ (t : Terms) (samples : List ℕ) (weights : List ℤ) where
   with-bytes a w high bytes = record { terms = a; pair-weights = w; high-byte = omega arith; bytes = λ i. omega (arith, bytes i) }
 
   -- a flow within the weights
-  pub flow-most : (flow : List ℤ) → length flow ≡ pairsOf t → WeightsAllowed t weights → t .weight ≤ 65280 → Feasible (grid t samples weights) (at flow) →
+  pub flow-most : (flow : List ℤ) → length flow ≡ pairsOf t → WeightsAllowed t weights → t .weight ≤ limit .weight → Feasible (grid t samples weights) (at flow) →
       Within most flow
   flow-most flow n w h within = within-below flow (λ j l. omega (arith, within j (rw n at l), weight-most t weights w h j))
 

@@ -15,7 +15,7 @@ use Rattle.integers.proofs.Order.{ltZ-false, false-ltZ}
 use Rattle.integers.proofs.Absolute.{natAbs→upper, natAbs-upto}
 use Rattle.lists.specs.Lists.{at, firstWhere}
 use Rattle.model.specs.Problem.{Feasible, InBox}
-use Rattle.model.specs.Grid.{Terms, sizeAllowed, weightAllowed, pairWeightAllowed, weightOf, boxAllowed, lowEnd, highEnd, grid}
+use Rattle.model.specs.Grid.{limit, Terms, sizeAllowed, weightAllowed, pairWeightAllowed, weightOf, boxAllowed, lowEnd, highEnd, grid}
 use Rattle.model.specs.Verdict.{Verdict, Accept, Refuse, Row, firstRefusal, decided}
 use Rattle.model.specs.Calls.{Rounds, Answer, refusal, pixelsOf, pairsOf, allOrNone, sizeRow, weightRow, boxRow, roundsRow, lengthRow, optionalRow, pairWeightsRow, flowRow, imageRow, firstOver, firstBeyond, firstOutside, figuresOf, checkVerdict, checkAnswer, priceVerdict, priceAnswer, runVerdict, runAnswer}
 use Rattle.model.specs.Tape.{tapeOf, writeRows}
@@ -26,11 +26,11 @@ use Rattle.model.proofs.Limits.{SizeLimits, size-limits, both-true}
 
 -- ---- the rows
 
-pub weight-allowed : (weight : ℕ) → (weightAllowed weight ≡ true) ↔ (weight ≤ 65280)
+pub weight-allowed : (weight : ℕ) → (weightAllowed weight ≡ true) ↔ (weight ≤ limit .weight)
 unfolding weightAllowed
-weight-allowed weight = (leb-true weight 65280, le-leb weight 65280)
+weight-allowed weight = (leb-true weight (limit .weight), le-leb weight (limit .weight))
 
-pub weight-passes : (weight place : ℕ) → (weightRow weight place .applies ≡ false) ↔ (weight ≤ 65280)
+pub weight-passes : (weight place : ℕ) → (weightRow weight place .applies ≡ false) ↔ (weight ≤ limit .weight)
 weight-passes weight place = (λ h. weight-allowed weight .0 (not-false _ h), λ k. ap not (weight-allowed weight .1 k))
 
 module _ (t : Terms) (place : ℕ) where
@@ -137,7 +137,7 @@ flow-passes weight flow =
     )
 
 -- a number of a weight buffer
-pub pair-weight-allowed : (z : ℤ) → (pairWeightAllowed z ≡ true) ↔ ((pos 0 ≤ℤ z) × (z ≤ℤ pos 65280))
+pub pair-weight-allowed : (z : ℤ) → (pairWeightAllowed z ≡ true) ↔ ((pos 0 ≤ℤ z) × (z ≤ℤ pos (limit .weight)))
 unfolding pairWeightAllowed
 pair-weight-allowed z = (
   λ h.

@@ -4,7 +4,7 @@ use mathlib.Core.Bool.{Bool, true, false, _&&_, true≢false}
 use Prim.Native.Nat.{ℕ, _*_, _≤_}
 use borrow.Author.Tests.{leb-true}
 use lib.Dec.{leb}
-use Rattle.model.specs.Grid.{sizeAllowed}
+use Rattle.model.specs.Grid.{limit, sizeAllowed}
 
 -- both hold where their conjunction does
 pub both-true : (a b : Bool) → (a && b) ≡ true → (a ≡ true) × (b ≡ true)
@@ -13,10 +13,10 @@ both-true false b h = absurd (true≢false (sym h))
 
 pub record SizeLimits (w h : ℕ) : Type 0 where
   pub width-least : 1 ≤ w
-  pub width-most : w ≤ 4096
+  pub width-most : w ≤ limit .side
   pub height-least : 1 ≤ h
-  pub height-most : h ≤ 4096
-  pub pixels-most : w * h ≤ 1048576
+  pub height-most : h ≤ limit .side
+  pub pixels-most : w * h ≤ limit .pixels
 
 pub size-limits : (w h : ℕ) → sizeAllowed w h ≡ true → SizeLimits w h
 unfolding sizeAllowed

@@ -6,7 +6,7 @@ use lib.IntN.{pos, natAbs}
 use lib.Dec.{lit≤}
 use lib.Signed.{_≤ℤ_}
 use Rattle.integers.proofs.Order.{≤→pos, 0≤pos}
-use Rattle.model.specs.Grid.{readingOf, lowEnd, highEnd}
+use Rattle.model.specs.Grid.{limit, readingOf, lowEnd, highEnd}
 
 -- the largest value
 abbrev pub widest : ℕ
@@ -17,7 +17,7 @@ unfolding highEnd
 widest-fits = lit≤ tt
 
 -- .. which no weight passes
-pub weight-reach : 65280 ≤ widest
+pub weight-reach : (limit .weight) ≤ widest
 unfolding highEnd
 weight-reach = lit≤ tt
 

@@ -11,7 +11,7 @@ use Rattle.integers.specs.Sum.{total}
 use Rattle.integers.proofs.Order.{0≤pos, pos-natAbs-nonneg}
 use Rattle.integers.proofs.Absolute.{natAbs-upto}
 use Rattle.model.specs.Problem.{weightSum}
-use Rattle.model.specs.Grid.{Terms, weightOf, grid}
+use Rattle.model.specs.Grid.{limit, Terms, weightOf, grid}
 use Rattle.model.specs.Calls.{pairsOf}
 use Rattle.model.specs.Accepted.{WeightsAllowed}
 use Rattle.lists.proofs.Tables.{getD-by}
@@ -28,10 +28,10 @@ module _ (t : Terms) (weights : List ℤ) where
     weight-is j =
         pos-natAbs-nonneg (getD-by (λ z. pos 0 ≤ℤ z) weights (pos (t .weight)) (pos 0) (0≤pos (t .weight)) (λ i l. w .range i l .0) j)
 
-    pub weight-most : t .weight ≤ 65280 → (j : ℕ) → weightOf t weights j ≤ 65280
+    pub weight-most : t .weight ≤ limit .weight → (j : ℕ) → weightOf t weights j ≤ limit .weight
     unfolding weightOf
     weight-most h =
-        getD-by (λ z. natAbs z ≤ 65280) weights (pos (t .weight)) (pos 0) h (λ i l. natAbs-upto (w .range i l .0) (w .range i l .1))
+        getD-by (λ z. natAbs z ≤ limit .weight) weights (pos (t .weight)) (pos 0) h (λ i l. natAbs-upto (w .range i l .0) (w .range i l .1))
 
 -- Without a buffer the sum of the weights is weight × pairs
 pub uniform-sum : (t : Terms) (samples : List ℕ) → weightSum (grid t samples []) ≡ pos (t .weight * pairsOf t)

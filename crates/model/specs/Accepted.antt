@@ -9,24 +9,24 @@ use lib.IntN.{ℤ, pos, natAbs}
 use lib.ListN.{length}
 use lib.Signed.{_≤ℤ_}
 use Rattle.lists.specs.Lists.{at}
-use Rattle.model.specs.Grid.{Terms, weightOf, lowEnd, highEnd}
+use Rattle.model.specs.Grid.{Terms, limit, weightOf, lowEnd, highEnd}
 use Rattle.model.specs.Calls.{Rounds, pixelsOf, pairsOf}
 use Rattle.model.specs.Tape.{tapeOf}
 
 -- Terms: width and height each 1 to 4,096, their product at most 1,048,576; weight 0 to 65,280; low at most high
 pub record TermsAllowed (t : Terms) : Type 0 where
   pub width-least : 1 ≤ t .width
-  pub width-most : t .width ≤ 4096
+  pub width-most : t .width ≤ limit .side
   pub height-least : 1 ≤ t .height
-  pub height-most : t .height ≤ 4096
-  pub pixels-most : t .width * t .height ≤ 1048576
-  pub weight-most : t .weight ≤ 65280
+  pub height-most : t .height ≤ limit .side
+  pub pixels-most : t .width * t .height ≤ limit .pixels
+  pub weight-most : t .weight ≤ limit .weight
   pub box : t .low ≤ t .high
 
 -- Pair weights: none lent, or one for each pair, each 0 to 65,280
 pub record WeightsAllowed (t : Terms) (weights : List ℤ) : Type 0 where
   pub count : (length weights ≡ 0) ⊎ (length weights ≡ pairsOf t)
-  pub range : (j : ℕ) → j < length weights → (pos 0 ≤ℤ at weights j) × (at weights j ≤ℤ pos 65280)
+  pub range : (j : ℕ) → j < length weights → (pos 0 ≤ℤ at weights j) × (at weights j ≤ℤ pos (limit .weight))
 
 -- Check: no value of the flow exceeds its pair's weight in size (a feasible dual point)
 pub record CheckAllowed (t : Terms) (samples : List ℕ) (weights flow values : List ℤ) : Type 0 where
@@ -50,7 +50,7 @@ pub record PriceAllowed (t : Terms) (samples : List ℕ) (weights values : List 
 pub record RunAllowed (t : Terms) (r : Rounds) (samples : List ℕ) (weights flow values work : List ℤ) : Type 0 where
   pub terms : TermsAllowed t
   pub pair-weights : WeightsAllowed t weights
-  pub quick-most : r .quick ≤ 4096
+  pub quick-most : r .quick ≤ limit .quick
   pub samples-length : length samples ≡ pixelsOf t
   pub flow-length : length flow ≡ pairsOf t
   pub image-length : length values ≡ pixelsOf t
@@ -61,7 +61,7 @@ pub record RunAllowed (t : Terms) (r : Rounds) (samples : List ℕ) (weights flo
 pub record JobAllowed (t : Terms) (r : Rounds) (samples : List ℕ) (weights numbers : List ℤ) : Type 0 where
   pub terms : TermsAllowed t
   pub pair-weights : WeightsAllowed t weights
-  pub quick-most : r .quick ≤ 4096
+  pub quick-most : r .quick ≤ limit .quick
   pub samples-length : length samples ≡ pixelsOf t
   pub flow-length : (length numbers ≡ 0) ⊎ (length numbers ≡ pairsOf t)
   pub contents : (j : ℕ) → j < length numbers → natAbs (at numbers j) ≤ weightOf t weights j

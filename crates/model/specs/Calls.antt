@@ -11,7 +11,7 @@ use lib.Signed.{ltZ}
 pub use Rattle.model.specs.declared.Rounds.{Rounds}
 use Rattle.lists.specs.Lists.{at, zeros, table, firstWhere}
 use Rattle.model.specs.Problem.{image, price, floor, slack}
-use Rattle.model.specs.Grid.{Terms, sizeAllowed, weightAllowed, pairWeightAllowed, weightOf, boxAllowed, gridPairs, grid, lowEnd, highEnd}
+use Rattle.model.specs.Grid.{limit, Terms, sizeAllowed, weightAllowed, pairWeightAllowed, weightOf, boxAllowed, gridPairs, grid, lowEnd, highEnd}
 use Rattle.model.specs.Rounds.{eighth, nearestEighth, quickRounds, Steady, steadyRounds}
 use Rattle.model.specs.Verdict.{Verdict, Row, row, firstRefusal, decided, left}
 
@@ -56,7 +56,7 @@ abbrev pub boxRow : Terms → ℕ → Row
 boxRow t place = row (not (boxAllowed (t .low) (t .high))) 3 place
 
 abbrev pub roundsRow : Rounds → ℕ → Row
-roundsRow r place = row (ltb 4096 (r .quick)) 10 place
+roundsRow r place = row (ltb (limit .quick) (r .quick)) 10 place
 
 -- So many of something that comes for all pairs or for none, and not a part of it (SPECIFICATION 5.3, 6.2)
 abbrev pub allOrNone : ℕ → ℕ → Bool

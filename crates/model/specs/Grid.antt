@@ -12,13 +12,24 @@ pub use Rattle.model.specs.declared.Terms.{Terms}
 use Rattle.lists.specs.Lists.{table, chain}
 use Rattle.model.specs.Problem.{Pair, Problem}
 
+-- The limits of a job's terms and rounds: the largest width or height, the most pixels, the largest weight, in sub-units, and
+-- the most quick rounds (SPECIFICATION 1.1, 1.5, 3.5)
+pub record Limits : Type 0 where
+  pub side : ℕ
+  pub pixels : ℕ
+  pub weight : ℕ
+  pub quick : ℕ
+
+abbrev pub limit : Limits
+limit = record { side = 4096; pixels = 1048576; weight = 65280; quick = 4096 }
+
 -- Width and height are each 1 to 4,096, their product at most 1,048,576 (SPECIFICATION 1.1)
 unfoldable pub sizeAllowed : ℕ → ℕ → Bool
-sizeAllowed w h = leb 1 w && leb w 4096 && (leb 1 h && leb h 4096) && leb (w * h) 1048576
+sizeAllowed w h = leb 1 w && leb w (limit .side) && (leb 1 h && leb h (limit .side)) && leb (w * h) (limit .pixels)
 
 -- A weight is 0 to 65,280 sub-units: the terms' weight W, and the weight of each pair (SPECIFICATION 1.5)
 unfoldable pub weightAllowed : ℕ → Bool
-weightAllowed weight = leb weight 65280
+weightAllowed weight = leb weight (limit .weight)
 
 -- A number of a weight buffer is a weight: not below 0, and within that limit (SPECIFICATION 1.5, 6.2)
 unfoldable pub pairWeightAllowed : ℤ → Bool

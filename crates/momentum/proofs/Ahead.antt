@@ -7,11 +7,12 @@ use native.Mathlib.Omega.{arith}
 use borrow.Author.Tests.{le-ltb}
 use lib.IntN.{ℤ, pos, negsuc, natAbs, _+ℤ_, _-ℤ_, _*ℤ_}
 use lib.Signed.{ltZ}
+use Rattle.model.specs.Grid.{limit}
 use Rattle.integers.specs.Whole.{quotient}
 use Rattle.integers.proofs.Absolute.{natAbs-difference}
 use Rattle.integers.proofs.Quotient.{quotient-neg}
 
-pub change-bound : (earlier now : ℤ) {x : ℤ} → x ≡ now -ℤ earlier → natAbs earlier ≤ 65280 → natAbs now ≤ 65280 → natAbs x ≤ 130560
+pub change-bound : (earlier now : ℤ) {x : ℤ} → x ≡ now -ℤ earlier → natAbs earlier ≤ limit .weight → natAbs now ≤ limit .weight → natAbs x ≤ 130560
 change-bound earlier now e h k =
     subst (λ (z : ℤ). natAbs z ≤ 130560) (sym e) (omega (arith, natAbs-difference now earlier))
 

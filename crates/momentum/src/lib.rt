@@ -2,6 +2,7 @@
 ghost use Prim.Native.Nat.{_+_, _*_, _^_, _≤_, _<_};
 ghost use mathlib.Core.Path.{_≡_};
 ghost use lib.IntN.{natAbs};
+ghost use Rattle.model.specs.Grid.{limit};
 ghost use Rattle.model.specs.Root.{root as theRoot};
 ghost use Rattle.model.specs.Rounds.{nextMomentum};
 ghost use Rattle.momentum.specs.Reciprocal.{Reciprocal, aheadOf};
@@ -49,7 +50,7 @@ pub fn reciprocal(a: u64, b: u64) -> u64
 // A flow number ahead of now, by the change since earlier times the fixed-point factor m, rounded
 // toward zero.
 pub fn extrapolated(earlier: i32, now: i32, m: u64) -> i32
-    requires { ⌜ (natAbs earlier ≤ 65280) × (natAbs now ≤ 65280) × (m ≤ 2 ^ 46) ⌝ }
+    requires { ⌜ (natAbs earlier ≤ limit .weight) × (natAbs now ≤ limit .weight) × (m ≤ 2 ^ 46) ⌝ }
     ensures { λ r. ⌜ r ≡ aheadOf m earlier now ⌝ }
 {
     let change = signed::sub(now, earlier);

@@ -18,7 +18,7 @@ use Rattle.lists.proofs.Tables.{getD-by, table-cong}
 use Rattle.lists.proofs.First.{firstWhere-cong}
 use Rattle.model.specs.declared.Terms.{Terms}
 use Rattle.model.specs.Problem.{pairCount, firstOf, secondOf, fall, misfit, image}
-use Rattle.model.specs.Grid.{readingOf, grid}
+use Rattle.model.specs.Grid.{limit, readingOf, grid}
 use Rattle.model.specs.Rounds.{stepped, step, wouldMove, firstMoving}
 use Rattle.model.specs.Calls.{pairsOf, imageOf}
 use Rattle.model.specs.Accepted.{TermsAllowed, WeightsAllowed}
@@ -44,9 +44,9 @@ shape-limits a =
     }
 
 module _ (t : Terms) (weights : List ℤ) (own : WeightsAllowed t weights) where
-  pub weights-within : Within 65280 weights
+  pub weights-within : Within (limit .weight) weights
   weights-within =
-      getD-by (λ z. natAbs z ≤ 65280) weights (pos 0) (pos 0) zero-le (λ j l. natAbs-upto (own .range j l .0) (own .range j l .1))
+      getD-by (λ z. natAbs z ≤ limit .weight) weights (pos 0) (pos 0) zero-le (λ j l. natAbs-upto (own .range j l .0) (own .range j l .1))
 
   pub weight-limits : (weight : ℤ) → natAbs weight ≤ most → WeightLimits (pairsOf t) weight weights
   weight-limits weight h =

@@ -5,6 +5,7 @@ use Prim.Native.Nat.{ℕ, _^_, _≤_, _<_}
 use lib.IntN.{ℤ, pos, natAbs}
 use lib.ListN.{length}
 use lib.Signed.{_≤ℤ_}
+use Rattle.model.specs.Grid.{limit}
 use Rattle.lists.specs.Lists.{at}
 use Rattle.layout.specs.declared.Shape.{Shape}
 use Rattle.layout.specs.Runs.{pixelCount, pairList}
@@ -54,9 +55,9 @@ pub record FlowLimits (s : Shape) (flow image : List ℤ) : Type 0 where
 -- ---- a quick round, over a run or over all pairs: the flow P, the numbers ahead R, the weights and the factor
 pub record AheadLimits (flow ahead : List ℤ) (weight : ℤ) (weights : List ℤ) (m : ℕ) : Type 0 where
   pub same-length : length flow ≡ length ahead
-  pub weight-most : natAbs weight ≤ 65280
-  pub weights-most : Within 65280 weights
-  pub flow-most : Within 65280 flow
+  pub weight-most : natAbs weight ≤ limit .weight
+  pub weights-most : Within (limit .weight) weights
+  pub flow-most : Within (limit .weight) flow
   pub factor-most : m ≤ 2 ^ 46
 
 -- ---- pixels
@@ -64,5 +65,5 @@ pub record AheadLimits (flow ahead : List ℤ) (weight : ℤ) (weights : List �
 -- the pixels' values and their samples
 pub record MisfitLimits (image : List ℤ) (samples : List ℕ) : Type 0 where
   pub same-count : length image ≡ length samples
-  pub count-most : length image ≤ 2 ^ 20
+  pub count-most : length image ≤ limit .pixels
   pub image-most : Within most image

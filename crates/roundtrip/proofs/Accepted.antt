@@ -20,7 +20,7 @@ use Rattle.model.specs.declared.Verdict.{Verdict}
 use Rattle.model.specs.declared.Entry.{Entry}
 use Rattle.model.specs.declared.Entry.the-variants.{End, Size, WeightBox, RoundLimits, Sample, Flow, PairWeight}
 use Rattle.lists.specs.Lists.{chain}
-use Rattle.model.specs.Grid.{sizeAllowed, weightAllowed, boxAllowed}
+use Rattle.model.specs.Grid.{limit, sizeAllowed, weightAllowed, boxAllowed}
 use Rattle.model.specs.Verdict.{firstRefusal}
 use Rattle.model.specs.Calls.{pixelsOf, pairsOf}
 use Rattle.model.specs.Tape.{known, decoded, encoded, Progress, nothing, kinds, allowed, absorbed, withNumbers, entryRows, Parse, whole, parseFrom, tapeOf}
@@ -115,7 +115,7 @@ behind p v w h =
 -- ---- what holds of what has been read
 
 abbrev WeightLimits : ℤ → Type 0
-WeightLimits w = (pos 0 ≤ℤ w) × (w ≤ℤ pos 65280)
+WeightLimits w = (pos 0 ≤ℤ w) × (w ≤ℤ pos (limit .weight))
 
 pub record Sound (lent : Lent) (p : Progress) : Type 0 where
   pub header : p .header ≤ 3

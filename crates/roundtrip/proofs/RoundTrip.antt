@@ -19,7 +19,7 @@ use Rattle.model.specs.declared.Rounds.{Rounds}
 use Rattle.model.specs.declared.Entry.the-variants.{End, Size, WeightBox, RoundLimits, Sample, Flow, PairWeight}
 use Rattle.lists.specs.Lists.{at, overwritten}
 use Rattle.lists.proofs.Placed.{take-overwritten}
-use Rattle.model.specs.Grid.{weightOf}
+use Rattle.model.specs.Grid.{limit, weightOf}
 use Rattle.model.specs.Calls.{pixelsOf, pairsOf, allOrNone, firstBeyond}
 use Rattle.model.specs.Tape.{Progress, nothing, kinds, Parse, whole, parseFrom, ReadAnswer, readAnswer, readSamples, readWeights, readFlow, tapeOf, WriteAnswer, writeAnswer, writeOutput, lentBy}
 use Rattle.model.proofs.Refusals.{accepted, passed}
@@ -98,7 +98,7 @@ module _ (t : Terms) (r : Rounds) (s : List ℕ) (w f : List ℤ) (job : JobAllo
   unfolding kinds
   own-passes j l =
       let range = job .pair-weights .range j l in
-      let most : natAbs (at w j) ≤ 65280 = natAbs-upto (range .0) (range .1) in
+      let most : natAbs (at w j) ≤ limit .weight = natAbs-upto (range .0) (range .1) in
       record {
         here = weight-here t r s w f j l;
         may = ap₂ _&&_ (ap₂ _&&_ all-sampled (less-read w j l (job .pair-weights .count))) refl;

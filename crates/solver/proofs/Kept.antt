@@ -8,7 +8,7 @@ use lib.ListN.{replicate}
 use Rattle.model.specs.declared.Terms.{Terms}
 use Rattle.lists.specs.Lists.{at}
 use Rattle.model.specs.Problem.{pairCount}
-use Rattle.model.specs.Grid.{grid}
+use Rattle.model.specs.Grid.{limit, grid}
 use Rattle.model.specs.Rounds.{step, nextMomentum, Quick, quickStart, quickRound, quickRounds}
 use Rattle.model.specs.Accepted.{TermsAllowed, WeightsAllowed}
 use Rattle.lists.proofs.Tables.{table-constant}
@@ -22,18 +22,18 @@ zeros-within : (n w : ℕ) → Within w (replicate n (pos 0))
 zeros-within n w = subst (Within w) (table-constant n (pos 0)) (within-table n (λ _. pos 0) (λ _ _. zero-le))
 
 module _ (share : ℤ → ℤ) (t : Terms) (samples : List ℕ) (weights : List ℤ) (limits : TermsAllowed t) (own : WeightsAllowed t weights) where
-  pub iterate-within : (k : ℕ) → Within 65280 (quickRounds share (grid t samples weights) k .iterate)
+  pub iterate-within : (k : ℕ) → Within (limit .weight) (quickRounds share (grid t samples weights) k .iterate)
   unfolding quickRounds quickStart quickRound
-  iterate-within zero = zeros-within (pairCount (grid t samples weights)) 65280
+  iterate-within zero = zeros-within (pairCount (grid t samples weights)) (limit .weight)
   iterate-within (suc k) = step-within t samples weights limits own share (quickRounds share (grid t samples weights) k .extrapolated)
 
-  pub ahead-within : (k : ℕ) → Within (3 * 65280) (quickRounds share (grid t samples weights) k .extrapolated)
+  pub ahead-within : (k : ℕ) → Within (3 * limit .weight) (quickRounds share (grid t samples weights) k .extrapolated)
   unfolding quickRounds quickStart quickRound
-  ahead-within zero = zeros-within (pairCount (grid t samples weights)) (3 * 65280)
+  ahead-within zero = zeros-within (pairCount (grid t samples weights)) (3 * limit .weight)
   ahead-within (suc k) =
       let s : Quick = quickRounds share (grid t samples weights) k in
       let low = momentum-low share (grid t samples weights) k in
       within-table (pairCount (grid t samples weights)) _ (λ j _.
-      extrapolate-bound (s .momentum) (nextMomentum (s .momentum)) 65280 (at (s .iterate) j)
+      extrapolate-bound (s .momentum) (nextMomentum (s .momentum)) (limit .weight) (at (s .iterate) j)
       (at (step share (grid t samples weights) (s .extrapolated)) j) low (momentum-least (s .momentum) low) (iterate-within k j)
       (step-within t samples weights limits own share (s .extrapolated) j))

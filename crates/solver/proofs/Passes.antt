@@ -11,7 +11,7 @@ use Rattle.integers.proofs.Clamp.{clamp-size, natAbs-clamp}
 use Rattle.model.specs.declared.Terms.{Terms}
 use Rattle.lists.specs.Lists.{at}
 use Rattle.model.specs.Problem.{pairCount, image}
-use Rattle.model.specs.Grid.{weightOf, lowEnd, highEnd, gridPairs, grid}
+use Rattle.model.specs.Grid.{limit, weightOf, lowEnd, highEnd, gridPairs, grid}
 use Rattle.model.specs.Rounds.{stepped, step}
 use Rattle.model.specs.Calls.{pairsOf, imageOf}
 use Rattle.lists.proofs.Tables.{length-table}
@@ -36,7 +36,7 @@ module _ (t : Terms) (samples : List ℕ) where
 
 module _ (t : Terms) (samples : List ℕ) (weights : List ℤ) (limits : TermsAllowed t) (own : WeightsAllowed t weights) where
   -- and a step within that of weights
-  pub step-within : (share : ℤ → ℤ) (flow : List ℤ) → Within 65280 (step share (grid t samples weights) flow)
+  pub step-within : (share : ℤ → ℤ) (flow : List ℤ) → Within (limit .weight) (step share (grid t samples weights) flow)
   unfolding step stepped
   step-within share flow =
       within-table (pairCount (grid t samples weights)) (stepped share (grid t samples weights) (at flow)) (λ j _.

@@ -9,7 +9,7 @@ use Rattle.integers.proofs.Absolute.{natAbs-difference}
 use Rattle.model.specs.declared.Terms.{Terms}
 use Rattle.lists.specs.Lists.{at, table}
 use Rattle.model.specs.Problem.{pairCount}
-use Rattle.model.specs.Grid.{grid}
+use Rattle.model.specs.Grid.{limit, grid}
 use Rattle.model.specs.Rounds.{stepped, step, nextMomentum, quickRound}
 use Rattle.model.specs.Calls.{imageOf}
 use Rattle.model.specs.Accepted.{TermsAllowed, WeightsAllowed}
@@ -55,7 +55,7 @@ module _ (t : Terms) (samples : List ℕ) (weights : List ℤ) (limits : TermsAl
         step-is t samples weights ahead e share own j l
         ∙ sym (getD-table (pairCount (grid t samples weights)) (stepped share (grid t samples weights) (at ahead)) j (pos 0) l)
 
-    module _ (m : ℕ) (flow-most : Within 65280 flow) (least : 65536 ≤ momentum)
+    module _ (m : ℕ) (flow-most : Within (limit .weight) flow) (least : 65536 ≤ momentum)
         (most : momentum < 2 ^ 29 - 65536) (r : Reciprocal (momentum - 65536) (nextMomentum momentum) m)
       where
         small : (j : ℕ) → natAbs (at (step share (grid t samples weights) ahead) j -ℤ at flow j) * nextMomentum momentum < 70368744177664

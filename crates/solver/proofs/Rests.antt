@@ -10,7 +10,7 @@ use lib.ListN.{length}
 use Rattle.model.specs.declared.Terms.{Terms}
 use Rattle.lists.specs.Lists.{at}
 use Rattle.model.specs.Problem.{Problem, pairCount}
-use Rattle.model.specs.Grid.{grid}
+use Rattle.model.specs.Grid.{limit, grid}
 use Rattle.model.specs.Rounds.{step, firstMoving, Steady, oneMore, steadyRounds}
 use Rattle.passes.specs.Limits.{Within}
 use Rattle.solver.specs.Ready.{SteadyReady}
@@ -115,5 +115,5 @@ ready-more share {t} {samples} {weights} {flow} r s l =
             flow-length = ap length s ∙ step-size share (grid t samples weights) flow;
             image-length = l;
           };
-      flow-most = subst (Within 65280) (sym s) (step-within t samples weights (r .limits) (r .pair-weights) share flow);
+      flow-most = subst (Within (limit .weight)) (sym s) (step-within t samples weights (r .limits) (r .pair-weights) share flow);
     }

@@ -5,7 +5,7 @@ use Prim.Native.Nat.{ℕ, _*_, _-_, _^_, _≤_, _<_}
 use lib.IntN.{ℤ}
 use lib.ListN.{length}
 use Rattle.model.specs.declared.Terms.{Terms}
-use Rattle.model.specs.Grid.{gridPairs}
+use Rattle.model.specs.Grid.{limit, gridPairs}
 use Rattle.model.specs.Rounds.{Quick}
 use Rattle.model.specs.Accepted.{TermsAllowed, WeightsAllowed}
 use Rattle.stencil.specs.Limits.{most}
@@ -23,7 +23,7 @@ pub record QuickReady (t : Terms) (samples : List ℕ) (weights flow ahead image
   pub pair-weights : WeightsAllowed t weights
   pub lengths : JobLengths t samples flow image
   pub same-length : length flow ≡ length ahead
-  pub flow-most : Within 65280 flow
+  pub flow-most : Within (limit .weight) flow
   pub ahead-most : Within most ahead
   pub momentum-least : 65536 ≤ momentum
   pub momentum-most : momentum < 2 ^ 29 - 65536
@@ -37,7 +37,7 @@ pub record QuickJob (t : Terms) (quick : ℕ) (samples : List ℕ) (weights flow
   pub limits : TermsAllowed t
   pub pair-weights : WeightsAllowed t weights
   pub lengths : JobLengths t samples flow image
-  pub quick-most : quick ≤ 4096
+  pub quick-most : quick ≤ limit .quick
   pub work-length : length work ≡ 2 * length flow
 
 -- before steady rounds: a flow within the limit of weights
@@ -45,4 +45,4 @@ pub record SteadyReady (t : Terms) (samples : List ℕ) (weights flow image : Li
   pub limits : TermsAllowed t
   pub pair-weights : WeightsAllowed t weights
   pub lengths : JobLengths t samples flow image
-  pub flow-most : Within 65280 flow
+  pub flow-most : Within (limit .weight) flow

@@ -3,12 +3,12 @@
 use integers::signed;
 ghost use mathlib.Core.Path.{_≡_};
 ghost use mathlib.Core.Bool.{_||_};
-ghost use Prim.Native.Nat.{_^_, _≤_};
+ghost use Prim.Native.Nat.{_≤_};
 ghost use lib.IntN.{pos, natAbs, _+ℤ_, _-ℤ_};
 ghost use lib.Signed.{ltZ};
 ghost use Rattle.integers.specs.Whole.{square, clamp};
 ghost use Rattle.model.specs.Grid.{readingOf, lowEnd, highEnd};
-ghost use Rattle.stencil.specs.Limits.{PixelLimits};
+ghost use Rattle.stencil.specs.Limits.{most, PixelLimits};
 
 // The value at which a sample is read, in sub-units: the centre of its level.
 pub fn reading(s: u8) -> i32
@@ -19,7 +19,7 @@ pub fn reading(s: u8) -> i32
 
 // The squared difference of a value and its sample's reading.
 pub fn squared_misfit(x: i32, s: u8) -> u64
-    requires { ⌜ natAbs x ≤ 2 ^ 20 ⌝ }
+    requires { ⌜ natAbs x ≤ most ⌝ }
     ensures { λ r. ⌜ pos r ≡ square (x -ℤ readingOf s) ⌝ }
 {
     let d = signed::magnitude(signed::sub(x, reading(s))) as u64;

@@ -10,6 +10,7 @@ use lib.ListN.{length}
 use mir.Syntax.{w32}
 use mir.Val.{toZ, ofZ}
 use mir.ValLaws.{toZ-ofZ}
+use Rattle.model.specs.Grid.{limit}
 use Rattle.integers.proofs.Machine.{read, called}
 use Rattle.lists.specs.Lists.{at}
 use Rattle.model.specs.Rounds.{eighth}
@@ -31,7 +32,7 @@ abbrev μ-loop : tie.MeasureT-loop
 μ-loop flow₀ ahead₀ first second weight weights m j₀ flow ahead j = length flow₀ - j
 
 -- a number of a buffer within the weights' limit, as the machine reads it back
-small : (l : List ℤ) → Within 65280 l → (i : ℕ) → toZ w32 (ofZ w32 (at l i)) ≡ at l i
+small : (l : List ℤ) → Within (limit .weight) l → (i : ℕ) → toZ w32 (ofZ w32 (at l i)) ≡ at l i
 small l h = element l (λ i. omega (arith, h i))
 
 -- the weight of pair j

@@ -8,7 +8,7 @@ use lib.ListN.{length, replicate}
 use mir.Syntax.{w32}
 use mir.ValLaws.{toZ-ofZ}
 use Rattle.model.specs.Problem.{Problem}
-use Rattle.model.specs.Grid.{grid}
+use Rattle.model.specs.Grid.{limit, grid}
 use Rattle.model.specs.Rounds.{eighth, nearestEighth, Steady, steadyRounds}
 use Rattle.model.specs.Plain.{roundsOf}
 use Rattle.model.specs.Calls.{imageOf, quickFlow, ending}
@@ -48,7 +48,7 @@ steady-rounds-requires c κs =
               flow-length = ap length (iterate q) ∙ iterate-size eighth (problem q) (s .args .quick);
               image-length = c .before .before .before .before .before .before .image .given ∙ p .lengths .image-length;
             };
-        flow-most = subst (Within 65280) (sym (iterate q)) (iterate-within eighth (s .args .t) (s .args .samples .now) (s .args .weights .now) (p .limits) (p .pair-weights) (s .args .quick));
+        flow-most = subst (Within (limit .weight)) (sym (iterate q)) (iterate-within eighth (s .args .t) (s .args .samples .now) (s .args .weights .now) (p .limits) (p .pair-weights) (s .args .quick));
       },
     )
 

@@ -11,7 +11,7 @@ use lib.IntN.{ℤ}
 use mir.Syntax.{w32}
 use mir.ValLaws.{toZ-ofZ}
 use Rattle.integers.proofs.Machine.{read}
-use Rattle.model.specs.Grid.{grid}
+use Rattle.model.specs.Grid.{limit, grid}
 use Rattle.model.specs.Rounds.{nearestEighth, step, Steady}
 use Rattle.passes.specs.Limits.{Within}
 use Rattle.stencil.specs.Limits.{most}
@@ -29,7 +29,7 @@ Inv-loop t lower upper allowance samples weights flow₀ image₀ s weight most�
 abbrev μ-loop : tie.MeasureT-loop
 μ-loop t lower upper allowance samples weights flow₀ image₀ s weight most₀ moved₀ flow image moved = allowance - moved
 
-flow-most : (flow : List ℤ) → Within 65280 flow → Within most flow
+flow-most : (flow : List ℤ) → Within (limit .weight) flow → Within most flow
 flow-most flow h i = omega (arith, h i)
 
 loop-holds : tie.Need-loop-holds Inv-loop μ-loop
