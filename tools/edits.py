@@ -162,6 +162,12 @@ def lines_of(text, old):
 
 
 
+def declares(crate, law, file):
+    """Whether a file of a crate's laws declares this one."""
+    path = TOP / "crates" / crate / "proofs" / f"{file}.antt"
+    return path.is_file() and re.search(rf"^ *(?:pub )?{re.escape(law)} :", path.read_text(encoding="utf-8"), re.M)
+
+
 def faults(found):
     public, listed = public_functions(), crates()
     names = {f"{edit.crate}/{edit.label}" for edit in found}
@@ -169,8 +175,11 @@ def faults(found):
         name = f"{edit.crate}/{edit.label}"
         if not edit.rules_out or "|" in edit.rules_out:
             yield f"{name}: it does not say what it rules out (a line '# ..'; no '|')"
-        if not AT.fullmatch(edit.at):
+        at = AT.fullmatch(edit.at)
+        if not at:
             yield f"{name}: no line '# at: FUNCTION', '# at: FUNCTION (asks)', '# at: FUNCTION (search)' or '# at: LAW in FILE'"
+        elif at["law"] and not declares(edit.crate, at["law"], at["file"]):
+            yield f"{name}: proofs/{at['file']}.antt of its crate has no law {at['law']}"
         if not edit.reasons or not all(REASONS.fullmatch(reason) for reason in edit.reasons):
             yield f"{name}: no line '# for: ..', or another reason than checklist, trap, form, F-n, public, definition, table"
         if ("definition" in edit.reasons or "table" in edit.reasons) == of_code(edit):

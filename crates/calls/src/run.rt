@@ -18,7 +18,7 @@ ghost use Rattle.model.specs.Demand.{RunDemand};
 ghost use Rattle.model.specs.Answers.{accepted, answerOf};
 
 // The answer of a run, from how its rounds ended and the figures of the flow that they ended with.
-fn answer_of(settled: bool, moved: u32, figures: Figures) -> Answer
+fn run_answer(settled: bool, moved: u32, figures: Figures) -> Answer
     ensures { λ a. ⌜ answerOf a ≡ accepted (cond settled Calls.settled Calls.spent) moved figures ⌝ }
 {
     if settled {
@@ -72,5 +72,5 @@ pub fn run(
         work,
     );
     let f = figures::of_flow(t, samples, weights, flow, image);
-    answer_of(end.settled, end.moved, f)
+    run_answer(end.settled, end.moved, f)
 }

@@ -5,7 +5,7 @@ use Prim.Native.Nat.{ℕ}
 use lib.IntN.{ℤ, pos, _+ℤ_, _*ℤ_}
 use lib.Signed.{_≤ℤ_}
 use Rattle.model.specs.Problem.{Problem, Feasible, price, image, distance}
-use Rattle.model.specs.Demand.{FiguresOf, WithinSlacks, Certified}
+use Rattle.model.specs.Demand.{HasFigures, WithinSlacks, Certified}
 use Rattle.certificate.proofs.Lagrangian.{Sound}
 use Rattle.certificate.proofs.Congruence.{Agree, price-cong, distance-cong}
 use Rattle.certificate.proofs.Distance.{distance-law, equal-images}
@@ -19,7 +19,7 @@ near-cong p {x} {y} {v} {w} {s} {r} same also e h near =
     (subst (λ (d : ℤ). (pos 2 *ℤ d) ≤ℤ (s +ℤ r)) (sym (distance-cong p same also))
     (subst (λ (b : ℤ). (pos 2 *ℤ distance p v w) ≤ℤ b) (sym (ap₂ (λ (a b : ℤ). a +ℤ b) e h)) near))
 
-pub certified-figures : (p : Problem) → Sound p → (f : ℕ → ℤ) → Feasible p f → {x : ℕ → ℤ} {c d s : ℤ} → FiguresOf p f x c d s →
+pub certified-figures : (p : Problem) → Sound p → (f : ℕ → ℤ) → Feasible p f → {x : ℕ → ℤ} {c d s : ℤ} → HasFigures p f x c d s →
     Certified p x c s
 certified-figures p sound f within {x} {c} {d} {s} figures =
     let priced : c ≡ price p (image p f) = figures .prices ∙ price-cong p sound (figures .images) in
@@ -43,7 +43,7 @@ certified-figures p sound f within {x} {c} {d} {s} figures =
     }
 
 -- A certified image and a buffer that holds another flow's, with their slacks
-pub certified-both : (p : Problem) {x y : ℕ → ℤ} {c s a b r : ℤ} (g : ℕ → ℤ) → Certified p x c s → Feasible p g → FiguresOf p g y a b r →
+pub certified-both : (p : Problem) {x y : ℕ → ℤ} {c s a b r : ℤ} (g : ℕ → ℤ) → Certified p x c s → Feasible p g → HasFigures p g y a b r →
     WithinSlacks p x y s r
 certified-both p g certified within figures =
     near-cong p (λ i l. refl) (figures .images) refl (figures .slacks) (certified .others g within .near)

@@ -20,7 +20,7 @@ use Rattle.integers.proofs.Total.{total-cong, total-*ℤ}
 use Rattle.lists.specs.Lists.{at}
 use Rattle.model.specs.Calls.{Answer}
 use Rattle.model.specs.Problem.{Problem, pairCount, firstOf, secondOf, fall, misfit, price, Feasible, pull, image, floor, slack, distance, divided, times}
-use Rattle.model.specs.Demand.{FiguresOf, Certificate, TwoFlows}
+use Rattle.model.specs.Demand.{HasFigures, Certificate, TwoFlows}
 use Rattle.certificate.proofs.Lagrangian.{Sound}
 use Rattle.certificate.proofs.Certified.{certified-figures, certified-both}
 
@@ -110,8 +110,8 @@ module _ (k : ℕ) (p : Problem) where
       ∙ sym (*ℤ--ℤ (pos (k * k)) (price p (image p f)) (floor p f))
 
   -- the figures of an image and a flow, on the division
-  pub figures-scale : {f x : ℕ → ℤ} {c d s : ℤ} → FiguresOf p f x c d s →
-      FiguresOf (divided k p) (times k f) (times k x) (pos (k * k) *ℤ c) (pos (k * k) *ℤ d) (pos (k * k) *ℤ s)
+  pub figures-scale : {f x : ℕ → ℤ} {c d s : ℤ} → HasFigures p f x c d s →
+      HasFigures (divided k p) (times k f) (times k x) (pos (k * k) *ℤ c) (pos (k * k) *ℤ d) (pos (k * k) *ℤ s)
   figures-scale {f} {x} g =
       let grown : ℤ → ℤ = λ a. pos (k * k) *ℤ a in
       record {
@@ -130,7 +130,7 @@ module _ (k : ℕ) (p : Problem) where
 
 -- The certificate of a flow within the weights, of a buffer that holds its image, and of its figures
 pub certificate : (p : Problem) → Sound p → (flow values : List ℤ) (a : Answer) → Feasible p (at flow) →
-    FiguresOf p (at flow) (at values) (a .price) (a .floor) (a .slack) → Certificate p flow values a
+    HasFigures p (at flow) (at values) (a .price) (a .floor) (a .slack) → Certificate p flow values a
 certificate p sound flow values a within g =
     record {
       within = within;

@@ -22,7 +22,7 @@ use Rattle.layout.proofs.Pairs.{pixels-inside}
 use Rattle.layout.proofs.Degree.{degree-at-most-4}
 use Rattle.model.proofs.Answers.{check-answer, check-image, runFigures, run-answer, run-flow, run-image, held-image}
 use Rattle.model.proofs.Accepted.{zero-as, check-feasible, check-accepted, check-number, run-accepted, run-number}
-use Rattle.model.specs.Demand.{FiguresOf, TwoFlows, CheckDemand, RunDemand}
+use Rattle.model.specs.Demand.{HasFigures, TwoFlows, CheckDemand, RunDemand}
 use Rattle.certificate.proofs.Lagrangian.{Sound}
 use Rattle.certificate.proofs.Congruence.{price-cong}
 use Rattle.certificate.proofs.Division.{certificate, two-flows}
@@ -41,7 +41,7 @@ grid-sound t samples weights box =
 -- a buffer that holds a flow's image, and the figures of that flow
 held : (t : Terms) (samples : List ℕ) (weights : List ℤ) → t .low ≤ t .high → (flow : List ℤ) (o : Outcome) (moved : ℕ) {values : List ℤ} {a : Answer} →
     values ≡ imageOf t samples flow → a ≡ figuresOf o moved t samples weights flow →
-    FiguresOf (grid t samples weights) (at flow) (at values) (a .price) (a .floor) (a .slack)
+    HasFigures (grid t samples weights) (at flow) (at values) (a .price) (a .floor) (a .slack)
 unfolding figuresOf
 held t samples weights box flow o moved e g =
     let images = held-image t samples weights flow e in

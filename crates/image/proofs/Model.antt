@@ -15,7 +15,7 @@ use Rattle.model.specs.Grid.{readingOf, lowEnd, highEnd, grid}
 use Rattle.model.specs.Calls.{imageOf}
 use Rattle.stencil.specs.Ends.{BoxEnds}
 use Rattle.image.specs.Image.{imageValue}
-use Rattle.image.proofs.Stencil.{pull-gathered}
+use Rattle.image.proofs.Pull.{pull-gathered}
 
 module _ (t : Terms) (samples : List ℕ) where
   -- pixel i at its row and column

@@ -23,7 +23,7 @@ use Rattle.image.specs.Limits.{ImageLimits, ImageRowLimits}
 use Rattle.image.specs.Columns.{rowValue}
 use Rattle.lists.specs.Placed.{placed}
 use Rattle.image.specs.Image.{imageValue}
-use Rattle.image.specs.Stencil.{gathered, rightPair}
+use Rattle.image.specs.Pull.{gathered, rightPair}
 
 -- the part from index a to index e, as `&l[a..e]` lends it
 abbrev pub part : {A : Type 0} → ℕ → ℕ → List A → List A

@@ -6,7 +6,7 @@ use lib.ListN.{getD}
 use Rattle.integers.specs.Whole.{clamp}
 use Rattle.lists.specs.Lists.{at}
 use Rattle.model.specs.Grid.{readingOf}
-use Rattle.image.specs.Stencil.{gathered}
+use Rattle.image.specs.Pull.{gathered}
 
 -- pixel i of the image on a raster of width w and height h
 abbrev pub imageValue : ℤ → ℤ → List ℕ → List ℤ → ℕ → ℕ → ℕ → ℤ

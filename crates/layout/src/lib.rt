@@ -1,5 +1,5 @@
-// The layout of a raster's pairs in flow order: runs of pairs that stand one after another, of which
-// each joins the next pixel to the next.
+// The layout of a raster's pairs in flow order, as runs: along a run both pixels of a pair are next to
+// those of the pair before.
 
 use model::Terms;
 ghost use mathlib.Core.Path.{_≡_};
@@ -7,7 +7,7 @@ ghost use Prim.Native.Nat.{_<_, min};
 ghost use Rattle.layout.specs.Runs.{shapeOf, vertical, columnRuns, columnRun, rowRun, runCount, runAt};
 ghost use Rattle.layout.specs.Limits.{ByteLevels, ShapeLimits};
 
-// What tells the pairs of a raster: its size.
+// What determines the pairs of a raster: its size.
 pub struct Shape {
     pub width: usize,
     pub height: usize,

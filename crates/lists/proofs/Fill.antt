@@ -61,29 +61,6 @@ module _ {A : Type 0} where
         ∙ ap (λ (x : List A). take a (filled a g e) ++ (table n (λ i. g (a + i)) ++ x)) (drop-drop n a (filled a g e))
         ∙ filled-part a n
 
--- ---- a list that is filled in two parts, of v and of n values
-
-module _ {A : Type 0} (g : ℕ → A) (e : List A) (v n : ℕ) (size : length e ≡ v + n) where
-  -- the first ..
-  pub upper-filled : {part : List A} → part ≡ table v g → part ++ drop v e ≡ filled v g e
-  upper-filled p = ap (λ (l : List A). l ++ drop v e) p
-
-  -- .. then the other
-  module _ {l : List A} (p : l ≡ filled v g e) where
-    length-upper : length l ≡ v + n
-    length-upper = ap length p ∙ length-filled g e v (omega arith) ∙ size
-
-    pub lower-part : take (length l - v) (drop v l) ≡ drop v e
-    lower-part = rest-all v l ∙ filled-rest g e v p
-
-    pub both-filled : {part : List A} → part ≡ table n (λ i. g (v + i)) → putMid v (length l - v) l part ≡ table (v + n) g
-    both-filled {part} q =
-        ap (λ (k : ℕ). putMid v k l part) (ap (λ (k : ℕ). k - v) length-upper)
-        ∙ filled-back g e v n p q
-        ∙ ap (λ (k : ℕ). filled k g e) (sym size)
-        ∙ filled-all g e
-        ∙ ap (λ (k : ℕ). table k g) size
-
 -- ---- the invariant of a loop that fills: the list `now`, of which k values of `entry` are filled
 
 pub record Filling {A : Type 0} (g : ℕ → A) (entry : List A) (k : ℕ) (now : List A) : Type 0 where

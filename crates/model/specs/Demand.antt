@@ -16,7 +16,7 @@ use Rattle.model.specs.Calls as Calls
 use Rattle.model.specs.Calls.{Answer, quickFlow}
 
 -- x is the image of flow f, and price, floor and slack are those that document 01 defines for them (SPECIFICATION 8.4)
-pub record FiguresOf (p : Problem) (f x : ℕ → ℤ) (price floor slack : ℤ) : Type 0 where
+pub record HasFigures (p : Problem) (f x : ℕ → ℤ) (price floor slack : ℤ) : Type 0 where
   pub images : (i : ℕ) → i < p .pixels → x i ≡ Model.image p f i
   pub prices : price ≡ Model.price p x
   pub floors : floor ≡ Model.floor p f
@@ -43,11 +43,11 @@ pub record Certified (p : Problem) (x : ℕ → ℤ) (price slack : ℤ) : Type 
 -- and slack are k² times as large (SPECIFICATION 8.4, 8.6, 8.10)
 pub record Certificate (p : Problem) (flow image : List ℤ) (a : Answer) : Type 0 where
   pub within : Feasible p (at flow)
-  pub figures : FiguresOf p (at flow) (at image) (a .price) (a .floor) (a .slack)
+  pub figures : HasFigures p (at flow) (at image) (a .price) (a .floor) (a .slack)
   pub here : Certified p (at image) (a .price) (a .slack)
   pub scaled :
       (k : ℕ) → 1 ≤ k →
-      FiguresOf (divided k p) (times k (at flow)) (times k (at image)) (pos (k * k) *ℤ a .price) (pos (k * k) *ℤ a .floor)
+      HasFigures (divided k p) (times k (at flow)) (times k (at image)) (pos (k * k) *ℤ a .price) (pos (k * k) *ℤ a .floor)
       (pos (k * k) *ℤ a .slack)
   pub divisions :
       (k : ℕ) → 1 ≤ k →

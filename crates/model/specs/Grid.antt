@@ -13,7 +13,7 @@ use Rattle.lists.specs.Lists.{table, chain}
 use Rattle.model.specs.Problem.{Pair, Problem}
 
 -- The limits of a job's terms and rounds: the largest width or height, the most pixels, the largest weight, in sub-units, and
--- the most quick rounds (SPECIFICATION 1.1, 1.5, 3.5)
+-- the most quick rounds (SPECIFICATION 1.1, 1.5, 3.4)
 pub record Limits : Type 0 where
   pub side : ℕ
   pub pixels : ℕ

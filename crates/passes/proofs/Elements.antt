@@ -40,9 +40,6 @@ part-within {k} a n l h = part-by (λ z. natAbs z ≤ k) (pos 0) zero-le a n l h
 pub lent-within : {k : ℕ} (a n : ℕ) (l : List ℤ) {part : List ℤ} → part ≡ take n (drop a l) → Within k l → Within k part
 lent-within {k} a n l o h = subst (Within k) (sym o) (part-within a n l h)
 
-pub drop-within : {k : ℕ} (a : ℕ) (l : List ℤ) → Within k l → Within k (drop a l)
-drop-within {k} a l h i = subst (λ (z : ℤ). natAbs z ≤ k) (sym (getD-drop a l i (pos 0))) (h (a + i))
-
 -- ---- what the limits say of a pair
 
 -- its number of a part is there, unless the part is empty

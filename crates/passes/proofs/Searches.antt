@@ -41,11 +41,6 @@ module _ (test : ℕ → Bool) where
   pub first-answer : {j n : ℕ} → Passed test j → j < n → test j ≡ true → At j ≡ answer n test
   first-answer {j} {n} p l t = at-is n (firstWhere n test) (sym (search-found n test j (omega arith, p) t)) l
 
-  -- ---- the first n pairs
-
-  pub front-first : (n : ℕ) {j m : ℕ} → answer n test ≡ At j → n ≤ m → At j ≡ answer m test
-  front-first n e h = let (l, q, t) = first-moves test n e in first-answer q (omega arith) t
-
   -- ---- the n pairs from a on
 
   module _ (a n : ℕ) (p : Passed test a) where

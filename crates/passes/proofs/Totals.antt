@@ -1,4 +1,4 @@
--- Running sums, that those over buffers within limits fit 64 bits. Assumes nothing.
+-- Running sums, and that those over buffers within limits fit 64 bits. Assumes nothing.
 use mathlib.Core.Path.{_≡_, sym, ap₂, _∙_}
 use mathlib.Core.List.{List}
 use Prim.Native.Nat.{ℕ, _+_, _*_, _^_, _≤_, _<_}

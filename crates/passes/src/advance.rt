@@ -1,6 +1,5 @@
 // The pass of a quick round: from the image of the extrapolated flow R, the next iterate P and the
-// next R, which lies ahead of it. The weights of the pairs may be none: then all of them have the
-// weight lent beside.
+// next R, which lies ahead of it. Where `weights` is empty, every pair has the weight `weight`.
 
 use crate::part::number_or;
 use crate::part::part_of;

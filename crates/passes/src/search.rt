@@ -1,5 +1,5 @@
-// The test before a steady round: the first pair that its step would change. The weights of the pairs
-// may be none: then all of them have the weight lent beside.
+// The test before a steady round: the first pair that its step would change. Where `weights` is
+// empty, every pair has the weight `weight`.
 
 use crate::part::number_or;
 use crate::part::part_of;

@@ -1,5 +1,5 @@
-// The step of a steady round: each pair's number becomes its stepped value. The weights of the pairs
-// may be none: then all of them have the weight lent beside.
+// The step of a steady round: each pair's number becomes its stepped value. Where `weights` is
+// empty, every pair has the weight `weight`.
 
 use crate::part::number_or;
 use crate::part::part_of;

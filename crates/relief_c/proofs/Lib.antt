@@ -1,3 +1,3 @@
 -- What the proofs of several functions use.
---     Says        the plain numbers of an answer
-mod Says
+--     PlainNumbers        the plain numbers of an answer
+mod PlainNumbers

@@ -1,6 +1,6 @@
 // Validation of what a call is lent. What the calls and the job tape share: the limits of a job's
 // terms, the length of a buffer that need not be lent, the counts of pixels and pairs, the weights of
-// pairs, and the first flow number beyond its pair's; then single rows of the table of refusals, and
+// pairs, and the first flow number beyond its pair's weight; then single rows of the table of refusals, and
 // where check, price, run and write turn back.
 mod beyond;
 mod counts;

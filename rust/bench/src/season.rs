@@ -2,7 +2,7 @@
 //! same file as standard input, by turns, with the start of the process and all its reading. Then
 //! it finds how much memory each takes at most.
 //!
-//! `season-bench PROVED PLAIN` is given the paths of the two programs.
+//! `season-bench PROVED OPTIMIZED` is given the paths of the two programs.
 
 mod clock;
 
@@ -28,7 +28,7 @@ const DRAIN_TIME: Duration = Duration::from_millis(500);
 fn main() -> ExitCode {
     let arguments: Vec<String> = env::args().skip(1).collect();
     let [proved, reference] = &arguments[..] else {
-        eprintln!("usage: season-bench PROVED PLAIN");
+        eprintln!("usage: season-bench PROVED OPTIMIZED");
         return ExitCode::from(2);
     };
     println!(

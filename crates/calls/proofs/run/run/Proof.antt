@@ -127,7 +127,7 @@ returns-2 c =
     let yes = accepted (past l) in
     let n = l .solve .ensures .1 .1 in
     let answer =
-    c .answer-of .ensures
+    c .run-answer .ensures
     ∙ figured (cond (l .solve .result .settled) settled spent) (l .solve .result .moved) t b o (l .solve .last .1 .1 .1 .1 .1 .1 .1 .0)
     (g .of-flow .ensures .0) (g .of-flow .ensures .1 .0) (g .of-flow .ensures .1 .1)
     ∙ ap₂ (λ (m : ℕ) (z : List ℤ). figuresOf (cond (l .solve .result .settled) settled spent) m t b o z) (n .1 .0) (flow-is l)

@@ -4,7 +4,7 @@ use mir.Syntax.{w64}
 use mathlib.Core.Path.{refl}
 use Rattle.integers.proofs.Machine.{read}
 use Rattle.model.proofs.Accepted.{zero-by}
-use Rattle.relief_c.proofs.Says.{same, check-by}
+use Rattle.relief_c.proofs.PlainNumbers.{same, check-by}
 use Rattle.relief_c.proofs.check.relief_call_check.Statement.{statement}
 use Rattle.relief_c.proofs.check.relief_call_check.Tie as tie
 

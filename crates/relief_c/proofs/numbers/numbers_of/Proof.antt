@@ -4,7 +4,7 @@ use borrow.Author.Needs.{needs}
 use mir.Syntax.{w64}
 use Rattle.integers.proofs.Machine.{read}
 use Rattle.model.specs.Answers.{answerOf}
-use Rattle.relief_c.proofs.Says.{same}
+use Rattle.relief_c.proofs.PlainNumbers.{same}
 use Rattle.relief_c.proofs.numbers.numbers_of.Statement.{statement}
 use Rattle.relief_c.proofs.numbers.numbers_of.Tie as tie
 

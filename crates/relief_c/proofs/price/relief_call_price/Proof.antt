@@ -3,7 +3,7 @@ use borrow.Author.Needs.{needs}
 use mir.Syntax.{w64}
 use Rattle.integers.proofs.Machine.{read}
 use Rattle.model.proofs.Accepted.{zero-by}
-use Rattle.relief_c.proofs.Says.{same}
+use Rattle.relief_c.proofs.PlainNumbers.{same}
 use Rattle.relief_c.proofs.price.relief_call_price.Statement.{statement}
 use Rattle.relief_c.proofs.price.relief_call_price.Tie as tie
 

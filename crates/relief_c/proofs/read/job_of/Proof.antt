@@ -4,7 +4,7 @@ use mathlib.Core.Bool.{Bool, true, false, cond}
 use borrow.Author.Needs.{needs}
 use mir.Val.{boolByte}
 use Rattle.model.specs.Answers.{readAnswerOf}
-use Rattle.relief_c.proofs.Says.{same-job}
+use Rattle.relief_c.proofs.PlainNumbers.{same-job}
 use Rattle.relief_c.proofs.read.job_of.Statement.{statement}
 use Rattle.relief_c.proofs.read.job_of.Tie as tie
 

@@ -1,7 +1,7 @@
 -- `relief_c::read::relief_call_read` meets its contract. Assumes nothing.
 use borrow.Author.Needs.{needs}
 use Rattle.model.proofs.Accepted.{zero-by}
-use Rattle.relief_c.proofs.Says.{same-job, back-by}
+use Rattle.relief_c.proofs.PlainNumbers.{same-job, back-by}
 use Rattle.relief_c.proofs.read.relief_call_read.Statement.{statement}
 use Rattle.relief_c.proofs.read.relief_call_read.Tie as tie
 

@@ -4,7 +4,7 @@ use mir.Syntax.{w64}
 use mathlib.Core.Path.{refl}
 use Rattle.integers.proofs.Machine.{read}
 use Rattle.model.proofs.Accepted.{zero-by}
-use Rattle.relief_c.proofs.Says.{same, run-by}
+use Rattle.relief_c.proofs.PlainNumbers.{same, run-by}
 use Rattle.relief_c.proofs.run.relief_call_run.Statement.{statement}
 use Rattle.relief_c.proofs.run.relief_call_run.Tie as tie
 

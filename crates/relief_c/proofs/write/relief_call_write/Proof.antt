@@ -1,7 +1,7 @@
 -- `relief_c::write::relief_call_write` meets its contract. Assumes nothing.
 use borrow.Author.Needs.{needs}
 use Rattle.model.proofs.Accepted.{zero-by}
-use Rattle.relief_c.proofs.Says.{same-tape, tape-by}
+use Rattle.relief_c.proofs.PlainNumbers.{same-tape, tape-by}
 use Rattle.relief_c.proofs.write.relief_call_write.Statement.{statement}
 use Rattle.relief_c.proofs.write.relief_call_write.Tie as tie
 

@@ -5,7 +5,7 @@ use native.Mathlib.Omega.{arith}
 use borrow.Author.Needs.{needs}
 use mir.Syntax.{w32}
 use mir.ValLaws.{toZ-ofZ}
-use Rattle.solver.proofs.Turns.{Turned, turned-none, turned-ready, turned-more, turned-length, turned-work}
+use Rattle.solver.proofs.QuickRounds.{Turned, turned-none, turned-ready, turned-more, turned-length, turned-work}
 use Rattle.solver.proofs.quick.quick_rounds.Statement.{statement}
 use Rattle.solver.proofs.quick.quick_rounds.Tie as tie
 

@@ -14,7 +14,7 @@ use Rattle.model.specs.Plain.{roundsOf}
 use Rattle.model.specs.Calls.{imageOf, quickFlow, ending}
 use Rattle.model.proofs.Sizes.{iterate-size}
 use Rattle.passes.specs.Limits.{Within}
-use Rattle.solver.proofs.Kept.{iterate-within}
+use Rattle.solver.proofs.QuickBounds.{iterate-within}
 use Rattle.solver.proofs.solve.solve.Statement.{statement}
 use Rattle.solver.proofs.solve.solve.Tie as tie
 

@@ -18,7 +18,7 @@ use Rattle.stencil.specs.Limits.{most}
 use Rattle.passes.proofs.Model.{stepped-is}
 use Rattle.solver.specs.Ready.{SteadyReady}
 use Rattle.solver.proofs.Passes.{image-size, flow-limits, pair-weights}
-use Rattle.solver.proofs.Rests.{Rested, rested-none, rested-more, rested-end, ready-more}
+use Rattle.solver.proofs.SteadyRounds.{Rested, rested-none, rested-more, rested-end, ready-more}
 use Rattle.solver.proofs.steady.steady_rounds.Statement.{statement}
 use Rattle.solver.proofs.steady.steady_rounds.Tie as tie
 

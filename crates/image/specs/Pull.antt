@@ -1,5 +1,5 @@
 -- The pull on a pixel as a pass sees it, from the pixel's up to four pairs. That it is the pull of crate `model` is proved in
--- proofs/Stencil.antt.
+-- proofs/Pull.antt.
 use mathlib.Core.Bool.{cond}
 use Prim.Native.Nat.{ℕ, _+_, _-_, _*_}
 use lib.Dec.{ltb}

@@ -16,7 +16,7 @@ use Rattle.model.specs.declared.Terms.{Terms}
 use Rattle.model.specs.Problem.{Pair, pull}
 use Rattle.model.specs.Grid.{pixel, gridPairs, grid}
 use Rattle.layout.proofs.Pairs.{grid-count, vertical-pair, horizontal-at, horizontal-pixel, column-inside}
-use Rattle.image.specs.Stencil.{rightPair, gathered}
+use Rattle.image.specs.Pull.{rightPair, gathered}
 
 -- ---- sums in which one term counts, or none
 
@@ -149,7 +149,7 @@ at-end w h f i d end =
     (total-cong (w * (h - 1)) (λ j l. ap (λ (q : Pair). cond (eqb (end q) i) (f j) (pos 0)) (vertical-pair w h d j l)))
     (total-cong (h * (w - 1)) (λ k l. ap (λ (q : Pair). cond (eqb (end q) i) (f (w * (h - 1) + k)) (pos 0)) (horizontal-at w h d k l)))
 
--- The pull on the pixel at a row and a column is what the stencil gathers
+-- The pull on the pixel at a row and a column is what its row gathers
 pub pull-gathered : (t : Terms) (samples : List ℕ) (weights : List ℤ) (f : ℕ → ℤ) (row column : ℕ) → row < t .height → column < t .width →
     pull (grid t samples weights) f (pixel (t .width) row column) ≡ gathered (t .width) (t .height) f row column
 unfolding pull gathered

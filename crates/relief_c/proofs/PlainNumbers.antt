@@ -22,7 +22,7 @@ pub same : {number place outcome moved price : ℕ} {floor bits : ℤ} {slack : 
 same {number} {place} {outcome} {moved} {price} {floor} {bits} {slack} {a} {b} e f h =
     subst (λ (z : ℤ). AnswerNumbers number place outcome moved price z slack b) (sym f) (subst (AnswerNumbers number place outcome moved price floor slack) e h)
 
--- an outcome is told by its number
+-- the number of an outcome determines it
 outcome-back : (o : Outcome) → outcomeOf (outcomeNumber o) ≡ o
 outcome-back refused = refl
 outcome-back checked = refl

@@ -17,7 +17,7 @@ use Rattle.solver.specs.Ready.{QuickReady, QuickJob, held}
 use Rattle.solver.specs.Left.{earlier, quickWork, quickImage}
 use Rattle.momentum.proofs.Bounds.{momentum-low, momentum-high}
 use Rattle.model.proofs.Sizes.{iterate-size, ahead-size}
-use Rattle.solver.proofs.Kept.{iterate-within, ahead-within}
+use Rattle.solver.proofs.QuickBounds.{iterate-within, ahead-within}
 
 -- after k rounds: the flow holds P, the work buffer the earlier P and R, the image that of the R stepped on last
 pub record Turned (t : Terms) (quick : ℕ) (samples : List ℕ) (weights image₀ : List ℤ) (k : ℕ) (flow image work : List ℤ) (momentum : ℕ) : Type 0 where
