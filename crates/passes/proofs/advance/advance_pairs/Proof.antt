@@ -47,11 +47,11 @@ run-at-requires c κs = (c .before .before .before .pre .0 .raster .shape, omega
 -- ---- run k is at hand
 
 module _ (c : tie.After-struct-known Inv-loop μ-loop) where
-  abbrev entry : tie.Start Inv-loop μ-loop
-  entry = c .before .before .before .before .before
-
   abbrev turn : tie.At-loop Inv-loop μ-loop
   turn = c .before .before .before
+
+  abbrev entry : tie.Start Inv-loop μ-loop
+  entry = turn .before .before
 
   abbrev run : Run
   run = c .before .run-at .result
@@ -151,15 +151,13 @@ advance-run-requires c κs =
       },
     )
 
-loop-less : tie.Need-loop-less Inv-loop μ-loop
-loop-less c = search needs
-
 loop-again : tie.Need-loop-again Inv-loop μ-loop
 loop-again c =
-    let d = c .before .before .before .before .before in
+    let g = c .before .before in
+    let d = g .before .before .before in
     let i = known d in
     let s = entry i in
-    let e = c .before .before .advance-run .ensures in (
+    let e = g .advance-run .ensures in (
       omega arith,
       run-filled (s .args .s) (s .pre .0 .raster .shape) (turn i .loop .k) (i .before .run-at .ensures) (next i) (s .args .flow .now) (flow-before i)
           (e .0 ∙ sized (numbers d .size) (step-at d)),
@@ -223,7 +221,7 @@ advance-pairs-spec =
     part-advance-run-end-2
     advance-run-requires
     (λ c. search needs)
-    loop-less
+    (λ c. search needs)
     loop-again
     same-length
     same-length-2

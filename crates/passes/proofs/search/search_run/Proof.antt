@@ -29,33 +29,36 @@ loop-holds c = search-start _ _
 number-or-requires : tie.Need-number-or-requires Inv-loop μ-loop
 number-or-requires c κs = own-inside (c .before .before .pre .1) (omega arith)
 
--- the weight of pair j
-own : (c : tie.After-number-or Inv-loop μ-loop) → let s = c .before .before .before in
-    toZ w32 (ofZ w32 (c .number-or .result)) ≡ weightAt (toZ w32 (ofZ w32 (s .args .weight))) (s .args .weights .now) (c .before .before .loop .j)
-own c = read w32 (c .number-or .ok) ∙ c .number-or .ensures
+-- ---- pair j is at hand
+
+module _ (c : tie.After-would-move-arg3 Inv-loop μ-loop) where
+  abbrev turn : tie.At-loop Inv-loop μ-loop
+  turn = c .before .before .before .before .before
+
+  abbrev entry : tie.Start Inv-loop μ-loop
+  entry = turn .before
+
+  -- its weight
+  own : toZ w32 (ofZ w32 (c .before .before .before .number-or .result)) ≡ weightAt (toZ w32 (ofZ w32 (entry .args .weight))) (entry .args .weights .now) (turn .loop .j)
+  own = let n = c .before .before .before .number-or in read w32 (n .ok) ∙ n .ensures
+
+  -- its number and its values, as they are read
+  values : (toZ w32 (ofZ w32 (at (entry .args .flow .now) (turn .loop .j))) ≡ at (entry .args .flow .now) (turn .loop .j)) × (toZ w32 (ofZ w32 (at (entry .args .first .now) (turn .loop .j))) ≡ at (entry .args .first .now) (turn .loop .j)) × (toZ w32 (ofZ w32 (at (entry .args .second .now) (turn .loop .j))) ≡ at (entry .args .second .now) (turn .loop .j))
+  values = (element (entry .args .flow .now) (entry .pre .0 .flow-most) (turn .loop .j), element (entry .args .first .now) (entry .pre .0 .values .first-most) (turn .loop .j), element (entry .args .second .now) (entry .pre .0 .values .second-most) (turn .loop .j))
 
 would-move-requires : tie.Need-would-move-requires Inv-loop μ-loop
 would-move-requires c κs =
-    let s = c .before .before .before .before .before .before in
-    let j = c .before .before .before .before .before .loop .j in
-    rw (own (c .before .before .before), toZ-ofZ w32 (s .args .weight) (s .fits .weight), element (s .args .flow .now) (s .pre .0 .flow-most) j, element (s .args .first .now) (s .pre .0 .values .first-most) j, element (s .args .second .now) (s .pre .0 .values .second-most) j)
-    (pair-limits (s .pre .1) (s .pre .0) j)
+    let s = entry c in
+    rw (own c, toZ-ofZ w32 (s .args .weight) (s .fits .weight), values c .0, values c .1, values c .2) (pair-limits (s .pre .1) (s .pre .0) (turn c .loop .j))
 
 -- the test at j
-tested : (c : tie.After-would-move Inv-loop μ-loop) → let s = c .before .before .before .before .before .before .before in
-    c .would-move .result ≡ movesAt nearestEighth (weightAt (toZ w32 (ofZ w32 (s .args .weight))) (s .args .weights .now)) (at (s .args .flow .now)) (at (s .args .first .now)) (at (s .args .second .now)) (c .before .before .before .before .before .before .loop .j)
-tested c =
-    let s = c .before .before .before .before .before .before .before in
-    let j = c .before .before .before .before .before .before .loop .j in
-    c .would-move .ensures
-    ∙ rw (own (c .before .before .before .before), element (s .args .flow .now) (s .pre .0 .flow-most) j, element (s .args .first .now) (s .pre .0 .values .first-most) j, element (s .args .second .now) (s .pre .0 .values .second-most) j)
-
-loop-less : tie.Need-loop-less Inv-loop μ-loop
-loop-less c = search needs
+tested : (c : tie.After-would-move Inv-loop μ-loop) → let a = entry (c .before) .args in
+    c .would-move .result ≡ movesAt nearestEighth (weightAt (toZ w32 (ofZ w32 (a .weight))) (a .weights .now)) (at (a .flow .now)) (at (a .first .now)) (at (a .second .now)) (turn (c .before) .loop .j)
+tested c = let p = c .before in c .would-move .ensures ∙ rw (own p, values p .0, values p .1, values p .2)
 
 loop-again : tie.Need-loop-again Inv-loop μ-loop
 loop-again c =
-    let l = c .before .before .before .before .before .before .before .loop in
+    let l = turn (c .before .before) .loop in
     search-on _ _ (l .j) (l .inv) (omega arith) (sym (tested (c .before)) ∙ c .if2 .left)
 
 returns : tie.Need-returns Inv-loop μ-loop
@@ -67,8 +70,8 @@ returns c =
 
 returns-2 : tie.Need-returns-2 Inv-loop μ-loop
 returns-2 c =
-    let s = c .before .before .before .before .before .before .before .before in
-    let l = c .before .before .before .before .before .before .before .loop in
+    let s = entry (c .before .before) in
+    let l = turn (c .before .before) .loop in
     let inside : l .j < length (s .args .flow .now) = omega arith in
     rw (toZ-ofZ w32 _ (s .fits .weight)) at (at-is (length (s .args .flow .now)) _ (sym (search-found _ _ _ (l .inv) (sym (tested (c .before)) ∙ c .if2 .taken))) inside)
 
@@ -88,7 +91,7 @@ search-run-spec =
     (λ c. search needs)
     would-move-requires
     (λ c. search needs)
-    loop-less
+    (λ c. search needs)
     loop-again
     returns
     returns-2)

@@ -39,11 +39,11 @@ run-at-requires c κs = (c .before .before .before .pre .0 .raster .shape, omega
 -- ---- run k is at hand
 
 module _ (c : tie.After-struct-known Inv-loop μ-loop) where
-  abbrev entry : tie.Start Inv-loop μ-loop
-  entry = c .before .before .before .before .before
-
   abbrev turn : tie.At-loop Inv-loop μ-loop
   turn = c .before .before .before
+
+  abbrev entry : tie.Start Inv-loop μ-loop
+  entry = turn .before .before
 
   abbrev run : Run
   run = c .before .run-at .result
@@ -102,9 +102,6 @@ step-run-requires c κs =
     rw (toZ-ofZ w32 _ (s .fits .weight))
     (run-limits (values d) (s .pre .0) (numbers d), run-weights (values d) (s .pre .1) (d .part-of3 .ensures) (numbers d .size))
 
-loop-less : tie.Need-loop-less Inv-loop μ-loop
-loop-less c = search needs
-
 loop-again : tie.Need-loop-again Inv-loop μ-loop
 loop-again c =
     let d = c .before .before .before in
@@ -152,7 +149,7 @@ step-pairs-spec =
     part-step-run-end
     step-run-requires
     (λ c. search needs)
-    loop-less
+    (λ c. search needs)
     loop-again
     same-length
     returns)

@@ -30,28 +30,35 @@ loop-holds c = filling-none _ _
 number-or-requires : tie.Need-number-or-requires Inv-loop μ-loop
 number-or-requires c κs = own-inside (c .before .before .pre .1) (omega arith)
 
--- the weight of pair j
-own : (c : tie.After-number-or Inv-loop μ-loop) → let s = c .before .before .before in
-    toZ w32 (ofZ w32 (c .number-or .result)) ≡ weightAt (toZ w32 (ofZ w32 (s .args .weight))) (s .args .weights .now) (c .before .before .loop .j)
-own c = read w32 (c .number-or .ok) ∙ c .number-or .ensures
+-- ---- pair j is at hand
+
+module _ (c : tie.After-step-value-arg3 Inv-loop μ-loop) where
+  abbrev turn : tie.At-loop Inv-loop μ-loop
+  turn = c .before .before .before .before .before
+
+  abbrev entry : tie.Start Inv-loop μ-loop
+  entry = turn .before
+
+  -- its weight
+  own : toZ w32 (ofZ w32 (c .before .before .before .number-or .result)) ≡ weightAt (toZ w32 (ofZ w32 (entry .args .weight))) (entry .args .weights .now) (turn .loop .j)
+  own = let n = c .before .before .before .number-or in read w32 (n .ok) ∙ n .ensures
+
+  -- its number is not stepped yet
+  number : toZ w32 (ofZ w32 (at (turn .loop .flow) (turn .loop .j))) ≡ at (entry .args .flow .now) (turn .loop .j)
+  number = rw (filling-rest (turn .loop .inv) (turn .loop .j) (pos 0) (le-refl (turn .loop .j))) (element (entry .args .flow .now) (entry .pre .0 .flow-most) (turn .loop .j))
+
+  values : (toZ w32 (ofZ w32 (at (entry .args .first .now) (turn .loop .j))) ≡ at (entry .args .first .now) (turn .loop .j)) × (toZ w32 (ofZ w32 (at (entry .args .second .now) (turn .loop .j))) ≡ at (entry .args .second .now) (turn .loop .j))
+  values = (element (entry .args .first .now) (entry .pre .0 .values .first-most) (turn .loop .j), element (entry .args .second .now) (entry .pre .0 .values .second-most) (turn .loop .j))
 
 step-value-requires : tie.Need-step-value-requires Inv-loop μ-loop
 step-value-requires c κs =
-    let s = c .before .before .before .before .before .before in
-    let l = c .before .before .before .before .before .loop in
-    rw (own (c .before .before .before), toZ-ofZ w32 (s .args .weight) (s .fits .weight), filling-rest (l .inv) (l .j) (pos 0) (le-refl (l .j)), element (s .args .flow .now) (s .pre .0 .flow-most) (l .j), element (s .args .first .now) (s .pre .0 .values .first-most) (l .j), element (s .args .second .now) (s .pre .0 .values .second-most) (l .j))
-    (pair-limits (s .pre .1) (s .pre .0) (l .j))
-
-loop-less : tie.Need-loop-less Inv-loop μ-loop
-loop-less c = search needs
+    let s = entry c in
+    rw (own c, toZ-ofZ w32 (s .args .weight) (s .fits .weight), number c, values c .0, values c .1) (pair-limits (s .pre .1) (s .pre .0) (turn c .loop .j))
 
 loop-again : tie.Need-loop-again Inv-loop μ-loop
 loop-again c =
-    let s = c .before .before .before .before .before .before .before in
-    let l = c .before .before .before .before .before .before .loop in
-    filling-more (l .inv) (omega arith)
-    (called w32 (c .step-value .ok) (λ z. z) (c .step-value .ensures)
-    (rw (own (c .before .before .before .before), filling-rest (l .inv) (l .j) (pos 0) (le-refl (l .j)), element (s .args .flow .now) (s .pre .0 .flow-most) (l .j), element (s .args .first .now) (s .pre .0 .values .first-most) (l .j), element (s .args .second .now) (s .pre .0 .values .second-most) (l .j))))
+    let p = c .before in
+    filling-more (turn p .loop .inv) (omega arith) (called w32 (c .step-value .ok) (λ z. z) (c .step-value .ensures) (rw (own p, number p, values p .0, values p .1)))
 
 returns : tie.Need-returns Inv-loop μ-loop
 returns c = rw (toZ-ofZ w32 _ (c .before .before .fits .weight)) at (filling-all (c .before .loop .inv) (omega arith))
@@ -74,7 +81,7 @@ step-run-spec =
     (λ c. search needs)
     (λ c. search needs)
     (λ c. search needs)
-    loop-less
+    (λ c. search needs)
     loop-again
     (λ c. search needs)
     returns)

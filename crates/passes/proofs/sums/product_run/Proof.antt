@@ -4,7 +4,7 @@ use Prim.Native.Nat.{_-_, _≤_}
 use native.Mathlib.Omega.{arith}
 use borrow.Author.Needs.{needs}
 use lib.ListN.{length}
-use mir.Syntax.{w64}
+use mir.Syntax.{w32, w64}
 use mir.Val.{toZ, ofZ}
 use Rattle.integers.specs.Sum.{total}
 use Rattle.integers.proofs.Total.{total-zero, natAbs-total}
@@ -25,36 +25,42 @@ abbrev μ-loop : tie.MeasureT-loop
 loop-holds : tie.Need-loop-holds Inv-loop μ-loop
 loop-holds c = (omega arith, sym (total-zero _))
 
+-- ---- pair j is at hand
+
+module _ (c : tie.After-product-arg3 Inv-loop μ-loop) where
+  abbrev turn : tie.At-loop Inv-loop μ-loop
+  turn = c .before .before .before .before
+
+  abbrev entry : tie.Start Inv-loop μ-loop
+  entry = turn .before
+
+  -- its values, as they are read
+  values : (toZ w32 (ofZ w32 (at (entry .args .first .now) (turn .loop .j))) ≡ at (entry .args .first .now) (turn .loop .j)) × (toZ w32 (ofZ w32 (at (entry .args .second .now) (turn .loop .j))) ≡ at (entry .args .second .now) (turn .loop .j))
+  values = (element (entry .args .first .now) (entry .pre .values .first-most) (turn .loop .j), element (entry .args .second .now) (entry .pre .values .second-most) (turn .loop .j))
+
 product-requires : tie.Need-product-requires Inv-loop μ-loop
 product-requires c κs =
-    let s = c .before .before .before .before .before in
-    let j = c .before .before .before .before .loop .j in
-    let v = s .pre .values in
-    rw (element (s .args .first .now) (v .first-most) j, element (s .args .second .now) (v .second-most) j) (omega (arith, v .first-most j, v .second-most j))
+    let v = entry c .pre .values in
+    rw (values c .0, values c .1) (omega (arith, v .first-most (turn c .loop .j), v .second-most (turn c .loop .j)))
 
 -- the product at j
-term : (c : tie.After-product Inv-loop μ-loop) → let s = c .before .before .before .before .before .before in let j = c .before .before .before .before .before .loop .j in
-    toZ w64 (ofZ w64 (c .product .result)) ≡ productAt (at (s .args .flow .now)) (at (s .args .first .now)) (at (s .args .second .now)) j
+term : (c : tie.After-product Inv-loop μ-loop) → let a = entry (c .before) .args in
+    toZ w64 (ofZ w64 (c .product .result)) ≡ productAt (at (a .flow .now)) (at (a .first .now)) (at (a .second .now)) (turn (c .before) .loop .j)
 term c =
-    let s = c .before .before .before .before .before .before in
-    let j = c .before .before .before .before .before .loop .j in
-    read w64 (c .product .ok) ∙ c .product .ensures
-    ∙ rw (element (s .args .flow .now) (s .pre .flow-most) j, element (s .args .first .now) (s .pre .values .first-most) j, element (s .args .second .now) (s .pre .values .second-most) j)
+    let p = c .before in
+    read w64 (c .product .ok) ∙ c .product .ensures ∙ rw (element (entry p .args .flow .now) (entry p .pre .flow-most) (turn p .loop .j), values p .0, values p .1)
 
 add-wide-requires : tie.Need-add-wide-requires Inv-loop μ-loop
 add-wide-requires c κs =
-    let s = c .before .before .before .before .before .before in
-    let l = c .before .before .before .before .before .loop in
+    let s = entry (c .before) in
+    let l = turn (c .before) .loop in
     let each = product-most (at (s .args .first .now)) (at (s .args .second .now)) (s .pre .values .first-most) (s .pre .values .second-most) (at (s .args .flow .now)) (s .pre .flow-most) in
     rw (l .inv .1, term c)
     (omega (arith, s .pre .values .count-most, s .pre .flow-count, l .inv .0, natAbs-total (l .j) (productAt (at (s .args .flow .now)) (at (s .args .first .now)) (at (s .args .second .now))) (λ j _. each j), each (l .j)))
 
-loop-less : tie.Need-loop-less Inv-loop μ-loop
-loop-less c = search needs
-
 loop-again : tie.Need-loop-again Inv-loop μ-loop
 loop-again c =
-    let l = c .before .before .before .before .before .before .loop in
+    let l = turn (c .before .before) .loop in
     (omega arith, read w64 (c .add-wide .ok) ∙ c .add-wide .ensures ∙ total-more _ (l .j) (l .inv .1) (term (c .before)))
 
 returns : tie.Need-returns Inv-loop μ-loop
@@ -78,6 +84,6 @@ product-run-spec =
     product-requires
     add-wide-requires
     (λ c. search needs)
-    loop-less
+    (λ c. search needs)
     loop-again
     returns)

@@ -30,41 +30,45 @@ loop-holds c = (omega arith, sym (total-zero _))
 number-or-requires : tie.Need-number-or-requires Inv-loop μ-loop
 number-or-requires c κs = own-inside (c .before .before .pre .1) (omega arith)
 
--- the weight of pair j
-own : (c : tie.After-number-or Inv-loop μ-loop) → let s = c .before .before .before in
-    toZ w32 (ofZ w32 (c .number-or .result)) ≡ weightAt (pos 1) (s .args .weights .now) (c .before .before .loop .j)
-own c = read w32 (c .number-or .ok) ∙ c .number-or .ensures
+-- ---- pair j is at hand
+
+module _ (c : tie.After-variation-arg2 Inv-loop μ-loop) where
+  abbrev turn : tie.At-loop Inv-loop μ-loop
+  turn = c .before .before .before .before
+
+  abbrev entry : tie.Start Inv-loop μ-loop
+  entry = turn .before
+
+  -- its weight
+  own : toZ w32 (ofZ w32 (c .before .before .number-or .result)) ≡ weightAt (pos 1) (entry .args .weights .now) (turn .loop .j)
+  own = let n = c .before .before .number-or in read w32 (n .ok) ∙ n .ensures
+
+  -- its values, as they are read
+  values : (toZ w32 (ofZ w32 (at (entry .args .first .now) (turn .loop .j))) ≡ at (entry .args .first .now) (turn .loop .j)) × (toZ w32 (ofZ w32 (at (entry .args .second .now) (turn .loop .j))) ≡ at (entry .args .second .now) (turn .loop .j))
+  values = (element (entry .args .first .now) (entry .pre .0 .first-most) (turn .loop .j), element (entry .args .second .now) (entry .pre .0 .second-most) (turn .loop .j))
 
 variation-requires : tie.Need-variation-requires Inv-loop μ-loop
 variation-requires c κs =
-    let s = c .before .before .before .before .before in
-    let j = c .before .before .before .before .loop .j in
-    let v = s .pre .0 in
-    rw (own (c .before .before), element (s .args .first .now) (v .first-most) j, element (s .args .second .now) (v .second-most) j)
-    (own-least (s .pre .1) (0≤pos 1) j, omega (arith, v .first-most j, v .second-most j))
+    let s = entry c in
+    let j = turn c .loop .j in
+    rw (own c, values c .0, values c .1) (own-least (s .pre .1) (0≤pos 1) j, omega (arith, s .pre .0 .first-most j, s .pre .0 .second-most j))
 
 -- pair j's weight times the size of its fall
-term : (c : tie.After-variation Inv-loop μ-loop) → let s = c .before .before .before .before .before .before in
-    pos (c .variation .result) ≡ variationAt (weightAt (pos 1) (s .args .weights .now)) (at (s .args .first .now)) (at (s .args .second .now)) (c .before .before .before .before .before .loop .j)
-term c =
-    let s = c .before .before .before .before .before .before in
-    let j = c .before .before .before .before .before .loop .j in
-    c .variation .ensures ∙ rw (own (c .before .before .before), element (s .args .first .now) (s .pre .0 .first-most) j, element (s .args .second .now) (s .pre .0 .second-most) j)
+term : (c : tie.After-variation Inv-loop μ-loop) → let a = entry (c .before) .args in
+    pos (c .variation .result) ≡ variationAt (weightAt (pos 1) (a .weights .now)) (at (a .first .now)) (at (a .second .now)) (turn (c .before) .loop .j)
+term c = let p = c .before in c .variation .ensures ∙ rw (own p, values p .0, values p .1)
 
 add-sum : tie.Need-add-sum Inv-loop μ-loop
 add-sum c =
-    let s = c .before .before .before .before .before .before in
-    let l = c .before .before .before .before .before .loop in
+    let s = entry (c .before) in
+    let l = turn (c .before) .loop in
     let weight = weightAt (pos 1) (s .args .weights .now) in
     let each = variation-most (at (s .args .first .now)) (at (s .args .second .now)) (s .pre .0 .first-most) (s .pre .0 .second-most) weight (own-most (s .pre .1)) in
     record { fits = omega (arith, s .pre .0 .count-most, l .inv .0, ap natAbs (l .inv .1), natAbs-total (l .j) (variationAt weight (at (s .args .first .now)) (at (s .args .second .now))) (λ j _. each j), ap natAbs (term c), each (l .j)) }
 
-loop-less : tie.Need-loop-less Inv-loop μ-loop
-loop-less c = search needs
-
 loop-again : tie.Need-loop-again Inv-loop μ-loop
 loop-again c =
-    let l = c .before .before .before .before .before .loop in
+    let l = turn (c .before) .loop in
     (omega arith, total-more _ (l .j) (l .inv .1) (term c))
 
 returns : tie.Need-returns Inv-loop μ-loop
@@ -87,6 +91,6 @@ variation-run-spec =
     variation-requires
     add-sum
     (λ c. search needs)
-    loop-less
+    (λ c. search needs)
     loop-again
     returns)
