@@ -31,25 +31,34 @@ abbrev μ-loop : tie.MeasureT-loop
 loop-holds : tie.Need-loop-holds Inv-loop μ-loop
 loop-holds c = (omega arith, filling-none _ _, refl)
 
+-- ---- column c is at hand
+
+module _ (c : tie.After-shared-slice-known2 Inv-loop μ-loop) where
+  abbrev turn : tie.At-loop Inv-loop μ-loop
+  turn = c .before .before .before
+
+  abbrev entry : tie.Start Inv-loop μ-loop
+  entry = turn .before .before
+
+  -- the number to its right, as it is read
+  right : toZ w32 (ofZ w32 (at (entry .args .across .now) (turn .loop .c))) ≡ at (entry .args .across .now) (turn .loop .c)
+  right = element (entry .args .across .now) (entry .pre .across-most) (turn .loop .c)
+
 column-value-requires : tie.Need-column-value-requires Inv-loop μ-loop
 column-value-requires c κs =
-    let s = c .before .before .before .before .before in
-    let l = c .before .before .before .loop in
-    rw (element (s .args .across .now) (s .pre .across-most) (l .c), l .inv .2)
-    (column-limits (s .pre) (l .c) (omega (arith, s .pre)) (at (s .args .across .now) (l .c)) (s .pre .across-most (l .c)))
-
-loop-less : tie.Need-loop-less Inv-loop μ-loop
-loop-less c = search needs
+    let s = entry c in
+    let l = turn c .loop in
+    rw (right c, l .inv .2) (column-limits (s .pre) (l .c) (omega (arith, s .pre)) (at (s .args .across .now) (l .c)) (s .pre .across-most (l .c)))
 
 loop-again : tie.Need-loop-again Inv-loop μ-loop
 loop-again c =
-    let s = c .before .before .before .before .before .before in
-    let l = c .before .before .before .before .loop in
-    let right = element (s .args .across .now) (s .pre .across-most) (l .c) in (
+    let l = turn (c .before) .loop in (
       omega arith,
-      filling-more (l .inv .1) (omega (arith, s .pre)) (rw (read w32 {r = c .column-value .result} (c .column-value .ok), c .column-value .ensures, right, l .inv .2)),
-      rw (add-one (l .c)) right,
+      filling-more (l .inv .1) (omega (arith, entry (c .before) .pre)) (rw (read w32 {r = c .column-value .result} (c .column-value .ok), c .column-value .ensures, right (c .before), l .inv .2)),
+      rw (add-one (l .c)) (right (c .before)),
     )
+
+-- ---- the last column is at hand
 
 column-value-requires-2 : tie.Need-column-value-requires-2 Inv-loop μ-loop
 column-value-requires-2 c κs =
@@ -59,8 +68,9 @@ column-value-requires-2 c κs =
 
 returns : tie.Need-returns Inv-loop μ-loop
 returns c =
-    let s = c .before .before .before .before .before in
-    let l = c .before .before .before .loop in
+    let i = c .before .before .before in
+    let s = i .before .before in
+    let l = i .loop in
     let past : at (s .args .across .now) (l .c) ≡ pos 0 = List·getD-eq-default (s .args .across .now) (pos 0) (omega arith) in
     let row =
     rw (toZ-ofZ w32 _ (s .fits .low), toZ-ofZ w32 _ (s .fits .high))
@@ -84,7 +94,7 @@ image-row-spec =
     (λ c. search needs)
     (λ c. search needs)
     (λ c. search needs)
-    loop-less
+    (λ c. search needs)
     loop-again
     (λ c. search needs)
     column-value-requires-2

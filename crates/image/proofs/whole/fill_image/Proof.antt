@@ -23,19 +23,22 @@ abbrev μ-loop : tie.MeasureT-loop
 loop-holds : tie.Need-loop-holds Inv-loop μ-loop
 loop-holds c = (omega arith, rw (zero-mul (c .before .args .s .width)) (filling-none _ _))
 
-fill-row-requires : tie.Need-fill-row-requires Inv-loop μ-loop
-fill-row-requires c κs =
-    let s = c .before .before .before .before .before in
-    let l = c .before .before .before .loop in
-    record { raster = same-raster (s .pre) (l .inv .1 .long); row-most = omega arith }
+-- ---- row r is at hand
 
-loop-less : tie.Need-loop-less Inv-loop μ-loop
-loop-less c = search needs
+module _ (c : tie.After-fill-row-arg Inv-loop μ-loop) where
+  abbrev turn : tie.At-loop Inv-loop μ-loop
+  turn = c .before .before .before
+
+  abbrev entry : tie.Start Inv-loop μ-loop
+  entry = turn .before .before
+
+fill-row-requires : tie.Need-fill-row-requires Inv-loop μ-loop
+fill-row-requires c κs = record { raster = same-raster (entry c .pre) (turn c .loop .inv .1 .long); row-most = omega arith }
 
 loop-again : tie.Need-loop-again Inv-loop μ-loop
 loop-again c =
-    let s = c .before .before .before .before .before .before .before in
-    let l = c .before .before .before .before .before .loop in
+    let s = entry (c .before .before) in
+    let l = turn (c .before .before) .loop in
     let w = s .args .s .width in
     let next : (l .r + 1) * w ≡ l .r * w + w = omega arith in
     let inside : l .r < s .args .s .height = omega arith in (
@@ -63,7 +66,7 @@ fill-image-spec =
     loop-holds
     fill-row-requires
     (λ c. search needs)
-    loop-less
+    (λ c. search needs)
     loop-again
     same-length
     returns)

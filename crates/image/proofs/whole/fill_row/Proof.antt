@@ -2,9 +2,10 @@
 use Prim.Native.Nat.{_*_}
 use native.Mathlib.Omega.{arith}
 use borrow.Author.Needs.{needs}
+use lib.ListN.{length}
 use mir.Syntax.{w32}
 use mir.ValLaws.{toZ-ofZ}
-use Rattle.image.proofs.RowParts.{row-ends, row-limits, row-table, row-put}
+use Rattle.image.proofs.RowParts.{RowEnds, row-ends, row-limits, row-table, row-put}
 use Rattle.image.proofs.whole.fill_row.Statement.{statement}
 use Rattle.image.proofs.whole.fill_row.Tie as tie
 
@@ -14,55 +15,30 @@ mul-start c = record { fits = omega (arith, row-ends (c .before .pre)) }
 add-end : tie.Need-add-end
 add-end c = record { fits = omega (arith, row-ends (c .before .pre)) }
 
-mul-across-start : tie.Need-mul-across-start
-mul-across-start c = record { fits = omega (arith, row-ends (c .before .before .before .pre)) }
+-- ---- the ends of the parts are known
 
-add-across-start : tie.Need-add-across-start
-add-across-start c = record { fits = omega (arith, row-ends (c .before .before .before .pre)) }
+module _ (c : tie.After-before2) where
+  abbrev entry : tie.Start
+  entry = c .before .before .before
 
-add-across-end : tie.Need-add-across-end
-add-across-end c = record { fits = omega (arith, row-ends (c .before .before .before .pre)) }
+  ends : RowEnds (entry .args .width) (entry .args .height) (entry .args .r) (length (entry .args .image .now)) (length (entry .args .samples .now)) (length (entry .args .flow .now))
+  ends = row-ends (entry .pre)
 
-mul-image-row : tie.Need-mul-image-row
-mul-image-row c = record { fits = omega (arith, row-ends (c .before .before .before .pre)) }
-
-part-image-row-end : tie.Need-part-image-row-end
-part-image-row-end c = omega (arith, row-ends (c .before .before .before .pre))
-
-part-image-row-end-2 : tie.Need-part-image-row-end-2
-part-image-row-end-2 c = omega (arith, row-ends (c .before .before .before .before .pre))
-
-mul-image-row-2 : tie.Need-mul-image-row-2
-mul-image-row-2 c = record { fits = omega (arith, row-ends (c .before .before .before .before .before .pre)) }
-
-sub-image-row-3 : tie.Need-sub-image-row-3
-sub-image-row-3 c = omega (arith, row-ends (c .before .before .before .before .before .pre))
-
-part-image-row-start-3 : tie.Need-part-image-row-start-3
-part-image-row-start-3 c = omega (arith, row-ends (c .before .before .before .before .before .pre))
-
-part-image-row-end-3 : tie.Need-part-image-row-end-3
-part-image-row-end-3 c = omega (arith, row-ends (c .before .before .before .before .before .pre))
-
-mul-image-row-3 : tie.Need-mul-image-row-3
-mul-image-row-3 c = record { fits = omega (arith, row-ends (c .before .before .before .before .before .before .pre)) }
-
-part-image-row-end-4 : tie.Need-part-image-row-end-4
-part-image-row-end-4 c = omega (arith, row-ends (c .before .before .before .before .before .before .pre))
-
-mul-image-row-4 : tie.Need-mul-image-row-4
-mul-image-row-4 c = record { fits = omega (arith, row-ends (c .before .before .before .before .before .before .before .pre)) }
-
-part-image-row-end-5 : tie.Need-part-image-row-end-5
-part-image-row-end-5 c = omega (arith, row-ends (c .before .before .before .before .before .before .before .pre))
+-- ---- the parts are at hand
 
 image-row-requires : tie.Need-image-row-requires
-image-row-requires c κs = rw (c .before .before .before .before .before .before .least .ensures, c .before .before .before .before .before .before2 .ensures) (row-limits (c .before .before .before .before .before .before .before .before .pre))
+image-row-requires c κs =
+    let lent = c .before .before .before .before in
+    let b = lent .before in
+    rw (b .before .least .ensures, b .before2 .ensures) (row-limits (entry b .pre))
 
 returns : tie.Need-returns
 returns c =
-    let s = c .before .before .before .before .before .before .before .before .before .before in
-    let row = rw (c .before .before .before .before .before .before .before .before .least .ensures, c .before .before .before .before .before .before .before .before2 .ensures, toZ-ofZ w32 _ (s .fits .low), toZ-ofZ w32 _ (s .fits .high), row-table (s .pre) (s .args .low) (s .args .high)) at (c .before .image-row .ensures .0) in
+    let parts = c .before .before in
+    let lent = parts .before .before .before .before in
+    let b = lent .before in
+    let s = entry b in
+    let row = rw (b .before .least .ensures, b .before2 .ensures, toZ-ofZ w32 _ (s .fits .low), toZ-ofZ w32 _ (s .fits .high), row-table (s .pre) (s .args .low) (s .args .high)) at (c .before .image-row .ensures .0) in
     row-put (s .args .r * s .args .width) (s .args .width) _ (s .args .image .now) row
 
 pub fill-row-spec : {M : Type 1} → statement M
@@ -76,29 +52,29 @@ fill-row-spec =
     (λ c κs. search needs)
     (λ c κs. search needs)
     (λ c. search needs)
-    mul-across-start
-    add-across-start
+    (λ c. record { fits = omega (arith, ends c) })
+    (λ c. record { fits = omega (arith, ends c) })
     (λ c. search needs)
-    add-across-end
-    mul-image-row
-    (λ c. search needs)
-    (λ c. search needs)
-    part-image-row-end
+    (λ c. record { fits = omega (arith, ends c) })
+    (λ c. record { fits = omega (arith, ends c) })
     (λ c. search needs)
     (λ c. search needs)
-    part-image-row-end-2
-    mul-image-row-2
-    sub-image-row-3
-    part-image-row-start-3
-    part-image-row-end-3
-    mul-image-row-3
+    (λ c. omega (arith, ends c))
     (λ c. search needs)
     (λ c. search needs)
-    part-image-row-end-4
-    mul-image-row-4
+    (λ c. omega (arith, ends (c .before)))
+    (λ c. record { fits = omega (arith, ends (c .before .before)) })
+    (λ c. omega (arith, ends (c .before .before)))
+    (λ c. omega (arith, ends (c .before .before)))
+    (λ c. omega (arith, ends (c .before .before)))
+    (λ c. record { fits = omega (arith, ends (c .before .before .before)) })
     (λ c. search needs)
     (λ c. search needs)
-    part-image-row-end-5
+    (λ c. omega (arith, ends (c .before .before .before)))
+    (λ c. record { fits = omega (arith, ends (c .before .before .before .before)) })
+    (λ c. search needs)
+    (λ c. search needs)
+    (λ c. omega (arith, ends (c .before .before .before .before)))
     image-row-requires
     (λ c. search needs)
     returns)
