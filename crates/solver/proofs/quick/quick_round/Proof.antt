@@ -1,7 +1,7 @@
 -- `solver::quick::quick_round` meets its contract: the earlier flow is copied, then the second half lent. Assumes nothing.
 use mathlib.Core.Path.{sym, ap, ap₂, _∙_, subst}
 use mathlib.Core.List.{List, _++_}
-use Prim.Native.Nat.{_+_, _≤_}
+use Prim.Native.Nat.{_≤_}
 use native.Mathlib.Omega.{arith}
 use borrow.Author.Needs.{needs}
 use lib.IntN.{ℤ}
@@ -24,9 +24,14 @@ slice-aggregate-copy c = sym (length-take-le _ _ (shorter (c .before .before)))
 copy-requires : tie.Need-copy-requires
 copy-requires c κs = length-take-le _ _ (shorter (c .before .before .before))
 
+-- ---- the earlier flow is copied, and the second half lent
+
+abbrev copied : tie.After-advance-round-arg3 → tie.After-copy
+copied c = c .before .before .before .before
+
 advance-round-requires : tie.Need-advance-round-requires
 advance-round-requires c κs =
-    let k = c .before .before .before .before in
+    let k = copied c in
     let s = k .before .before .before .before in (
       rw (toZ-ofZ w32 _ (s .fits .lower), toZ-ofZ w32 _ (s .fits .upper)) (s .pre .0),
       subst
@@ -38,7 +43,7 @@ advance-round-requires c κs =
 returns : tie.Need-returns
 returns c =
     let a = c .before .before .before in
-    let k = a .before .before .before .before .before in
+    let k = copied (a .before) in
     let s = k .before .before .before .before in
     let size = ap length (k .copy .ensures) in
     let half = second-half (k .copy .last .0) (s .args .work .now) size in (

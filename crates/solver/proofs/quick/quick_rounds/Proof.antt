@@ -15,49 +15,51 @@ Inv-loop t lower upper quick samples weights flow₀ image₀ work₀ momentum�
 abbrev μ-loop : tie.MeasureT-loop
 μ-loop t lower upper quick samples weights flow₀ image₀ work₀ momentum₀ k₀ flow image work momentum k = quick - k
 
+-- ---- the flow and the work buffer are cleared
+
+module _ (c : tie.After-work Inv-loop μ-loop) where
+  abbrev flow-cleared : tie.After-clear Inv-loop μ-loop
+  flow-cleared = c .before .before .before .before
+
+  abbrev entry : tie.Start Inv-loop μ-loop
+  entry = flow-cleared .before .before .before
+
 loop-holds : tie.Need-loop-holds Inv-loop μ-loop
-loop-holds c =
-    let s = c .before .before .before .before .before .before .before in
-    turned-none (s .pre .1) (c .before .before .before .before .clear .ensures) (c .before .clear2 .ensures)
+loop-holds c = turned-none (entry c .pre .1) (flow-cleared c .clear .ensures) (c .before .clear2 .ensures)
+
+-- ---- round k is at hand
+
+abbrev turn : tie.After-quick-round-arg3 Inv-loop μ-loop → tie.At-loop Inv-loop μ-loop
+turn c = c .before .before .before .before
 
 quick-round-requires : tie.Need-quick-round-requires Inv-loop μ-loop
 quick-round-requires c κs =
-    let i = c .before .before .before .before in
-    let s = i .before .before .before .before .before .before .before .before in
+    let i = turn c in
+    let s = entry (i .before) in
     (rw (toZ-ofZ w32 _ (s .fits .lower), toZ-ofZ w32 _ (s .fits .upper)) (s .pre .0), turned-work (i .loop .inv), turned-ready (i .loop .inv) (s .pre .1) (omega arith))
-
-loop-less : tie.Need-loop-less Inv-loop μ-loop
-loop-less c = search needs
 
 loop-again : tie.Need-loop-again Inv-loop μ-loop
 loop-again c =
     let q = c .before .before .before in
-    let i = q .before .before .before .before .before in
-    turned-more (i .loop .inv) (omega arith) (c .before .image .given) (q .quick-round .ensures .0) (q .quick-round .ensures .1 .0) (q .quick-round .ensures .1 .1 .0) (q .quick-round .ensures .1 .1 .1)
+    turned-more (turn (q .before) .loop .inv) (omega arith) (c .before .image .given) (q .quick-round .ensures .0) (q .quick-round .ensures .1 .0) (q .quick-round .ensures .1 .1 .0) (q .quick-round .ensures .1 .1 .1)
+
+-- ---- all rounds are done
 
 same-length : tie.Need-same-length Inv-loop μ-loop
-same-length c =
-    let i = c .before in
-    let s = i .before .before .before .before .before .before .before .before in
-    turned-length (i .loop .inv) ∙ sym (s .pre .1 .lengths .flow-length)
+same-length c = let i = c .before in turned-length (i .loop .inv) ∙ sym (entry (i .before) .pre .1 .lengths .flow-length)
 
 same-length-2 : tie.Need-same-length-2 Inv-loop μ-loop
-same-length-2 c =
-    let i = c .before in
-    let s = i .before .before .before .before .before .before .before .before in
-    i .loop .inv .image-length ∙ sym (s .pre .1 .lengths .image-length)
+same-length-2 c = let i = c .before in i .loop .inv .image-length ∙ sym (entry (i .before) .pre .1 .lengths .image-length)
 
 same-length-3 : tie.Need-same-length-3 Inv-loop μ-loop
 same-length-3 c =
     let i = c .before in
-    let s = i .before .before .before .before .before .before .before .before in
-    turned-work (i .loop .inv) ∙ ap (λ (n : ℕ). 2 * n) (same-length c) ∙ sym (s .pre .1 .work-length)
+    turned-work (i .loop .inv) ∙ ap (λ (n : ℕ). 2 * n) (same-length c) ∙ sym (entry (i .before) .pre .1 .work-length)
 
 returns : tie.Need-returns Inv-loop μ-loop
 returns c =
     let i = c .before in
-    let s = i .before .before .before .before .before .before .before .before in
-    let k : i .loop .k ≡ s .args .quick = omega (arith, i .loop .inv .round-most) in
+    let k : i .loop .k ≡ entry (i .before) .args .quick = omega (arith, i .loop .inv .round-most) in
     let v = i .loop .inv in
     (rw k at (v .flow-is), (rw k at (v .image-is), rw k at (v .work-is)))
 
@@ -72,7 +74,7 @@ quick-rounds-spec =
     loop-holds
     quick-round-requires
     (λ c. search needs)
-    loop-less
+    (λ c. search needs)
     loop-again
     same-length
     same-length-2

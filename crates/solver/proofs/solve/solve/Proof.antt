@@ -32,10 +32,20 @@ module _ (c : tie.After-quick-rounds) where
   unfolding quickFlow
   iterate = c .quick-rounds .ensures .0
 
+-- ---- the work buffer is cleared
+
+module _ (c : tie.After-clear) where
+  abbrev imaged : tie.After-image
+  imaged = c .before .before .before
+
+  abbrev rounds : tie.After-quick-rounds
+  rounds = imaged .before .before
+
 steady-rounds-requires : tie.Need-steady-rounds-requires
 unfolding quickFlow
 steady-rounds-requires c κs =
-    let q = c .before .before .before .before .before .before .before .before in
+    let w = c .before .before .before in
+    let q = rounds w in
     let s = entry q in
     let p = s .pre .1 in (
       rw (toZ-ofZ w32 _ (s .fits .lower), toZ-ofZ w32 _ (s .fits .upper)) (s .pre .0),
@@ -46,7 +56,7 @@ steady-rounds-requires c κs =
             record {
               samples-length = p .lengths .samples-length;
               flow-length = ap length (iterate q) ∙ iterate-size eighth (problem q) (s .args .quick);
-              image-length = c .before .before .before .before .before .before .image .given ∙ p .lengths .image-length;
+              image-length = imaged w .image .given ∙ p .lengths .image-length;
             };
         flow-most = subst (Within (limit .weight)) (sym (iterate q)) (iterate-within eighth (s .args .t) (s .args .samples .now) (s .args .weights .now) (p .limits) (p .pair-weights) (s .args .quick));
       },
@@ -59,7 +69,7 @@ unfolding ending
 returns c =
     let l = c .before .before in
     let w = l .before .before .before .before in
-    let q = w .before .before .before .before .before in
+    let q = rounds w in
     let s = entry q in
     let left = l .steady-rounds .ensures in
     let from : List ℤ → Steady = steadyRounds nearestEighth (problem q) (s .args .allowance) in

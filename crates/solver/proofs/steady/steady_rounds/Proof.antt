@@ -3,12 +3,13 @@ use mathlib.Core.Path.{_≡_, sym, ap, _∙_}
 use mathlib.Core.Bool.{true, true≢false}
 use mathlib.Core.List.{List}
 use mathlib.Core.Logic.{⊎-elim}
-use Prim.Native.Nat.{_-_, _≤_}
+use Prim.Native.Nat.{_-_, _≤_, _<_}
 use native.Mathlib.Omega.{arith}
 use borrow.Author.Needs.{needs}
 use borrow.Author.Tests.{leb-true, leb-false, not-true, not-false}
-use lib.IntN.{ℤ}
+use lib.IntN.{ℤ, pos}
 use mir.Syntax.{w32}
+use mir.Val.{toZ, ofZ}
 use mir.ValLaws.{toZ-ofZ}
 use Rattle.integers.proofs.Machine.{read}
 use Rattle.model.specs.Grid.{limit, grid}
@@ -43,87 +44,91 @@ some-moves-requires c κs =
     let s = i .before .before .before .before in
     (rw (toZ-ofZ w32 _ (s .fits .lower), toZ-ofZ w32 _ (s .fits .upper)) (s .pre .0), i .loop .inv .0)
 
+-- ---- it is known whether a pair would move
+
+module _ (c : tie.After-some-moves Inv-loop μ-loop) where
+  abbrev turn : tie.At-loop Inv-loop μ-loop
+  turn = c .before .before .before
+
+  abbrev entry : tie.Start Inv-loop μ-loop
+  entry = turn .before .before .before .before
+
+  -- the weight, as it is read
+  weight-is : toZ w32 (ofZ w32 (turn .before .natural .result)) ≡ pos (entry .args .t .weight)
+  weight-is = let n = turn .before .natural in read w32 (n .ok) ∙ n .ensures
+
 same-length : tie.Need-same-length Inv-loop μ-loop
-same-length c =
-    let i = c .before .before .before .before .before in
-    let s = i .before .before .before .before in
-    i .loop .inv .0 .lengths .flow-length ∙ sym (s .pre .1 .lengths .flow-length)
+same-length c = let m = c .before .before in turn m .loop .inv .0 .lengths .flow-length ∙ sym (entry m .pre .1 .lengths .flow-length)
 
 same-length-2 : tie.Need-same-length-2 Inv-loop μ-loop
 same-length-2 c =
-    let i = c .before .before .before .before .before in
-    let s = i .before .before .before .before in
-    image-size (s .args .t) (s .args .samples .now) (i .loop .flow) (c .before .before .some-moves .ensures .0) ∙ sym (s .pre .1 .lengths .image-length)
+    let m = c .before .before in
+    let s = entry m in
+    image-size (s .args .t) (s .args .samples .now) (turn m .loop .flow) (m .some-moves .ensures .0) ∙ sym (s .pre .1 .lengths .image-length)
 
 -- the loop is left where no pair would move, or with the allowance used up
-over : (c : tie.Joined1 Inv-loop μ-loop) →
-    let i = c .before .before .before .before .before in
-    let s = i .before .before .before .before in
-    c .before .before .some-moves .result ≡ true → s .args .allowance ≤ i .loop .moved
-over c m =
+over : (c : tie.Joined1 Inv-loop μ-loop) → let m = c .before .before in m .some-moves .result ≡ true → entry m .args .allowance ≤ turn m .loop .moved
+over c h =
     ⊎-elim
-    (λ w. absurd (true≢false (sym m ∙ not-true _ (w .taken))))
+    (λ w. absurd (true≢false (sym h ∙ not-true _ (w .taken))))
     (λ w. leb-true _ _ (w .1 .taken))
     (c .if1 .came)
 
 returns : tie.Need-returns Inv-loop μ-loop
 returns c =
-    let i = c .before .before .before .before .before in
     let m = c .before .before .some-moves in
-    let e = rested-end (i .loop .inv .1) (m .result) (m .ensures .1) (over c) in (
+    let e = rested-end (turn (c .before .before) .loop .inv .1) (m .result) (m .ensures .1) (over c) in (
       sym (ap (λ (z : Steady). z .flow) e),
       (m .ensures .0, (omega (arith, ap (λ (z : Steady). z .moved) e), sym (ap (λ (z : Steady). z .settled) e))),
     )
 
+-- ---- a round goes on
+
+module _ (c : tie.After-step-pairs-arg2 Inv-loop μ-loop) where
+  abbrev searched : tie.After-some-moves Inv-loop μ-loop
+  searched = c .before .before .before .before .before
+
+  -- the allowance is not used up
+  left : turn searched .loop .moved < entry searched .args .allowance
+  left = leb-false _ _ (c .before .before .if2 .left)
+
 step-pairs-requires : tie.Need-step-pairs-requires Inv-loop μ-loop
 step-pairs-requires c κs =
-    let m = c .before .before .before .before .before in
-    let i = m .before .before .before in
-    let s = i .before .before .before .before in
-    let n = i .before in
-    let k = n .before .shape-of .ensures .1 in
-    rw (n .before .shape-of .ensures .0, read w32 (n .natural .ok), n .natural .ensures) (
-      flow-limits (s .args .t) (s .args .samples .now) (s .pre .1 .limits) (i .loop .inv .0 .lengths .flow-length) (flow-most (i .loop .flow) (i .loop .inv .0 .flow-most)) (k .low-byte) (k .high-byte) (m .some-moves .ensures .0),
+    let m = searched c in
+    let i = turn m in
+    let s = entry m in
+    let k = i .before .before .shape-of .ensures in
+    rw (k .0, weight-is m) (
+      flow-limits (s .args .t) (s .args .samples .now) (s .pre .1 .limits) (i .loop .inv .0 .lengths .flow-length) (flow-most (i .loop .flow) (i .loop .inv .0 .flow-most)) (k .1 .low-byte) (k .1 .high-byte) (m .some-moves .ensures .0),
       pair-weights (s .args .t) (s .args .weights .now) (s .pre .1 .limits) (s .pre .1 .pair-weights),
     )
 
 -- a step on the flow
-stepped : (c : tie.After-step-pairs Inv-loop μ-loop) →
-    let i = c .before .before .before .before .before .before .before .before .before in
-    let s = i .before .before .before .before in
-    c .step-pairs .last .0 ≡ step nearestEighth (grid (s .args .t) (s .args .samples .now) (s .args .weights .now)) (i .loop .flow)
+stepped : (c : tie.After-step-pairs Inv-loop μ-loop) → let m = searched (c .before) in let s = entry m in
+    c .step-pairs .last .0 ≡ step nearestEighth (grid (s .args .t) (s .args .samples .now) (s .args .weights .now)) (turn m .loop .flow)
 stepped c =
-    let m = c .before .before .before .before .before .before in
-    let i = m .before .before .before in
-    let s = i .before .before .before .before in
-    let n = i .before in
-    rw (n .before .shape-of .ensures .0, read w32 (n .natural .ok), n .natural .ensures, i .loop .inv .0 .lengths .flow-length) at (c .step-pairs .ensures)
+    let m = searched (c .before) in
+    let i = turn m in
+    let s = entry m in
+    rw (i .before .before .shape-of .ensures .0, weight-is m, i .loop .inv .0 .lengths .flow-length) at (c .step-pairs .ensures)
     ∙ stepped-is (s .args .t) (s .args .samples .now) (s .args .weights .now) (i .loop .flow) (m .some-moves .ensures .0) nearestEighth (s .pre .1 .pair-weights)
 
 add-moved : tie.Need-add-moved Inv-loop μ-loop
-add-moved c =
-    let e = c .before .before .before .before in
-    let i = e .before .before .before .before .before .before in
-    let s = i .before .before .before .before in
-    record { fits = omega (arith, s .fits .allowance .fits, leb-false (s .args .allowance) (i .loop .moved) (e .if2 .left)) }
+add-moved c = let p = c .before .before in record { fits = omega (arith, entry (searched p) .fits .allowance .fits, left p) }
 
 loop-less : tie.Need-loop-less Inv-loop μ-loop
-loop-less c =
-    let e = c .before .before .before .before in
-    let i = e .before .before .before .before .before .before in
-    let s = i .before .before .before .before in
-    omega (arith, leb-false (s .args .allowance) (i .loop .moved) (e .if2 .left))
+loop-less c = omega (arith, left (c .before .before))
 
 loop-again : tie.Need-loop-again Inv-loop μ-loop
 loop-again c =
     let g = c .before in
-    let m = g .before .before .before .before .before .before in
-    let i = m .before .before .before in
-    let s = i .before .before .before .before in
-    let e = stepped g in
-    let b = g .before .before .before .before .if1 .left in (
-      ready-more nearestEighth (i .loop .inv .0) e (image-size (s .args .t) (s .args .samples .now) (i .loop .flow) (m .some-moves .ensures .0)),
-      rested-more (i .loop .inv .1) (sym (m .some-moves .ensures .1) ∙ not-false _ b) (leb-false _ _ (g .before .before .before .if2 .left)) e,
+    let p = g .before in
+    let m = searched p in
+    let i = turn m in
+    let s = entry m in
+    let b = p .before .before .before .if1 .left in (
+      ready-more nearestEighth (i .loop .inv .0) (stepped g) (image-size (s .args .t) (s .args .samples .now) (i .loop .flow) (m .some-moves .ensures .0)),
+      rested-more (i .loop .inv .1) (sym (m .some-moves .ensures .1) ∙ not-false _ b) (left p) (stepped g),
     )
 
 pub steady-rounds-spec : {M : Type 1} → statement M
