@@ -22,8 +22,9 @@ use Rattle.calls.proofs.check.check.Tie as tie
 returns : tie.Need-returns
 unfolding checkVerdict
 returns c =
-    let s = c .before .before .before .before .before in
-    let h = sym (c .before .before .before .judge-check .ensures) ∙ c .before .verdict .given .1 in
+    let j = c .before .before .before in
+    let s = j .before .before in
+    let h = sym (j .judge-check .ensures) ∙ c .before .verdict .given .1 in
     let t = s .args .t in
     let b = s .args .samples .now in
     let o = s .args .weights .now in
@@ -33,26 +34,31 @@ returns c =
     let g = sym (check-image t b o f x h) in
     (e, (g, (zero-as e (check-number t b o f x), check-demand t b o f x e g)))
 
--- past the verdict
-accepted : (c : tie.After-enum-told) → let s = c .before .before .before .before in
-    checkVerdict (s .args .t) (s .args .samples .now) (s .args .weights .now) (s .args .flow .now) (s .args .image .now) ≡ Verdict.Accept
-unfolding checkVerdict
-accepted c = sym (c .before .before .judge-check .ensures) ∙ c .enum-told .given .1
+-- ---- past the verdict
 
-facts : (c : tie.After-enum-told) → let s = c .before .before .before .before in
-    CheckAllowed (s .args .t) (s .args .samples .now) (s .args .weights .now) (s .args .flow .now) (s .args .image .now)
-facts c = let s = c .before .before .before .before in check-accepted (s .args .t) (s .args .samples .now) (s .args .weights .now) (s .args .flow .now) (s .args .image .now) .0 (accepted c)
+module _ (c : tie.After-enum-told) where
+  abbrev entry : tie.Start
+  entry = c .before .before .before .before
 
-feasible : (c : tie.After-enum-told) → let s = c .before .before .before .before in
-    Feasible (grid (s .args .t) (s .args .samples .now) (s .args .weights .now)) (at (s .args .flow .now))
-feasible c =
-    let s = c .before .before .before .before in
-    check-feasible (s .args .t) (s .args .samples .now) (s .args .weights .now) (s .args .flow .now) (s .args .image .now) (facts c)
+  accepted : checkVerdict (entry .args .t) (entry .args .samples .now) (entry .args .weights .now) (entry .args .flow .now) (entry .args .image .now) ≡ Verdict.Accept
+  unfolding checkVerdict
+  accepted = sym (c .before .before .judge-check .ensures) ∙ c .enum-told .given .1
+
+  facts : CheckAllowed (entry .args .t) (entry .args .samples .now) (entry .args .weights .now) (entry .args .flow .now) (entry .args .image .now)
+  facts = check-accepted (entry .args .t) (entry .args .samples .now) (entry .args .weights .now) (entry .args .flow .now) (entry .args .image .now) .0 accepted
+
+  feasible : Feasible (grid (entry .args .t) (entry .args .samples .now) (entry .args .weights .now)) (at (entry .args .flow .now))
+  feasible = check-feasible (entry .args .t) (entry .args .samples .now) (entry .args .weights .now) (entry .args .flow .now) (entry .args .image .now) facts
+
+-- ---- the ends of the box are at hand
+
+abbrev past : tie.After-fill-image-arg → tie.After-enum-told
+past c = c .before .before .before .before
 
 fill-image-requires : tie.Need-fill-image-requires
 fill-image-requires c κs =
-    let e = c .before .before .before .before in
-    let s = e .before .before .before .before in
+    let e = past c in
+    let s = entry e in
     let a = facts e in
     let t = s .args .t in
     rw (c .before .before .before .shape-of .ensures .0)
@@ -66,12 +72,12 @@ fill-image-requires c κs =
     })
 
 -- the image is the flow's
-filled : (c : tie.After-fill-image) → let s = c .before .before .before .before .before .before .before .before .before in
+filled : (c : tie.After-fill-image) → let s = entry (past (c .before)) in
     c .fill-image .last .0 ≡ imageOf (s .args .t) (s .args .samples .now) (s .args .flow .now)
 filled c =
     let high = c .before .before in
     let low = high .before in
-    let s = low .before .before .before .before .before .before in
+    let s = entry (past (c .before)) in
     rw (low .before .shape-of .ensures .0) at (c .fill-image .ensures)
     ∙ image-is (s .args .t) (s .args .samples .now) (s .args .flow .now)
     (record { low-is = read w32 (low .low-end .ok) ∙ low .low-end .ensures; high-is = read w32 (high .high-end .ok) ∙ high .high-end .ensures })
@@ -79,7 +85,7 @@ filled c =
 of-flow-requires : tie.Need-of-flow-requires
 of-flow-requires c κs =
     let i = c .before .before in
-    let e = i .before .before .before .before .before in
+    let e = past (i .before) in
     let a = facts e in
     record {
       terms = a .terms;
@@ -93,8 +99,8 @@ of-flow-requires c κs =
 returns-2 : tie.Need-returns-2
 returns-2 c =
     let i = c .before .before .before in
-    let e = i .before .before .before .before .before in
-    let s = e .before .before .before .before in
+    let e = past (i .before) in
+    let s = entry e in
     let t = s .args .t in
     let b = s .args .samples .now in
     let o = s .args .weights .now in

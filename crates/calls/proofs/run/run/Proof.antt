@@ -28,8 +28,9 @@ use Rattle.calls.proofs.run.run.Tie as tie
 returns : tie.Need-returns
 unfolding runVerdict
 returns c =
-    let s = c .before .before .before .before .before in
-    let h = sym (c .before .before .before .judge-run .ensures) ∙ c .before .verdict .given .1 in
+    let j = c .before .before .before in
+    let s = j .before .before in
+    let h = sym (j .judge-run .ensures) ∙ c .before .verdict .given .1 in
     let t = s .args .t in
     let b = s .args .samples .now in
     let o′ = s .args .weights .now in
@@ -42,20 +43,21 @@ returns c =
     let k = sym (run-image t r b o′ f x w h) in
     (e, (g, (k, (sym (run-work t r b o′ f x w h), (zero-as e (run-number t r b o′ f x w), run-demand t r b o′ f x w e g k)))))
 
--- past the verdict
-accepted : (c : tie.After-enum-told) → let s = c .before .before .before .before in
-    runVerdict (s .args .t) (s .args .r) (s .args .samples .now) (s .args .weights .now) (s .args .flow .now) (s .args .image .now) (s .args .work .now) ≡ Verdict.Accept
-unfolding runVerdict
-accepted c = sym (c .before .before .judge-run .ensures) ∙ c .enum-told .given .1
+-- ---- past the verdict
 
-facts : (c : tie.After-enum-told) → let s = c .before .before .before .before in
-    RunAllowed (s .args .t) (s .args .r) (s .args .samples .now) (s .args .weights .now) (s .args .flow .now) (s .args .image .now) (s .args .work .now)
-facts c =
-    let s = c .before .before .before .before in
-    run-accepted (s .args .t) (s .args .r) (s .args .samples .now) (s .args .weights .now) (s .args .flow .now) (s .args .image .now) (s .args .work .now) .0 (accepted c)
+module _ (c : tie.After-enum-told) where
+  abbrev entry : tie.Start
+  entry = c .before .before .before .before
+
+  accepted : runVerdict (entry .args .t) (entry .args .r) (entry .args .samples .now) (entry .args .weights .now) (entry .args .flow .now) (entry .args .image .now) (entry .args .work .now) ≡ Verdict.Accept
+  unfolding runVerdict
+  accepted = sym (c .before .before .judge-run .ensures) ∙ c .enum-told .given .1
+
+  facts : RunAllowed (entry .args .t) (entry .args .r) (entry .args .samples .now) (entry .args .weights .now) (entry .args .flow .now) (entry .args .image .now) (entry .args .work .now)
+  facts = run-accepted (entry .args .t) (entry .args .r) (entry .args .samples .now) (entry .args .weights .now) (entry .args .flow .now) (entry .args .image .now) (entry .args .work .now) .0 accepted
 
 -- the ends of the box
-ends : (c : tie.After-high-end) → let s = c .before .before .before .before .before .before in
+ends : (c : tie.After-high-end) → let s = entry (c .before .before) in
     BoxEnds (s .args .t) (toZ w32 (ofZ w32 (c .before .low-end .result))) (toZ w32 (ofZ w32 (c .high-end .result)))
 ends c =
     let low = c .before in
@@ -79,25 +81,27 @@ solve-requires c κs =
 
 module _ (c : tie.After-solve) where
   abbrev past : tie.After-enum-told
-  past = c .before .before .before .before .before .before
-
-  abbrev entry : tie.Start
-  entry = past .before .before .before .before
+  past = let high = c .before .before .before .before in high .before .before
 
   -- how they end
   abbrev end : Steady
-  end = ending (entry .args .t) (entry .args .r) (entry .args .samples .now) (entry .args .weights .now)
+  end = ending (entry past .args .t) (entry past .args .r) (entry past .args .samples .now) (entry past .args .weights .now)
 
   flow-is : c .solve .last .1 .1 .1 .1 .1 .1 .1 .0 ≡ end .flow
   flow-is = c .solve .ensures .0
 
-  image-is : c .solve .last .1 .1 .1 .1 .1 .1 .1 .1 .0 ≡ imageOf (entry .args .t) (entry .args .samples .now) (end .flow)
+  image-is : c .solve .last .1 .1 .1 .1 .1 .1 .1 .1 .0 ≡ imageOf (entry past .args .t) (entry past .args .samples .now) (end .flow)
   image-is = c .solve .ensures .1 .0
+
+-- ---- their flow and its image are lent for the figures
+
+abbrev solved : tie.After-of-flow-arg2 → tie.After-solve
+solved c = c .before .before .before .before .before
 
 of-flow-requires : tie.Need-of-flow-requires
 of-flow-requires c κs =
-    let l = c .before .before .before .before .before in
-    let s = entry l in
+    let l = solved c in
+    let s = entry (past l) in
     let a = facts (past l) in
     let t = s .args .t in
     let b = s .args .samples .now in
@@ -115,8 +119,8 @@ of-flow-requires c κs =
 returns-2 : tie.Need-returns-2
 returns-2 c =
     let g = c .before in
-    let l = g .before .before .before .before .before .before in
-    let s = entry l in
+    let l = solved (g .before) in
+    let s = entry (past l) in
     let t = s .args .t in
     let r = s .args .r in
     let b = s .args .samples .now in
