@@ -21,8 +21,15 @@ asked-requires c = ends c
 ends : (c : tie.After-asked) → Ends
 ends c = search needs
 
+module _ (c : tie.After-first) where
+  abbrev place : tie.Start
+  place = c .before
+
+  deep : Deep
+  deep = search needs
+
 last : (c : tie.After-last) → Last
-last c = search needs
+last c = deep (c .before)
 
 returns-2 : tie.Need-returns-2
 returns-2 c = last (c .before)
@@ -52,7 +59,7 @@ class Logs(unittest.TestCase):
         return edits.judge_log(edit, path)
 
     def test_a_fact_of_the_promise(self):
-        for declared in ["returns-2", "last"]:
+        for declared in ["returns-2", "last", "deep"]:
             self.assertIsNone(self.judged("run", log("proofs/run/Proof.antt", f"`{declared}`: {FACT}")))
 
     def test_the_other_words_for_a_fact(self):
@@ -118,6 +125,7 @@ class Faults(unittest.TestCase):
             (dict(rules_out=""), "what it rules out"),
             (dict(at=""), "no line '# at"),
             (dict(at="run (asks)"), "'public' is said"),
+            (dict(at="values in Values"), "has no law values"),
             (dict(reasons=[]), "no line '# for"),
             (dict(reasons=["definition"]), "'definition' or 'table'"),
             (dict(pairs=[]), "edits nothing"),

@@ -221,11 +221,11 @@ def faults(found):
 
 def facts_of_promise(proof):
     """Of a function's proof file: the declarations that its promise rests on. These are what it owes where it returns and
-    where a loop begins or goes round, with every declaration of the file that one of them cites. What is left over is what
-    functions called ask, and what an index, a length or a cast needs."""
+    where a loop begins or goes round, with every declaration of the file, in a module or not, that one of them cites. What is
+    left over is what functions called ask, and what an index, a length or a cast needs."""
     bodies, name = {}, None
     for line in proof.read_text(encoding="utf-8").splitlines():
-        begun = re.match(r"(?:pub )?([^\s:(){}]+) :", line)
+        begun = re.match(r" *(?:pub |abbrev )*([^\s:(){}]+) :", line)
         if begun:
             name = begun[1]
         if name:
