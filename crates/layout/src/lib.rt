@@ -1,6 +1,8 @@
 // The layout of a raster's pairs in flow order, as runs: along a run both pixels of a pair are next to
 // those of the pair before.
 
+#![tactic(auto)]
+
 ghost use Rattle.std.specs.Prelude.{◌≡◌, ◌<◌, min};
 ghost use Rattle.layout.specs.Runs.{shape_of, vertical, column_runs, column_run, row_run, run_count, run_at};
 ghost use Rattle.layout.specs.Limits.{ByteLevels, ShapeLimits};

@@ -3,6 +3,8 @@
 // a verdict, what the calls give, a record of the tape, what a reading of a tape is lent, and the
 // numbers of a season.
 
+#![tactic(auto)]
+
 // Terms of a job without its rounds: size, weight W in sub-units, and the box in levels.
 #[derive(Drop)]
 pub struct Terms {

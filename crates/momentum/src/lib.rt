@@ -1,4 +1,7 @@
 // The momentum T of the quick rounds, in 1/65,536.
+
+#![tactic(auto)]
+
 ghost use Rattle.std.specs.Prelude.{◌+◌, ◌*◌, ◌^◌, ◌≤◌, ◌<◌, ◌≡◌, nat_abs};
 ghost use Rattle.model.specs.Grid.{limit};
 ghost use Rattle.model.specs.Root.{root as the_root};

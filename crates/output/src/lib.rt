@@ -1,6 +1,8 @@
 // Bytes written into a lent buffer, one behind the other. Each function gives the offset behind what
 // it wrote.
 
+#![tactic(auto)]
+
 ghost use Rattle.std.specs.Prelude.{[], ◌∷◌, ◌+◌, ◌≤◌, length};
 ghost use Rattle.output.specs.Put.{Put};
 

@@ -1,4 +1,7 @@
 // The cleaning program: one tape from standard input, its answer to standard output.
+
+#![tactic(auto)]
+
 mod clean;
 mod input;
 

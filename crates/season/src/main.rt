@@ -2,6 +2,9 @@
 //     window   the bytes at hand, in a buffer that is filled from standard input
 //     jobs     the jobs of standard input, one behind the other
 //     report   the text that is printed
+
+#![tactic(auto)]
+
 mod jobs;
 mod report;
 mod window;

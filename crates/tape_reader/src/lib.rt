@@ -4,6 +4,9 @@
 //     scan         a tape, from record to record, with nothing written
 //     fill         the numbers of a whole tape, into the buffers
 //     read         read
+
+#![tactic(auto)]
+
 mod fill;
 pub mod read;
 mod reader;

@@ -3,6 +3,9 @@
 //     state    what has been read so far, in counts
 //     parse    one record read
 //     encode   one record written
+
+#![tactic(auto)]
+
 pub mod bytes;
 pub mod encode;
 pub mod parse;

@@ -4,6 +4,9 @@
 //     image    one line of values for each row
 //     answer   the whole text of an answer
 //     report   the report of a season
+
+#![tactic(auto)]
+
 pub mod answer;
 mod image;
 pub mod line;

@@ -2,6 +2,9 @@
 // terms, the length of a buffer that need not be lent, the counts of pixels and pairs, the weights of
 // pairs, and the first flow number beyond its pair's weight; then single rows of the table of refusals, and
 // where check, price, run and write turn back.
+
+#![tactic(auto)]
+
 mod beyond;
 mod counts;
 mod limits;
