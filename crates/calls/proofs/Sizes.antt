@@ -12,7 +12,7 @@ use Rattle.model.specs.declared.Verdict.{Verdict}
 use Rattle.model.specs.Calls.{Answer, pixels_of, figures_of, ending, check_verdict, check_answer, run_verdict, run_answer}
 use Rattle.lists.specs.Lists.{at}
 use Rattle.model.proofs.Accepted.{check_accepted, check_feasible, run-accepted}
-use Rattle.model.proofs.Answers.{check_answer, run-answer}
+use Rattle.model.proofs.Answers.{check_answer_lem, run-answer}
 use Rattle.model.proofs.Range.{widest_fits}
 use Rattle.calls.proofs.Bounds.{slack-by-pixels}
 use Rattle.certificate.proofs.Grid.{ending-flow}
@@ -34,9 +34,9 @@ module _ (t : Terms) (samples : List ℕ) (weights : List ℤ) (high : t.high < 
       go : (v : Verdict) → check_verdict t samples weights flow values ≡ v → Small (check_answer t samples weights flow values)
       go Verdict.Accept e =
           let a = (check_accepted t samples weights flow values).0 e in
-          subst Small (sym (check_answer t samples weights flow values e))
+          subst Small (sym (check_answer_lem t samples weights flow values e))
           (omega (arith, slack-by-pixels t samples weights (with_bytes t samples weights a.terms a.pair_weights high bytes) (at flow) (check_feasible t samples weights flow values a)))
-      go (Verdict.Refuse n q) e = subst Small (sym (check_answer t samples weights flow values e)) zero-le
+      go (Verdict.Refuse n q) e = subst Small (sym (check_answer_lem t samples weights flow values e)) zero-le
 
   pub run_small : (r : Rounds) (flow values work : List ℤ) → Small (run_answer t r samples weights flow values work)
   unfolding figures_of

@@ -20,7 +20,7 @@ use Rattle.model.proofs.Sizes.{iterate-size}
 use Rattle.model.proofs.Range.{ends-ordered}
 use Rattle.layout.proofs.Pairs.{pixels-inside}
 use Rattle.layout.proofs.Degree.{degree-at-most-4}
-use Rattle.model.proofs.Answers.{check_answer, check_image, run_figures, run-answer, run-flow, run-image, held-image}
+use Rattle.model.proofs.Answers.{check_answer_lem, check_image_lem, run_figures, run-answer, run-flow, run-image, held-image}
 use Rattle.model.proofs.Accepted.{zero-as, check_feasible, check_accepted, check_number, run-accepted, run-number}
 use Rattle.model.specs.Demand.{HasFigures, TwoFlows, CheckDemand, RunDemand}
 use Rattle.certificate.proofs.Lagrangian.{Sound}
@@ -60,7 +60,7 @@ check_demand t samples weights flow former {values} {a} e g none =
     let yes = (check_accepted t samples weights flow former).1 allowed in
     let box = allowed.terms.box in
     certificate (grid t samples weights) (grid-sound t samples weights box) flow values a (check_feasible t samples weights flow former allowed)
-    (held t samples weights box flow checked 0 (g ∙ check_image t samples weights flow former yes) (e ∙ check_answer t samples weights flow former yes))
+    (held t samples weights box flow checked 0 (g ∙ check_image_lem t samples weights flow former yes) (e ∙ check_answer_lem t samples weights flow former yes))
 
 -- Two accepted checks of one job, the same terms, samples and weights, whatever the two flows are: request F-5, to be cited
 pub two_checks : (t : Terms) (samples : List ℕ) (weights f g former_x former_y : List ℤ) →

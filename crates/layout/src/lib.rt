@@ -10,7 +10,7 @@ ghost use Rattle.layout.specs.Limits.{ByteLevels, ShapeLimits};
 use model::Terms;
 
 // What determines the pairs of a raster: its size.
-#[derive(Drop)]
+#[derive(Clone, Copy)]
 pub struct Shape {
     pub width: usize,
     pub height: usize,
@@ -18,7 +18,7 @@ pub struct Shape {
 
 // A run of pairs: pair `pair + j` joins pixel `first + j` to pixel `second + j`, for each j below
 // `count`, which is at most 4,096.
-#[derive(Drop)]
+#[derive(Clone, Copy)]
 pub struct Run {
     pub pair: usize,
     pub count: usize,

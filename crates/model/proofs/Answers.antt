@@ -13,13 +13,13 @@ use Rattle.model.specs.Calls.{Rounds, Answer, refusal, checked, settled, spent, 
 use Rattle.lists.proofs.Tables.{get_or-table}
 
 module _ (t : Terms) (samples : List ℕ) (weights flow values : List ℤ) {v : Verdict} (h : check_verdict t samples weights flow values ≡ v) where
-  pub check_answer : check_answer t samples weights flow values ≡ decided v (figures_of checked 0 t samples weights flow) refusal
+  pub check_answer_lem : check_answer t samples weights flow values ≡ decided v (figures_of checked 0 t samples weights flow) refusal
   unfolding check_answer
-  check_answer = ap (λ (x : Verdict). decided x (figures_of checked 0 t samples weights flow) refusal) h
+  check_answer_lem = ap (λ (x : Verdict). decided x (figures_of checked 0 t samples weights flow) refusal) h
 
-  pub check_image : check_image t samples weights flow values ≡ left v (image_of t samples flow) values
+  pub check_image_lem : check_image t samples weights flow values ≡ left v (image_of t samples flow) values
   unfolding check_image
-  check_image = ap (λ (x : Verdict). left x (image_of t samples flow) values) h
+  check_image_lem = ap (λ (x : Verdict). left x (image_of t samples flow) values) h
 
 module _ (t : Terms) (samples : List ℕ) (weights values : List ℤ) {v : Verdict} (h : price_verdict t samples weights values ≡ v) where
   pub price-answer : price_answer t samples weights values ≡ decided v (price_figures t samples weights values) refusal

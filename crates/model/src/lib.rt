@@ -6,7 +6,7 @@
 #![tactic(auto)]
 
 // Terms of a job without its rounds: size, weight W in sub-units, and the box in levels.
-#[derive(Drop)]
+#[derive(Clone, Copy)]
 pub struct Terms {
     pub width: u32,
     pub height: u32,
@@ -16,21 +16,21 @@ pub struct Terms {
 }
 
 // Rounds of a job: quick rounds, and the allowance of steady rounds.
-#[derive(Drop)]
+#[derive(Clone, Copy)]
 pub struct Rounds {
     pub quick: u32,
     pub allowance: u16,
 }
 
 // What a call's tests of its input come to: accepted, or refused with a number and a place.
-#[derive(Drop)]
+#[derive(Clone, Copy)]
 pub enum Verdict {
     Accept,
     Refuse { number: u32, place: usize },
 }
 
 // The figures of an image and its flow: the price, the floor and the slack between them.
-#[derive(Drop)]
+#[derive(Clone, Copy)]
 pub struct Figures {
     pub price: u64,
     pub floor: i64,
@@ -39,7 +39,7 @@ pub struct Figures {
 
 // What check, price and run give. specs/Answers.antt has document 01's number and values for each case
 // of this and of the two enums below.
-#[derive(Drop)]
+#[derive(Clone, Copy)]
 pub enum Answer {
     Refused { number: u32, place: usize },
     Checked { figures: Figures },
@@ -49,7 +49,7 @@ pub enum Answer {
 
 // What read gives: the job's terms and whether weights and whether a flow were there (no, where there
 // are no pairs), or a refusal.
-#[derive(Drop)]
+#[derive(Clone, Copy)]
 pub enum ReadResult {
     Job {
         terms: Terms,
@@ -64,14 +64,14 @@ pub enum ReadResult {
 }
 
 // How many bytes were written, or a refusal.
-#[derive(Drop)]
+#[derive(Clone, Copy)]
 pub enum WriteResult {
     Written { count: usize },
     Refused { number: u32, place: usize },
 }
 
 // A record of the job tape: its kind with its numbers.
-#[derive(Drop)]
+#[derive(Clone, Copy)]
 pub enum Entry {
     End,
     Size { width: u32, height: u32 },
@@ -84,7 +84,7 @@ pub enum Entry {
 
 // What a reading of a tape is lent and allowed: the lengths of the sample, the weight and the flow
 // buffer, and whether the end record may be followed by more bytes.
-#[derive(Drop)]
+#[derive(Clone, Copy)]
 pub struct Lent {
     pub samples: usize,
     pub weights: usize,
@@ -94,7 +94,7 @@ pub struct Lent {
 
 // The numbers of a season: jobs, their pixels, how many ended in each way, the sum of their slacks,
 // the largest slack, and the first job that has it, counted from 1.
-#[derive(Drop)]
+#[derive(Clone, Copy)]
 pub struct Totals {
     pub jobs: u32,
     pub pixels: u64,

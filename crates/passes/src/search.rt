@@ -15,7 +15,7 @@ use stencil::pair;
 use stencil::pair::Round;
 
 // The first pair that would move.
-#[derive(Drop)]
+#[derive(Clone, Copy)]
 pub enum Moving {
     At(usize),
     Nothing,

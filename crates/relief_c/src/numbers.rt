@@ -5,7 +5,7 @@ ghost use Rattle.model.specs.Plain.{AnswerNumbers};
 
 use model::Answer;
 
-#[derive(Drop)]
+#[derive(Clone, Copy)]
 pub struct Numbers {
     pub number: u32,
     pub place: u64,

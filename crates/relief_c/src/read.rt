@@ -12,7 +12,7 @@ use model::{ReadResult, Rounds, Terms};
 use tape_reader::read::read;
 
 // What read gives as plain numbers: a job's terms, or zeros beside a refusal.
-#[derive(Drop)]
+#[derive(Clone, Copy)]
 pub struct Job {
     pub number: u32,
     pub place: u64,

@@ -11,7 +11,7 @@ use model::{Rounds, Terms, WriteResult};
 use tape_writer::write::write;
 
 // What write gives as plain numbers.
-#[derive(Drop)]
+#[derive(Clone, Copy)]
 pub struct Written {
     pub number: u32,
     pub place: u64,

@@ -15,7 +15,7 @@ use tape_records::state::{ParserState, initial};
 
 // The bytes at hand, what has been read of the job at their front and where its next record begins,
 // and the totals of the jobs before it.
-#[derive(Drop)]
+#[derive(Clone, Copy)]
 pub struct State {
     pub window: Window,
     pub at: usize,
@@ -25,7 +25,7 @@ pub struct State {
 
 // How a season ended: its totals, whether a job was refused, whether the input has ended, and
 // whether a read failed.
-#[derive(Drop)]
+#[derive(Clone, Copy)]
 pub struct Ended {
     pub totals: Totals,
     pub ending: Verdict,
@@ -35,7 +35,7 @@ pub struct Ended {
 
 // One step: on to the next state, more bytes for the job, of which so much has been read, or the
 // season's end.
-#[derive(Drop)]
+#[derive(Clone, Copy)]
 pub enum Step {
     Continue(State),
     Read(ParserState, usize),

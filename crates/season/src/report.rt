@@ -10,7 +10,7 @@ use crate::jobs::{Ended, read_season};
 use text::report::put_report;
 
 // How many bytes the text has, and whether a read failed.
-#[derive(Drop)]
+#[derive(Clone, Copy)]
 pub struct Printed {
     pub count: usize,
     pub failed: bool,

@@ -6,7 +6,7 @@ ghost use Rattle.season.specs.Window.{WindowIn, CanGrow, WithRoom, Grown};
 
 // Where they begin and end, whether the input has ended behind them, and whether it did by a read that
 // failed.
-#[derive(Drop)]
+#[derive(Clone, Copy)]
 pub struct Window {
     pub start: usize,
     pub end: usize,

@@ -17,7 +17,7 @@ use passes::search::{Moving, first_moving};
 use passes::step::step_pairs;
 
 // How steady rounds end: how many there were, and whether no pair would move.
-#[derive(Drop)]
+#[derive(Clone, Copy)]
 pub struct Steady {
     pub moved: u32,
     pub settled: bool,

@@ -9,7 +9,7 @@ ghost use Rattle.stencil.specs.Limits.{PairLimits};
 use integers::signed;
 
 // The kinds of rounds. Each rounds the share of a fall that its steps add in its own way.
-#[derive(Drop)]
+#[derive(Clone, Copy)]
 pub enum Round {
     Quick,
     Steady,

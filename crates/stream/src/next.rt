@@ -15,7 +15,7 @@ use tape_reader::scan::{Scanned, scan_tape};
 use tape_records::parse::too_short;
 use tape_records::state::ParserState;
 
-#[derive(Drop)]
+#[derive(Clone, Copy)]
 pub enum Next {
     // more bytes are wanted: what has been read of the job, and where its next record begins
     More(ParserState, usize),

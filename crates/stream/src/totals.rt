@@ -8,7 +8,7 @@ ghost use Rattle.stream.specs.Totals.{addend_of, peak_of, with_job, Countable};
 use model::{Answer, Totals};
 
 // What a job adds: 1 for the way it ended, and its slack.
-#[derive(Drop)]
+#[derive(Clone, Copy)]
 struct Addend {
     settled: u32,
     spent: u32,
@@ -17,7 +17,7 @@ struct Addend {
 }
 
 // The largest slack, and the first job that has it.
-#[derive(Drop)]
+#[derive(Clone, Copy)]
 struct Peak {
     largest: u64,
     first: u32,

@@ -7,7 +7,7 @@ ghost use Rattle.tape_records.specs.Record.{result_at};
 use tape_records::parse::{Cursor, RecordResult, next_record};
 use tape_records::state::ParserState;
 
-#[derive(Drop)]
+#[derive(Clone, Copy)]
 pub struct Reader<'a> {
     pub tape: &'a [u8],
     pub at: usize,

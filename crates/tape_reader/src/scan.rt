@@ -10,7 +10,7 @@ use tape_records::state::ParserState;
 
 // Where a scan stops, and what has been read before: at a record that is refused, with its number and
 // place, or at the end record. The last number is where this record begins.
-#[derive(Drop)]
+#[derive(Clone, Copy)]
 pub enum Scanned {
     Refused(u32, usize, ParserState, usize),
     Whole(ParserState, usize),

@@ -11,7 +11,7 @@ use validation::{box_allowed, pairs, pixels, quick_allowed, size_allowed, weight
 
 // What a record leads to: a refusal with its place, the job's end, or what has been read now with the
 // place of the next record.
-#[derive(Drop)]
+#[derive(Clone, Copy)]
 pub enum Transition {
     Refused(u32, usize),
     Done,

@@ -12,7 +12,7 @@ use model::{Entry, Verdict};
 use validation::all_or_none;
 
 // What a kind byte gives: the length of the body, and whether the record is allowed here.
-#[derive(Drop)]
+#[derive(Clone, Copy)]
 enum Layout {
     Unknown,
     Body { body: usize, allowed: bool },
@@ -136,13 +136,13 @@ fn decode(tape: &[u8], at: usize, kind: u8) -> Entry
 }
 
 // Where the next record begins.
-#[derive(Drop)]
+#[derive(Clone, Copy)]
 pub struct Cursor {
     pub at: usize,
 }
 
 // What reading a record gives: the record, with the cursor beside it; or a refusal with its offset.
-#[derive(Drop)]
+#[derive(Clone, Copy)]
 pub enum RecordResult {
     Record(Entry, Cursor),
     Refused(u32, usize),

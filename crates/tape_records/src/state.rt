@@ -8,7 +8,7 @@ use model::{Rounds, Terms};
 
 // How many of the records 1, 2, 3 (the header), their numbers, the counts that the size gives,
 // and how many samples, pair weights and flow numbers.
-#[derive(Drop)]
+#[derive(Clone, Copy)]
 pub struct ParserState {
     pub header: u32,
     pub terms: Terms,

@@ -73,7 +73,7 @@ fn found(index: usize, end: usize, number: u32) -> Verdict
 }
 
 // How long the buffers of a job have to be.
-#[derive(Drop)]
+#[derive(Clone, Copy)]
 pub struct Due {
     pub pixels: usize,
     pub pairs: usize,

@@ -9,7 +9,7 @@ use Rattle.model.specs.Problem.{Feasible}
 use Rattle.model.specs.Grid.{grid}
 use Rattle.model.specs.Calls.{checked, check_verdict, image_of}
 use Rattle.model.specs.Accepted.{CheckAllowed}
-use Rattle.model.proofs.Answers.{check_answer, check_image}
+use Rattle.model.proofs.Answers.{check_answer_lem, check_image_lem}
 use Rattle.model.proofs.Accepted.{zero-as, check_feasible, check_accepted, check_number}
 use Rattle.layout.proofs.Pairs.{grid-count}
 use Rattle.certificate.proofs.Grid.{check_demand}
@@ -30,8 +30,8 @@ returns c =
     let o = s.args.weights.now in
     let f = s.args.flow.now in
     let x = s.args.image.now in
-    let e = sym (check_answer t b o f x h) in
-    let g = sym (check_image t b o f x h) in
+    let e = sym (check_answer_lem t b o f x h) in
+    let g = sym (check_image_lem t b o f x h) in
     (e, (g, (zero-as e (check_number t b o f x), check_demand t b o f x e g)))
 
 -- ---- past the verdict
@@ -108,9 +108,9 @@ returns-2 c =
     let x = s.args.image.now in
     let k =
     figured checked 0 t b o f c.of-flow.ensures.0 c.of-flow.ensures.1.0 c.of-flow.ensures.1.1
-    ∙ sym (check_answer t b o f x (accepted e))
+    ∙ sym (check_answer_lem t b o f x (accepted e))
     in
-    let g = filled i ∙ sym (check_image t b o f x (accepted e)) in
+    let g = filled i ∙ sym (check_image_lem t b o f x (accepted e)) in
     (k, (g, (zero-as k (check_number t b o f x), check_demand t b o f x k g)))
 
 pub check-spec : {M : Type 1} → statement M
