@@ -17,11 +17,6 @@ use Rattle.validation.specs.Lengths.{pixels_due, pairs_due, length_rows}
 pub row_by : (r : ℕ → Row) {v : Verdict} {n m : ℕ} → v ≡ first_refusal (r n ∷ []) → n ≡ m → v ≡ first_refusal (r m ∷ [])
 row_by r e f = e ∙ ap (λ (k : ℕ). first_refusal (r k ∷ [])) f
 
--- the row of a search, by what it finds
-pub found_at : (number end : ℕ) {v : Verdict} {n m : ℕ} → v ≡ first_refusal (row (ltb n end) number n ∷ []) → n ≡ m →
-    v ≡ first_refusal (row (ltb m end) number m ∷ [])
-found_at number end = row_by (λ k. row (ltb k end) number k)
-
 module _ (t : Terms) where
   -- what is counted where the size is allowed
   module _ (h : size_allowed t.width t.height ≡ true) where

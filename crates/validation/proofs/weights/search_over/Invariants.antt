@@ -1,0 +1,14 @@
+-- Every number before `j` is an allowed weight.
+use mathlib.Core.Bool.{not}
+use Prim.Native.Nat.{◌-◌}
+use lib.ListN.{length}
+use Rattle.lists.specs.Lists.{at}
+use Rattle.model.specs.Grid.{pair_weight_allowed}
+use Rattle.lists.proofs.Search.{Searched}
+use Rattle.validation.proofs.weights.search_over.Given as goal
+
+abbrev pub invariant-loop-j : goal.invariant-loop-j
+invariant-loop-j l = Searched (length l.weights) (λ k. not (pair_weight_allowed (at l.weights k))) l.j
+
+abbrev pub decreases-loop-j : goal.decreases-loop-j
+decreases-loop-j l = length l.weights - l.j
