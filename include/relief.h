@@ -1,8 +1,8 @@
 /*
  * The relief cleaner as a library: the calls price, check, run, read and write.
  *
- * Link target/staticlib/librelief_c.a, which `rt staticlib relief_c` writes (x86-64 Linux). Of the
- * C library it uses memset alone. This header is C11 and C++.
+ * Link target/staticlib/librelief_c.a, which `bash tools/build.sh relief_c` writes (x86-64 Linux).
+ * Of the C library it uses memset alone. This header is C11 and C++.
  *
  * TERMS
  *

@@ -12,55 +12,72 @@ sys.dont_write_bytecode = True
 sys.path.insert(0, str(pathlib.Path(__file__).resolve().parent.parent / "tools"))
 import believed  # noqa: E402
 
-SOURCE = """ghost use lib.ListN.{length};
-ghost use Rattle·model.specs.Calls.{priceAnswer, pairsOf};
-ghost use Rattle·model.specs.Tape.{readAnswer as read};
-ghost use Rattle·model.specs.Plain as plain;
+SOURCE = """ghost use Rattle.std.specs.Prelude.{◌≡◌, ◌↔◌, length};
+ghost use Rattle.std.specs.Io.{
+    WroteAll,
+};
+ghost use Rattle.model.specs.Calls.{price_answer, pairs_of};
+ghost use Rattle.model.specs.Tape.{read_answer as read};
+ghost use Rattle.model.specs.Order.{◌≪◌};
+ghost use Rattle.model.specs.Plain as plain;
 
 pub fn price(a: u8) -> u8
-    requires { ⌜ pairsOf a ⌝ }
-    ensures { λ r. ⌜ r ≡
-        priceAnswer a ⌝ }
-    ensures { λ r. ⌜ read r ⌝ }
+    requires { pairs_of a.now }
+    ensures WroteAll { result ≡
+        price_answer a }
+    ensures pairs_of { read result × { a } }
 {
     a
 }
 
 fn inner(a: u8) -> u8
-    ensures { λ r. ⌜ pairsOf a ⌝ }
+    ensures { pairs_of a }
 {
     a
 }
+
+impl Price {
+    pub fn of<R: Read>(&self, r: &mut R) -> u8
+        ensures { self.now ≪ length r.new }
+    {
+        if true {
+        }
+    }
+}
 """
+MODEL = "Rattle.model.specs."
 
 
 class Believed(unittest.TestCase):
     def test_promises(self):
         said = believed.promises(SOURCE, "price")
-        self.assertIn("priceAnswer a", said)
-        self.assertIn("read r", said)
-        self.assertNotIn("pairsOf", said)
+        self.assertEqual(said.split(), "result ≡ price_answer a read result × { a }".split())
+        self.assertEqual(believed.promises(SOURCE, "of").split(), "self.now ≪ length r.new".split())
         self.assertIsNone(believed.promises(SOURCE, "inner"))
-        with self.assertRaises(SystemExit):
-            believed.promises("pub fn price(a: u8) -> u8\n{\n    a\n}\n", "price")
+        for text in "", "    ensures { λ r.\n", "    ensures a { r } and more\n":
+            with self.assertRaises(SystemExit):
+                believed.promises(f"pub fn price(a: u8) -> u8\n{text}{{\n    a\n}}\n", "price")
 
     def test_cited(self):
+        prelude, whole = "Rattle.std.specs.Prelude", MODEL + "Plain"
         said = believed.promises(SOURCE, "price")
-        whole = "Rattle·model.specs.Plain"
-        self.assertEqual(list(believed.cited(SOURCE, said)), ["Rattle·model.specs.Calls", "Rattle·model.specs.Tape", whole])
-        self.assertEqual(list(believed.cited(SOURCE, "f .read")), [whole])
+        self.assertEqual(list(believed.cited(SOURCE, said)), [prelude, MODEL + "Calls", MODEL + "Tape", whole])
+        said = believed.promises(SOURCE, "of")
+        self.assertEqual(list(believed.cited(SOURCE, said)), [prelude, MODEL + "Order", whole])
+        self.assertEqual(list(believed.cited(SOURCE, "f.read")), [whole])
+        self.assertIn("Rattle.std.specs.Io", believed.cited(SOURCE, "WroteAll a"))
         with self.assertRaises(SystemExit):
-            list(believed.cited(SOURCE, "Rattle·model.specs.Calls.priceAnswer a"))
+            list(believed.cited(SOURCE, "Rattle.model.specs.Calls.price_answer a"))
         with self.assertRaises(SystemExit):
-            list(believed.cited("ghost use Rattle·model.specs.Calls.{a} hiding;\n", "a"))
+            list(believed.cited("ghost use Rattle.model.specs.Calls.{a} hiding;\n", "a"))
 
     def test_files(self):
-        self.assertEqual(believed.file_of("Rattle·model.specs.Calls"), "model/specs/Calls.antt")
-        self.assertEqual(believed.file_of("Rattle·model·specs.specs.Calls"), "model/specs/Calls.antt")
-        self.assertEqual(believed.file_of("Rattle·model.specs.declared.Terms"), "model/src/lib.rt")
-        self.assertEqual(believed.file_of("Rattle·tape_records.specs.declared.state.ParserState"), "tape_records/src/state.rt")
-        self.assertIsNone(believed.file_of("Rattle·io.specs.Counts"))
-        for module in ["Rattle·model.specs.Nowhere", "Rattle·lists.proofs.Tables"]:
+        self.assertEqual(believed.file_of(MODEL + "Calls"), "model/specs/Calls.antt")
+        self.assertEqual(believed.file_of(MODEL + "declared.Terms"), "model/src/lib.rt")
+        self.assertEqual(believed.file_of(MODEL + "declared.Answer.TheVariants"), "model/src/lib.rt")
+        self.assertEqual(believed.file_of("Rattle.tape_records.specs.declared.state.ParserState"), "tape_records/src/state.rt")
+        self.assertIsNone(believed.file_of("Rattle.std.specs.Io"))
+        for module in [MODEL + "Nowhere", "Rattle.lists.proofs.Tables", "Rattle.lists", MODEL + "declared"]:
             with self.assertRaises(SystemExit):
                 believed.file_of(module)
 
@@ -69,7 +86,7 @@ class Believed(unittest.TestCase):
         for file in ["Demand", "RoundTrip", "Answers", "Plain", "Root"]:
             self.assertIn(f"model/specs/{file}.antt", files)
         self.assertNotIn("model/specs/Values.antt", files)
-        self.assertEqual(toolchain, ["io.specs.Counts"])
+        self.assertNotIn("std.specs.Prelude", toolchain)
 
 
 if __name__ == "__main__":

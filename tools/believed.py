@@ -20,53 +20,62 @@ BEGIN = "<!-- made by tools/believed.py from the promises and the definitions: b
 END = "<!-- made by tools/believed.py: end -->"
 # public functions of which no edit is asked: one that reads, and the one that is named after the version
 PROMISES = [("relief", "read_input"), ("relief_c", r"relief_version_\d+_\d+")]
-# libraries of the toolchain, whose definitions are not of this repository
-TOOLCHAIN = ["io", "std", "libc", "os", "check", "bytes"]
+# libraries of the toolchain, whose definitions are not of this repository, and the modules of its plainest words: lists, numbers,
+# booleans, texts and the operators
+TOOLCHAIN = ["std", "core", "io", "lib", "mathlib", "native", "Prim"]
+PLAIN = re.compile(r"Rattle\.std\.specs\.Prelude|Prim\.Native\.\w+")
 
 
 def promises(text, name):
-    """The promises of a function in a file's text, or nothing where it is not there."""
-    head = re.search(rf"\bpub (?:extern \"C\" )?fn {name}\b.*?\n\{{\n", text, re.S)
+    """The promises of a function in a file's text, without the names of its clauses, or nothing where it is not there."""
+    head = re.search(rf"^( *)pub (?:extern \"C\" )?fn {name}\b.*?\n\1\{{\n", text, re.S | re.M)
     if not head:
         return None
-    found = re.findall(r"\bensures\b(.*?)(?=\bensures\b|\n\{\n)", head.group(0), re.S)
-    if not found:
-        sys.exit(f"tools/believed.py: {name} promises nothing")
+    found = re.findall(r"\bensures\b(?: \w+)? \{(.*?)\}\s*(?=\bensures\b|\n *\{\n\Z)", head.group(0), re.S)
+    if not found or len(found) != len(re.findall(r"\bensures\b", head.group(0))):
+        sys.exit(f"tools/believed.py: {name} promises nothing, or what is not understood")
     return "\n".join(found)
 
 
 def imports(text, word):
     """The modules and names of the lines `use` of a text: (module, names), names being nothing for a whole module."""
-    for line in re.findall(rf"^{word} (.*?);?$", text, re.M):
-        got = re.fullmatch(r"([\w·.-]+)\.\{(.*)\}|([\w·.-]+) as \w+|([\w·.-]+)", line)
+    for line in re.findall(rf"^{word} ((?:[^{{;\n]|\{{[^}}]*\}})*);?$", text, re.M):
+        got = re.fullmatch(r"([\w.-]+)\.\{(.*)\}|([\w.-]+) as \w+|([\w.-]+)", line, re.S)
         if not got:
             sys.exit(f"tools/believed.py: the line '{word} {line}' is not understood")
         if got[1]:
-            yield got[1], [re.sub(r".* as ", "", name.strip()) for name in got[2].split(",")]
+            names = [re.sub(r".* as ", "", name.strip()) for name in got[2].split(",")]
+            yield got[1], [name for name in names if name]
         else:
             yield got[3] or got[4], None
 
 
+def cites(promise, name):
+    """Whether a promise cites a name, that of an operator by its signs."""
+    signs = [part for part in name.split("◌") if part]
+    if "◌" in name:
+        return all(part in promise for part in signs)
+    return re.search(rf"(?<![\w.]){re.escape(name)}(?!\w)", promise)
+
+
 def cited(text, promise):
-    """The modules of this repository whose names a promise cites."""
-    if "Rattle·" in promise:
+    """The modules, of this repository or of the toolchain, whose names a promise cites."""
+    if "Rattle." in promise:
         sys.exit(f"tools/believed.py: a promise cites a definition by its path: {promise.strip()[:80]}")
     for module, names in imports(text, "ghost use"):
-        if not module.startswith("Rattle·"):
-            continue
-        if names is None or any(re.search(rf"(?<![\w.]){re.escape(name)}(?!\w)", promise) for name in names):
+        if names is None or any(cites(promise, name) for name in names):
             yield module
 
 
 def file_of(module):
     """The file of a module of definitions, that of the types that a crate declares being its source; nothing for the toolchain's."""
-    crate, *path = re.sub(r"·specs\.specs\.", ".specs.", module).removeprefix("Rattle·").split(".")
+    crate, *path = module.removeprefix("Rattle.").split(".")
     if crate in TOOLCHAIN:
         return None
-    if path[:2] == ["specs", "declared"]:
+    if path[:2] == ["specs", "declared"] and len(path) > 2:
         names = path[2:]
-        file = f"{crate}/src/{names[0]}.rt" if names[0].islower() else f"{crate}/src/lib.rt"
-    elif path[:1] == ["specs"]:
+        file = f"{crate}/src/{names[0]}.rt" if names[0][0].islower() else f"{crate}/src/lib.rt"
+    elif path[:1] == ["specs"] and len(path) > 1:
         file = f"{crate}/specs/{path[1]}.antt"
     else:
         sys.exit(f"tools/believed.py: {module} is no module of definitions")
@@ -89,23 +98,24 @@ def reached():
         module = modules.pop()
         file = file_of(module)
         if file is None:
-            toolchain.add(module.removeprefix("Rattle·"))
+            if not PLAIN.fullmatch(module):
+                toolchain.add(module.removeprefix("Rattle."))
         elif file not in seen:
             seen.add(file)
             text = (TOP / "crates" / file).read_text(encoding="utf-8")
             if file.endswith(".antt"):
-                found = imports(text, "(?:pub )?use")
-                modules += [module for module, _ in found if module.startswith("Rattle·")]
-                used = re.sub(r"^(pub )?use .*$|^\s*--.*$", "", text, flags=re.M)
-                if "Rattle·" in used:
+                modules += [module for module, _ in imports(text, "(?:pub )?use")]
+                used = re.sub(r"^(pub )?use [^{\n]*(\{[^}]*\})?.*$|^\s*--.*$", "", text, flags=re.M)
+                if "Rattle." in used:
                     sys.exit(f"tools/believed.py: {file} cites a definition by its path")
     return sorted(seen), sorted(toolchain)
 
 
 def length(file):
     """The lines of a file without blank ones, comments and imports."""
-    lines = (TOP / "crates" / file).read_text(encoding="utf-8").splitlines()
-    return sum(1 for line in lines if line.strip() and not re.match(r"\s*(--|//|(pub |ghost )?use )", line))
+    text = (TOP / "crates" / file).read_text(encoding="utf-8")
+    text = re.sub(r"^\s*(pub |ghost )?use [^{\n]*(\{[^}]*\})?.*$", "", text, flags=re.M)
+    return sum(1 for line in text.splitlines() if line.strip() and not re.match(r"\s*(--|//)", line))
 
 
 def block():

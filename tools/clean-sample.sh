@@ -13,7 +13,7 @@ cd "$(dirname "$0")/.."
 bash tools/python.sh packages > /dev/null # what is missing is told at once
 if [ -z "${RELIEF_BIN:-}" ]; then
     echo "proving and building the program (some minutes the first time)" >&2
-    bash tools/quiet.sh target/program.log rt check relief
+    bash tools/quiet.sh target/program.log bash tools/build.sh relief
     program=target/bin/relief
 fi
 mkdir -p target/examples

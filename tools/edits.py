@@ -1,9 +1,10 @@
 #!/usr/bin/env python3
-"""The must-fail edits, by their own comments: the table in docs/REVIEW.md is made from them, and held against the prover's logs.
+"""The must-fail edits, by their own comments: the table in docs/REVIEW.md is made from them, and held against what was said of each.
 
-    tools/edits.py            writes the counts and the table between the two markers of docs/REVIEW.md
-    tools/edits.py --check    says what is stale or wrong, and ends with status 1; runs no proof
-    tools/edits.py --logs     after `rt ci` or `rt must-fail`: holds each log of target/must-fail against its edit's `at:` line
+    tools/edits.py                writes the counts and the table between the two markers of docs/REVIEW.md
+    tools/edits.py --check        says what is stale or wrong, and ends with status 1; runs no proof
+    tools/edits.py --said FILE    holds what `rt ci` or `rt must-fail` printed, FILE, against the `at:` line of each edit
+    tools/edits.py --said FILE CRATE..    the same of these crates' edits alone
 
 An edit, crates/CRATE/must-fail/LABEL.edit, begins with
 
@@ -11,11 +12,13 @@ An edit, crates/CRATE/must-fail/LABEL.edit, begins with
     # at: run
     # for: checklist, public
 
-`at:` names the function in whose proof the log's first error stands, or the law and its file, as `values in Values`. Behind a
-function, `(asks)` says that the proof fails first at what a function called asks, or at an index, a length or the like, and
-`(search)` that there is no proof file, and the toolchain's own search found no proof of what the function promises. With
-neither, what fails is what the function promises, or a fact from which its proof takes that.
-An edit after which another fact is due at some place of the proof says in a third line how it changes the shape of the code:
+`at:` names the function whose proof fails, or the law and its file, as `values in Values`: that of the one place that rt prints
+of each edit that it tried. Behind a function, `(asks)` says that the proof fails first at what a function called asks, or at an
+index, a length or the like, and `(search)` that no proof file answers for that goal, and the toolchain's own search found no
+proof of what the function promises. With neither, what fails is what the function promises, or a fact from which its proof takes
+that, in a proof file or by search.
+An edit after which another fact is due at some place of the proof says in a third line how it changes the shape of the code,
+which rt does not print and nothing holds it to:
 
     # shape: two calls exchanged
 
@@ -54,7 +57,7 @@ Edit = collections.namedtuple("Edit", "crate label rules_out at reasons shape pa
 def crates():
     """The crates of crates.txt, in its order."""
     lines = (TOP / "crates.txt").read_text(encoding="utf-8").splitlines()
-    return [line.split(":")[0] for line in lines if line and not line.startswith("#")]
+    return [line.split(":")[0].split()[0] for line in lines if line.strip() and not line.startswith("#")]
 
 
 def read_edit(path):
@@ -150,8 +153,10 @@ def with_block(found):
 
 # -- what can be said without a proof
 
-# a line of a contract, an import, or a comment
-CONTRACT = re.compile(r"^\s*(requires|ensures|ghost use|use|pub use|//|--)|⌜|⌝", re.M)
+# the first line of an import, or a comment
+NO_CODE = re.compile(r"^\s*(ghost use|use|pub use|//|--)", re.M)
+# where a clause or a ghost member begins: its words go on to the brace that closes it
+CLAUSE = re.compile(r"^\s*(?:pub )?(?:requires|ensures|ghost)\b(?! use\b)[^{};]*\{", re.M)
 
 
 def lines_of(text, old):
@@ -160,6 +165,18 @@ def lines_of(text, old):
     end = text.find("\n", at + len(old))
     return text[text.rfind("\n", 0, at) + 1 : end if end >= 0 else len(text)]
 
+
+def in_a_contract(text, old):
+    """Whether a text of a source file stands, in part or whole, in a clause of a contract or a ghost member."""
+    first = text.index(old)
+    for clause in CLAUSE.finditer(text):
+        end, depth = clause.end(), 1
+        while depth and end < len(text):
+            depth += {"{": 1, "}": -1}.get(text[end], 0)
+            end += 1
+        if clause.start() < first + len(old) and first < end:
+            return True
+    return False
 
 
 def declares(crate, law, file):
@@ -196,7 +213,7 @@ def faults(found):
             if not old or text.count(old) != 1:
                 yield f"{name}: its text '{old}' is {text.count(old or '') if old else 0} times in {file}"
                 break
-            if CONTRACT.search(lines_of(text, old)):
+            if NO_CODE.search(lines_of(text, old)) or file.startswith("src/") and in_a_contract(text, old):
                 yield f"{name}: it edits a contract, an import or a comment"
             texts[file] = text.replace(old, new)
         if not edit.pairs:
@@ -217,92 +234,115 @@ def faults(found):
         yield "docs/REVIEW.md: the table of edits is stale; run tools/edits.py"
 
 
-# -- the logs
+# -- what rt said
+
+# a line of `rt ci` or `rt must-fail`, and the place and the message in it, of which rt prints no more than 160 characters
+SAID = re.compile(r"rt: must-fail (?P<crate>\w+)/(?P<label>[\w.-]+)\.edit: (?P<said>.*)")
+REFUSED = re.compile(r"refused, as it must be(?: \((?P<only>only .*?)\))?(?:: (?P<where>.*))?")
+WHERE = re.compile(r"(?:note: )?(?:\./)?(?P<path>[^\s:]+):(?P<line>\d+):\d+: (?P<error>error: )?(?P<message>.*)")
+
+# The goals in which a function's promise is due: where it returns, and where a loop begins or goes round. What is left over is
+# what functions called ask, and what an index, a length or a cast needs.
+PROMISE = re.compile(r"(returns|loop-.+-(init|preserved))(-.*)?")
+# the same in the words of a note, whose name of the goal may be cut off
+PROMISED = re.compile(r"it is not proved that (what the function ensures|the invariant )")
+# what an error says where a fact does not hold: two types or sides differ, a tactic finds no proof, or what a rewriting leaves is
+# no equation of two equal ends. Any other one (a name or a field that is not there) is the proof file's.
+FACT = re.compile(
+    r"the two (types|sides)|but this has type|no proof of|the goal does not follow|a path whose two ends are equal"
+    r"|`(grind|omega|search|simp|rw)`: "
+)
+UNFIT = re.compile(r"that can be named from here|has no field|is not in scope|not admitted")
+LIMIT = re.compile(r"limit was met|broke off|ran out of|took more than (?!200000 steps)|gave up at one of its limits")
+
 
 def facts_of_promise(proof):
-    """Of a function's proof file: the declarations that its promise rests on. These are what it owes where it returns and
-    where a loop begins or goes round, with every declaration of the file, in a module or not, that one of them cites. What is
-    left over is what functions called ask, and what an index, a length or a cast needs."""
+    """Of a function's proof file: the declarations that its promise rests on, which are the answers to the goals of that kind,
+    with every declaration of the file, in a module or not, that one of them cites."""
     bodies, name = {}, None
     for line in proof.read_text(encoding="utf-8").splitlines():
-        begun = re.match(r" *(?:pub |abbrev )*([^\s:(){}]+) :", line)
+        begun = re.match(r" *(?:pub |abbrev |unfoldable )*([^\s:(){}]+) :", line)
         if begun:
             name = begun[1]
         if name:
             bodies[name] = bodies.get(name, "") + " " + line
-    rests = {name for name in bodies if re.fullmatch(r"(returns|loop-holds|loop-again)(-\d+)?", name)}
+    rests = {name for name in bodies if PROMISE.fullmatch(name)}
     more = rests
     while more:
         cited = {word for name in more for word in re.findall(r"[^\s(){},;]+", bodies[name])}
-        # a need of its own is not cited: what is left are the declarations beside them
-        more = {word for word in cited & bodies.keys() if f"tie.Need-{word}" not in bodies[word]} - rests
+        # an answer to a goal of its own is not cited: what is left are the declarations beside them
+        more = {word for word in cited & bodies.keys() if f": goal.{word}" not in bodies[word]} - rests
         rests |= more
     return rests
 
 
-# what an error says where a fact does not hold: two types or sides differ, a search or omega finds no proof, or what a rewriting
-# leaves is no equation of two equal ends. Any other one (a name or a field that is not there) is the proof file's.
-FACT = re.compile(r"the two (types|sides)|but this has type|no proof of|the goal does not follow|a path whose two ends are equal")
-UNFIT = re.compile(r"that can be named from here|has no field|is not in scope|not admitted")
-# one fact stands where another is due: the edit has changed the shape of the code
-SHIFTED = re.compile(r"expected type `tie\.Need-[^`]*`,?\s+but this has type `tie\.Need-")
-LIMIT = re.compile(r"limit was met|broke off|ran out of|took more than (?!200000 steps)")
+FUNCTION = re.compile(r"(\s*)(?:pub(?:\([^)]*\))? )?(?:const |unsafe |extern \"C\" )*fn (\w+)")
 
 
-def first_error(lines):
-    """The log's first error, with the lines that go on with it; none where the log has no such line."""
-    for at, line in enumerate(lines):
-        if re.match(r"\S+: error: ", line):
-            end = next((i for i in range(at + 1, len(lines)) if not lines[i].startswith("  ")), len(lines))
-            return "\n".join(lines[at:end])
-    return None
+def function_at(text, number):
+    """The function of a source file's text in which the line of this number stands, attributes with it; none where it is in none."""
+    lines, found = text.splitlines(), None
+    for first, line in enumerate(lines):
+        head = FUNCTION.match(line)
+        if head:
+            last = next((at for at in range(first, len(lines)) if lines[at] == head[1] + "}"), first)
+            while first and re.match(r"\s*#\[", lines[first - 1]):
+                first -= 1
+            found = head[2] if first < number <= last + 1 else found
+    return found
 
 
-def judge_log(edit, log):
-    """What is wrong with an edit's log; nothing where its first error is where the edit says, at a fact."""
-    lines = log.read_text(encoding="utf-8", errors="replace").splitlines()
-    if not any(line.startswith("logic=not-proved") for line in lines):
-        return "the prover did not refuse it"
-    at = AT.fullmatch(edit.at)
-    if not at:
-        return "it does not say where"
-    error = first_error(lines)
-    if error is None:
-        # no proof file: the function is proved by a search of the toolchain's own, which says how it ended in notes
-        said = "\n".join(lines)
-        lost = re.search(r"^fn (\S+)::(\w+): no proof: .*`search` does not close `(returns|loop-holds|loop-again)", said, re.M)
-        if not lost:
-            return "it has no error, and no function of which it says that nothing is proved at its promise"
-        searches = re.findall(r"`search`: no proof of.*?(?=^note: |^fn |\Z)", said, re.M | re.S)
-        if not searches or not all("Every way was tried: a deeper search would find nothing either" in text for text in searches):
-            return f"the search at {lost[2]} met a limit"
-        return None if (at["function"], at["how"]) == (lost[2], "search") else f"refused at {lost[2]} (search)"
-    place, message = error.split(": error: ", 1)
-    path = place.split(f"/must-fail/{edit.crate}/{edit.label}/", 1)[-1].rsplit(":", 2)[0]
+def judge_where(edit, where):
+    """What is wrong with the place at which an edit was refused; nothing where it is where the edit says, at a fact."""
+    at, place = AT.fullmatch(edit.at), WHERE.fullmatch(where or "")
+    if not place:
+        return f"rt does not say where: {where}"
+    path, message = place["path"], place["message"]
+    if not place["error"]:
+        # the toolchain's own search: it says what it did not prove, and names the goal
+        goal = re.search(r" \(`([^`]+)`\)", message)
+        if not message.startswith("it is not proved that ") or not path.startswith("src/"):
+            return f"its first line is no fact: {where}"
+        function = function_at((TOP / "crates" / edit.crate / path).read_text(encoding="utf-8"), int(place["line"]))
+        is_promise = PROMISE.fullmatch(goal[1]) if goal else PROMISED.match(message)
+        how = ("search" if at["how"] == "search" else None) if is_promise else "asks"
+        right = (at["function"], at["how"]) == (function, how)
+        return None if right else f"refused at {function}{'' if is_promise else ' (asks)'}: {goal[1] if goal else message}"
     declared = re.match(r"`([^`]+)`: ", message)
     declared = declared[1] if declared else "?"
     if UNFIT.search(message):
-        return f"it made the proof file unfit, and shows nothing: {path}, {declared}: {message.splitlines()[0][:160]}"
-    if LIMIT.search(message) or ("`search`" in message and "Every way was tried" not in message):
-        return f"a limit was met: {path}, {declared}: {message.splitlines()[0][:160]}"
+        return f"it made the proof file unfit, and shows nothing: {where}"
+    if LIMIT.search(message):
+        return f"a limit was met: {where}"
     if not FACT.search(message):
-        return f"its first error is no fact: {path}, {declared}: {message.splitlines()[0][:160]}"
-    if bool(SHIFTED.search("\n".join(lines))) != bool(edit.shape):
-        return "another fact is due at some place of the proof: say so in a line '# shape: ..'" if not edit.shape else "the shape is kept"
-    if path.endswith("/Proof.antt"):
-        function = path.split("/")[-2]
-        proof = TOP / "crates" / edit.crate / path
-        how = None if declared in facts_of_promise(proof) else "asks"
+        return f"its first error is no fact: {where}"
+    parts = pathlib.PurePosixPath(path)
+    if parts.stem in ("Answers", "Invariants", "Proof") and len(parts.parts) > 2:
+        function = parts.parent.name
+        how = None if declared in facts_of_promise(TOP / "crates" / edit.crate / path) else "asks"
         right = (at["function"], at["how"]) == (function, how)
         return None if right else f"refused at {function}{' (asks)' if how else ''}: `{declared}`"
-    file = pathlib.PurePosixPath(path).stem
-    return None if (at["law"], at["file"]) == (declared, file) else f"refused at {declared} in {file}"
+    return None if (at["law"], at["file"]) == (declared, parts.stem) else f"refused at {declared} in {parts.stem}"
 
 
-def judge_logs(found):
+def judge_said(edit, said):
+    """What is wrong with what rt said of an edit; nothing where it was refused where the edit says, at a fact."""
+    if not AT.fullmatch(edit.at):
+        return "it does not say where"
+    refused = REFUSED.fullmatch(said)
+    if not refused:
+        return said
+    if refused["only"]:
+        return f"it was refused {refused['only'].split(',')[0]}: {refused['where']}"
+    return judge_where(edit, refused["where"])
+
+
+def judge_log(found, text):
+    """The faults of what rt printed of these edits, whole."""
+    said = {(line["crate"], line["label"]): line["said"] for line in map(SAID.fullmatch, text.splitlines()) if line}
     for edit in found:
-        log = TOP / "target/must-fail" / edit.crate / edit.label / ".log"
-        fault = judge_log(edit, log) if log.is_file() else "it was not tried: there is no log"
+        told = said.get((edit.crate, edit.label))
+        fault = judge_said(edit, told) if told else "it was not tried: nothing is said of it"
         if fault:
             yield f"{edit.crate}/{edit.label} (at: {edit.at}): {fault}"
 
@@ -319,8 +359,9 @@ def main(arguments):
     elif arguments == ["--check"]:
         wrong = list(faults(found))
         done = "docs/REVIEW.md: the table of edits is what the edits say"
-    elif arguments == ["--logs"]:
-        wrong = list(judge_logs(found))
+    elif arguments[:1] == ["--said"] and len(arguments) > 1:
+        found = [edit for edit in found if edit.crate in arguments[2:] or not arguments[2:]]
+        wrong = list(judge_log(found, pathlib.Path(arguments[1]).read_text(encoding="utf-8", errors="replace")))
         done = f"{len(found)} edits refused where they say, each at a fact"
     else:
         sys.exit(__doc__)

@@ -4,7 +4,6 @@
 # The lines end in `0 failures`.
 set -euo pipefail
 cd "$(dirname "$0")/.."
-# beside target/, which rt ci removes
 folder=$(mktemp -d)
 trap 'rm -rf "$folder"' EXIT
 for compiler in "gcc -std=c11 -x c" "g++ -std=c++17 -x c++"; do

@@ -1,13 +1,14 @@
 #!/usr/bin/env bash
 # Builds the static library and prints the calls that it defines, as cargo features: judge (price, check), run,
 # tape (read, write). The prover's lines go to target/library.log. RELIEF_LIB_DIR, if set, is the folder (an absolute
-# path) of another librelief_c.a: that is taken as it is, and nothing is built.
+# path) of another librelief_c.a: that is taken as it is, and nothing is built. An argument `after-ci` is handed on to
+# tools/build.sh.
 set -euo pipefail
 cd "$(dirname "$0")/.."
 
 if [ -z "${RELIEF_LIB_DIR:-}" ]; then
     echo "proving and building the library (some minutes the first time)" >&2
-    bash tools/quiet.sh target/library.log rt staticlib relief_c
+    bash tools/quiet.sh target/library.log bash tools/build.sh relief_c "$@"
 fi
 archive=${RELIEF_LIB_DIR:-target/staticlib}/librelief_c.a
 if [ ! -f "$archive" ]; then

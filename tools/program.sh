@@ -9,7 +9,7 @@ fi
 cd "$(dirname "$0")/.."
 if [ -z "${RELIEF_BIN:-}" ]; then
     echo "proving and building the program (some minutes the first time)" >&2
-    bash tools/quiet.sh target/program.log rt check relief
+    bash tools/quiet.sh target/program.log bash tools/build.sh relief
     program=$PWD/target/bin/relief
 fi
 if [ ! -x "$program" ]; then

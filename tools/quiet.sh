@@ -2,7 +2,7 @@
 # Runs a command with all that it prints in a log file. If it fails, the log's end goes to standard error and the
 # command's exit status is given back:
 #
-#     bash tools/quiet.sh target/library.log rt staticlib relief_c
+#     bash tools/quiet.sh target/library.log bash tools/build.sh relief_c
 set -euo pipefail
 log=$1
 shift

@@ -10,7 +10,7 @@ fi
 cd "$(dirname "$0")/.."
 if [ -z "${RELIEF_SEASON:-}" ]; then
     echo "proving and building the program (some minutes the first time)" >&2
-    bash tools/quiet.sh target/season.log rt check season
+    bash tools/quiet.sh target/season.log bash tools/build.sh season
     program=$PWD/target/bin/season
 fi
 if [ ! -x "$program" ]; then

@@ -1,10 +1,10 @@
 #!/usr/bin/env bash
 # All tests. First the layout, the table of must-fail edits, the header and the second implementation's own tests; then every
-# proof from nothing, with the must-fail edits and the programs' stored answers (`rt ci`), and whether each edit was refused
-# where it says; then what was proved there is compared with the second implementation on a part of the inputs, called with
-# guard pages behind its buffers, linked with callers of its version and of another, and called through the Rust wrapper and
-# the Python package; the picture scripts are tested, and the examples run and compared with what is stored. Any step that
-# fails ends it. The last line is the last line of `rt ci`: `N passed, 0 failed`.
+# proof, with the must-fail edits and the programs' stored answers (`rt ci`), and whether each edit was refused where it says;
+# then what was proved there is compared with the second implementation on a part of the inputs, called with guard pages
+# behind its buffers, linked with callers of its version and of another, and called through the Rust wrapper and the Python
+# package; the picture scripts are tested, and the examples run and compared with what is stored. Any step that fails ends it.
+# The last line is the last line of `rt ci`: `N passed, 0 failed`.
 set -euo pipefail
 cd "$(dirname "$0")/.."
 # what is tested is built here, not another library or program that the caller names
@@ -16,7 +16,7 @@ echo "== Python and its packages"
 bash tools/python.sh packages
 
 echo "== layout of the Rattle files"
-rt fmt --check
+bash tools/layout.sh
 
 echo "== the must-fail edits and their table"
 python3 tools/edits.py --check
@@ -33,15 +33,22 @@ echo "== the second implementation (Rust, offline)"
 (cd rust && cargo test --offline --quiet)
 
 echo "== every proof, must-fail edit and program"
-# three at a time: rt waits for a whole batch of crates or edits before it begins another
-RT_JOBS=${RT_JOBS:-3} rt ci | tee "$proofs"
+rt ci | tee "$proofs"
+# an edit that rt could not apply or read fails nothing there
+if ! grep -q '^rt: ok; ' "$proofs" || grep -qE '^rt: ok; .*, [1-9][0-9]* bad\b' "$proofs"; then
+    echo "a must-fail edit is bad, as told above, or rt ci does not say that all is well" >&2
+    exit 1
+fi
 
 echo "== where each must-fail edit was refused"
-python3 tools/edits.py --logs
+python3 tools/edits.py --said "$proofs"
 
 echo "== the static library beside the second implementation"
-# compiled once, from what was proved above; every step below takes it as it is
-bash tools/library.sh > /dev/null
+# built once, from what was proved above; every step below takes it as it is
+bash tools/library.sh after-ci > /dev/null
+for program in relief season; do
+    bash tools/build.sh "$program"
+done
 export RELIEF_LIB_DIR=$PWD/target/staticlib RELIEF_BIN=$PWD/target/bin/relief RELIEF_SEASON=$PWD/target/bin/season
 bash tools/static.sh quick
 

@@ -122,7 +122,7 @@ def reference_answer(test, tape, *arguments):
 
 
 _BUILD_HINTS = {
-    PROGRAM: "`rt check relief` makes it, and RELIEF_BIN may name another",
+    PROGRAM: "`bash tools/build.sh relief` makes it, and RELIEF_BIN may name another",
     REFERENCE: "`cargo build --release --offline -p relief-reference` in rust/ makes it, and RELIEF_REFERENCE_BIN may name"
                " the folder of another",
 }

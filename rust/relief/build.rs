@@ -1,5 +1,5 @@
 //! Links the proved library: librelief_c.a in the folder that RELIEF_LIB_DIR names, else
-//! where `rt staticlib relief_c` writes it.
+//! where `bash tools/build.sh relief_c` puts it.
 
 use std::env;
 use std::path::PathBuf;
@@ -17,7 +17,7 @@ fn main() {
     println!("cargo::rerun-if-changed={}", archive.display());
     if !archive.is_file() {
         println!(
-            "cargo::error=there is no {}: run `rt staticlib relief_c` at the top of the \
+            "cargo::error=there is no {}: run `bash tools/build.sh relief_c` at the top of the \
              repository, or let RELIEF_LIB_DIR name the folder of another librelief_c.a",
             archive.display()
         );
