@@ -1,7 +1,7 @@
 // What the program prints for the bytes that it has read.
 
 ghost use Rattle.std.specs.Prelude.{◌≡◌, length};
-ghost use Rattle.io.specs.Counts.{IsPrefixLen};
+ghost use Rattle.std.specs.Counts.{IsPrefixLen};
 ghost use Rattle.lists.specs.Lists.{overwritten};
 ghost use Rattle.model.specs.Program.{program_text};
 

@@ -2,6 +2,8 @@
 
 ghost use Rattle.std.specs.Prelude.{◌≡◌, true, ◌≤◌, ◌<◌, length};
 
+use std::io::Read;
+
 // How many bytes were read, and whether a read failed.
 #[derive(Clone, Copy)]
 pub struct Input {
@@ -12,21 +14,21 @@ pub struct Input {
 // Reads until the buffer is full, the input ends or a read fails, which happens only where there is
 // room. How many bytes come, which they are, and whether a read fails is free: the operating system's
 // call promises nothing of it.
-pub fn read_input(buffer: &mut [u8]) -> Input
+pub fn read_input<R: Read>(stdin: &mut R, buffer: &mut [u8]) -> Input
     ensures count_in_bounds { result.count ≤ length buffer.new }
     ensures count_in_bounds_2 { result.failed ≡ true → result.count < length buffer.new }
 {
     let mut count = 0;
     let mut failed = false;
     while count < buffer.len() {
-        let part = &mut buffer[count..];
-        let got = libc::read(0, part);
-        let more = io::count(got, part);
-        if more == 0 {
-            failed = got < 0;
-            break;
+        match stdin.read(&mut buffer[count..]) {
+            Ok(0) => break,
+            Ok(more) => count += more,
+            Err(_) => {
+                failed = true;
+                break;
+            }
         }
-        count += more;
     }
     Input { count, failed }
 }

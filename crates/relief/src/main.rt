@@ -8,16 +8,16 @@ mod input;
 use clean::clean;
 use input::read_input;
 
-fn main() {
+fn main(rt: HostRuntime) {
     let mut tape = [0u8; 65537];
-    let got = read_input(&mut tape);
+    let got = read_input(&mut rt.stdin(), &mut tape);
     if got.failed {
-        io::write_all(2, b"relief: standard input cannot be read\n");
+        let _ = rt.eprintln("relief: standard input cannot be read");
         return;
     }
     let mut text = [0u8; 98304];
     let count = clean(&tape[..got.count], &mut text);
-    if !io::write_all(1, &text[..count]) {
-        io::write_all(2, b"relief: standard output cannot be written\n");
+    if rt.write_all(&text[..count]).is_err() {
+        let _ = rt.eprintln("relief: standard output cannot be written");
     }
 }

@@ -9,6 +9,7 @@ ghost use Rattle.season.specs.Jobs.{ValidState, StepOf, ReportOf, SeasonTables};
 
 use crate::window::{Window, more_bytes};
 use model::{Totals, Verdict};
+use std::io::Read;
 use stream::next::{Next, next_job};
 use stream::totals::no_jobs;
 use tape_records::state::{ParserState, initial};
@@ -120,7 +121,8 @@ fn advance(
 }
 
 // The jobs of standard input, to its end, a refusal, or the last of 65,535.
-pub fn read_season(
+pub fn read_season<R: Read>(
+    stdin: &mut R,
     buffer: &mut [u8],
     samples: &mut [u8],
     weights: &mut [i32],
@@ -152,7 +154,7 @@ pub fn read_season(
             Step::Read(parser, at) => {
                 let w = s.window;
                 let totals = s.totals;
-                let window = more_bytes(buffer, w);
+                let window = more_bytes(stdin, buffer, w);
                 s = State {
                     window,
                     at,

@@ -11,15 +11,15 @@ mod window;
 
 use report::season_text;
 
-fn main() {
+fn main(rt: HostRuntime) {
     let mut output = [0u8; 512];
-    let r = season_text(&mut output);
+    let r = season_text(&mut rt.stdin(), &mut output);
     if r.failed {
-        io::write_all(2, b"season: standard input cannot be read\n");
+        let _ = rt.eprintln("season: standard input cannot be read");
         return;
     }
     let count = r.count;
-    if !io::write_all(1, &output[..count]) {
-        io::write_all(2, b"season: standard output cannot be written\n");
+    if rt.write_all(&output[..count]).is_err() {
+        let _ = rt.eprintln("season: standard output cannot be written");
     }
 }

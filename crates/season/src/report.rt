@@ -1,12 +1,13 @@
 // What the program prints for standard input.
 
 ghost use Rattle.std.specs.Prelude.{true, false, ◌≡◌};
-ghost use Rattle.io.specs.Counts.{IsPrefixLen};
+ghost use Rattle.std.specs.Counts.{IsPrefixLen};
 ghost use Rattle.model.specs.Program.{tables};
 ghost use Rattle.season.specs.Jobs.{ReportOf};
 ghost use Rattle.model.specs.Season.{TextOf};
 
 use crate::jobs::{Ended, read_season};
+use std::io::Read;
 use text::report::put_report;
 
 // How many bytes the text has, and whether a read failed.
@@ -17,7 +18,7 @@ pub struct Printed {
 }
 
 // The tables hold 4,096 samples, 8,064 pair weights and 8,064 flow values, whatever the input.
-fn read_jobs() -> Ended
+fn read_jobs<R: Read>(stdin: &mut R) -> Ended
     ensures { ReportOf (tables true) result }
 {
     let mut buffer = [0u8; 262144];
@@ -27,6 +28,7 @@ fn read_jobs() -> Ended
     let mut image = [0i32; 4096];
     let mut work = [0i32; 16128];
     read_season(
+        stdin,
         &mut buffer,
         &mut samples,
         &mut weights,
@@ -39,11 +41,11 @@ fn read_jobs() -> Ended
 // The text stands at the front of the output, for some input; which input that is, and whether a read
 // failed, is free (specs/Season.antt of `model`). Where one failed, count and output are free but for
 // the output's length.
-pub fn season_text(output: &mut [u8; 512]) -> Printed
+pub fn season_text<R: Read>(stdin: &mut R, output: &mut [u8; 512]) -> Printed
     ensures text_of { result.failed ≡ false → TextOf output.old result.count output.new }
     ensures prefix_len { IsPrefixLen result.count output.new }
 {
-    let e = read_jobs();
+    let e = read_jobs(stdin);
     let totals = e.totals;
     let ending = e.ending;
     let count = put_report(output, 0, totals, ending);

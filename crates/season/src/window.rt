@@ -4,6 +4,8 @@ ghost use Rattle.std.specs.Prelude.{◌≡◌, ◌+◌, ◌≤◌, length, get_o
 ghost use Rattle.lists.specs.Lists.{table, overwritten};
 ghost use Rattle.season.specs.Window.{WindowIn, CanGrow, WithRoom, Grown};
 
+use std::io::Read;
+
 // Where they begin and end, whether the input has ended behind them, and whether it did by a read that
 // failed.
 #[derive(Clone, Copy)]
@@ -45,27 +47,32 @@ fn make_room(buffer: &mut [u8], w: Window) -> Window
 }
 
 // One read, behind the bytes at hand.
-fn read_more(buffer: &mut [u8], w: Window) -> Window
+fn read_more<R: Read>(stdin: &mut R, buffer: &mut [u8], w: Window) -> Window
     requires { WindowIn buffer.old w }
     ensures { Grown buffer.old w buffer.new result }
 {
     let end = w.end;
-    let part = &mut buffer[end..];
-    let got = libc::read(0, part);
-    let more = io::count(got, part);
-    Window {
-        start: w.start,
-        end: end + more,
-        ended: more == 0,
-        failed: got < 0,
+    match stdin.read(&mut buffer[end..]) {
+        Ok(more) => Window {
+            start: w.start,
+            end: end + more,
+            ended: more == 0,
+            failed: false,
+        },
+        Err(_) => Window {
+            start: w.start,
+            end,
+            ended: true,
+            failed: true,
+        },
     }
 }
 
 // More bytes behind those at hand, if the input has more.
-pub fn more_bytes(buffer: &mut [u8], w: Window) -> Window
+pub fn more_bytes<R: Read>(stdin: &mut R, buffer: &mut [u8], w: Window) -> Window
     requires { CanGrow buffer.old w }
     ensures { Grown buffer.old w buffer.new result }
 {
     let moved = make_room(buffer, w);
-    read_more(buffer, moved)
+    read_more(stdin, buffer, moved)
 }

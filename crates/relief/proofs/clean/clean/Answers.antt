@@ -1,0 +1,16 @@
+use Rattle.std.proofs.Common.{arith}
+use Rattle.output.proofs.Puts.{Front, put_as, put_front}
+use Rattle.lists.specs.Lists.{overwritten}
+use Rattle.model.specs.Program.{program_text}
+use Rattle.relief.proofs.Limits.{too_long, not-too_long}
+use Rattle.relief.proofs.clean.clean.Goals as goal
+
+pub returns-then-input-gt65536 : goal.returns-then-input-gt65536
+returns-then-input-gt65536 c =
+    let f = put_front (put_as (too_long c.args.input.now c.if-input-gt65536.true) c.put_refusal.ensures) in
+    record { value = f.counted; output_after = f.filled; prefix_len = (f.within, f.first) }
+
+pub returns : goal.returns
+returns c =
+    let f = put_front (put_as (not-too_long c.args.input.now c.if-input-gt65536.false) c.put_tape_answer.ensures) in
+    record { value = f.counted; output_after = f.filled; prefix_len = (f.within, f.first) }

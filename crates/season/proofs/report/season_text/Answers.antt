@@ -1,0 +1,20 @@
+use mathlib.Core.Path.{ap, ◌∙◌}
+use mathlib.Core.List.{List, ◌++◌}
+use Prim.Native.Nat.{ℕ}
+use lib.ListN.{length}
+use Rattle.lists.specs.Lists.{overwritten}
+use Rattle.output.proofs.Puts.{put_front}
+use Rattle.stream.proofs.Reports.{season_text_lem}
+use Rattle.season.proofs.report.season_text.Goals as goal
+
+pub returns-clause-text_of : goal.returns-clause-text_of
+returns-clause-text_of g c ok =
+    let former : List ℕ = c.args.output.now in
+    let f = put_front c.put_report-count.ensures.put in
+    let (input, reports) = c.read_jobs-e.ensures ok in
+    record {
+      input = input;
+      ended = c.read_jobs-e.result.ended;
+      counted = λ rest follows. f.counted ∙ ap length (season_text_lem (input ++ rest) (reports rest follows));
+      laid = λ rest follows. f.filled ∙ ap (λ (text : List ℕ). overwritten text former) (season_text_lem (input ++ rest) (reports rest follows));
+    }
