@@ -44,10 +44,10 @@ module _ (t : Terms) (samples : List ℕ) (weights : List ℤ) where
     unfolding misfit
     misfit-at n e = sized _ e n
 
-    pub variation_at : {v : ℕ} → pos v ≡ total (pairs_of t) (variation_at (weight_at (pos 1) weights) (first_value (shape_of t) values) (second_value (shape_of t) values)) →
+    pub variation_at_lem : {v : ℕ} → pos v ≡ total (pairs_of t) (variation_at (weight_at (pos 1) weights) (first_value (shape_of t) values) (second_value (shape_of t) values)) →
         pos v ≡ variation (at values)
     unfolding fall
-    variation_at e = e
+    variation_at_lem e = e
 
   -- price: the misfit and twice the variation, by its scale
   module _ (own : WeightsAllowed t weights) (x : ℕ → ℤ) {a v : ℕ} (m : pos a ≡ misfit (grid t samples weights) x) (n : pos v ≡ variation x) where

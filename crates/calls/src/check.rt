@@ -14,7 +14,7 @@ use stencil::pixel;
 pub fn check(t: Terms, samples: &[u8], weights: &[i32], flow: &[i32], image: &mut [i32]) -> Answer
     ensures result_value { answer_of result ≡ check_answer t samples.now weights.now flow.now image.old }
     ensures image_after { image.new ≡ check_image t samples.now weights.now flow.now image.old }
-    ensures variant { ((answer_of result).number ≡ 0) ↔ CheckAllowed t samples.now weights.now flow.now image.old }
+    ensures accepted { ((answer_of result).number ≡ 0) ↔ CheckAllowed t samples.now weights.now flow.now image.old }
     ensures check_demand { (answer_of result).number ≡ 0 → CheckDemand t samples.now weights.now flow.now image.new (answer_of result) }
 {
     let verdict = validation::judge_check(t, samples.len(), weights, flow, image.len());

@@ -11,7 +11,7 @@ use stencil::pixel;
 
 pub fn price(t: Terms, samples: &[u8], weights: &[i32], image: &[i32]) -> Answer
     ensures result_value { answer_of result ≡ price_answer t samples.now weights.now image.now }
-    ensures variant { ((answer_of result).number ≡ 0) ↔ PriceAllowed t samples.now weights.now image.now }
+    ensures accepted { ((answer_of result).number ≡ 0) ↔ PriceAllowed t samples.now weights.now image.now }
 {
     let lower = pixel::low_end(t.low);
     let upper = pixel::high_end(t.high);

@@ -36,7 +36,7 @@ pub fn run(
     ensures flow_after { flow.new ≡ run_flow t r samples.now weights.now flow.old image.old work.old }
     ensures image_after { image.new ≡ run_image t r samples.now weights.now flow.old image.old work.old }
     ensures work_after { work.new ≡ run_work t r samples.now weights.now flow.old image.old work.old }
-    ensures variant { ((answer_of result).number ≡ 0) ↔ RunAllowed t r samples.now weights.now flow.old image.old work.old }
+    ensures accepted { ((answer_of result).number ≡ 0) ↔ RunAllowed t r samples.now weights.now flow.old image.old work.old }
     ensures run_demand { (answer_of result).number ≡ 0 → RunDemand t r samples.now weights.now flow.new image.new (answer_of result) }
 {
     let verdict = validation::judge_run(
