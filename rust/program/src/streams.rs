@@ -28,12 +28,13 @@ pub fn compare(program: &Program, name: &str) -> Result<(), Difference> {
 fn output_fails(program: &Program, name: &str, input: &Input) -> Result<(), Difference> {
     let said = format!("{name}: standard output cannot be written\n");
     let unread = run_unread(&mut program.command(), input);
-    // By the system's signal, without a word.
+    // Without a word: the toolchain's runtime ignores the system's signal, so the write fails, as it
+    // does where whoever starts the program ignores it.
     expect_message("output that nobody reads", unread, input, "")?;
     let mut signal_ignored = program.shell(r#"trap "" PIPE; exec "$0""#);
     let unread = run_unread(&mut signal_ignored, input);
     let what = "output that nobody reads, its signal ignored";
-    expect_message(what, unread, input, &said)?;
+    expect_message(what, unread, input, "")?;
     let full = opened(File::create("/dev/full"))?;
     let to_full = run(program.command().stdout(full), input);
     expect_message("output to a full device", to_full, input, &said)?;
@@ -78,7 +79,7 @@ fn expect_message(
         Ok(output) if output.stderr != said.as_bytes() => {
             format!("standard error has \"{}\"", output.stderr.escape_ascii())
         }
-        Ok(output) if !said.is_empty() && !output.status.success() => {
+        Ok(output) if !output.status.success() => {
             format!("it ended with {}", output.status)
         }
         Ok(_) => return Ok(()),
