@@ -10,7 +10,7 @@ use lib.Seq.{drop-cons, drop-length, drop-drop, drop_at, take_at, set_at, append
 use borrow.Rule.Slice.PartMut.{put_mid}
 use Rattle.lists.specs.Lists.{table, overwritten}
 use Rattle.lists.proofs.Tables.{length-table, table-append}
-use Rattle.lists.proofs.Parts.{part_count, rest_all}
+use Rattle.lists.proofs.Parts.{part_count}
 
 module _ {A : Type 0} where
   abbrev pub filled : ℕ → (ℕ → A) → List A → List A

@@ -1,9 +1,8 @@
 use Prim.Native.Nat.{◌*◌}
 use native.Mathlib.Omega.{arith}
-use lib.ListN.{length}
 use mir.Syntax.{w32}
 use mir.ValLaws.{to_z-of_z}
-use Rattle.image.proofs.RowParts.{RowEnds, row_ends, row-limits, row-table, row_put}
+use Rattle.image.proofs.RowParts.{row_ends, row-limits, row-table, row_put}
 use Rattle.image.proofs.whole.fill_row.Goals as goal
 
 pub overflow_mul-start : goal.overflow_mul-start

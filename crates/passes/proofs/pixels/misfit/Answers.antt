@@ -3,10 +3,7 @@ use Prim.Native.Nat.{ℕ, ◌<◌}
 use native.Mathlib.Omega.{arith}
 use lib.IntN.{pos, nat_abs}
 use lib.ListN.{length, get_or}
-use mir.Syntax.{w32}
-use mir.Val.{to_z, of_z}
 use Rattle.integers.proofs.Total.{total-zero}
-use Rattle.lists.specs.Lists.{at}
 use Rattle.passes.proofs.Elements.{element}
 use Rattle.passes.proofs.Totals.{total-more, misfit_at, misfit-most, misfits_most}
 use Rattle.passes.proofs.pixels.misfit.Goals as goal

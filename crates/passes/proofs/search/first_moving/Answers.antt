@@ -13,7 +13,6 @@ use Rattle.model.specs.Rounds.{nearest_eighth}
 use Rattle.layout.specs.declared.Run.{Run}
 use Rattle.layout.proofs.Runs.{RunOf, run-first}
 use Rattle.stencil.specs.Pair.{moves}
-use Rattle.passes.specs.declared.search.Moving.TheVariants.{At}
 use Rattle.passes.specs.Pairs.{weight_at, moves_at, first_value, second_value}
 use Rattle.passes.proofs.Runs.{PartOf, part_of, part_there, part_weight, is_run, begins, ends, all_done, Values, values_of, first-there, second-there, run-limits, run-weights, both, by_both, both_are, run-pass}
 use Rattle.passes.proofs.Searches.{answer, answer-cong, first-moves, none_answer, part_none, part_first}

@@ -8,7 +8,7 @@ use mir.Syntax.{w32}
 use mir.Val.{to_z, of_z}
 use mir.ValLaws.{to_z-of_z}
 use Rattle.lists.specs.Lists.{at, table}
-use Rattle.lists.proofs.Tables.{length-table, table-cong}
+use Rattle.lists.proofs.Tables.{table-cong}
 use Rattle.lists.proofs.Fill.{filled, length-filled, filled-done}
 use Rattle.model.specs.Rounds.{nearest_eighth}
 use Rattle.layout.specs.declared.Run.{Run}

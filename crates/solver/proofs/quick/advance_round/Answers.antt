@@ -41,11 +41,11 @@ advance_pairs-requires c =
     let a = c.args in
     let k = c.shape_of-s.ensures.byte_levels in
     let filled : c.fill_image.new.image ≡ image_of a.t a.samples.now a.ahead.now =
-        rw (c.shape_of-s.ensures.value, to_z-of_z w32 _ c.ranges.lower, to_z-of_z w32 _ c.ranges.upper) at c.fill_image.ensures
-        ∙ image-is a.t a.samples.now a.ahead.now c.requires.0
+    rw (c.shape_of-s.ensures.value, to_z-of_z w32 _ c.ranges.lower, to_z-of_z w32 _ c.ranges.upper) at c.fill_image.ensures
+    ∙ image-is a.t a.samples.now a.ahead.now c.requires.0
     in
     let by_next : Reciprocal (a.momentum - 65536) (next_momentum a.momentum) c.reciprocal-factor.result =
-        rw (← c.next_momentum-next.ensures) c.reciprocal-factor.ensures
+    rw (← c.next_momentum-next.ensures) c.reciprocal-factor.ensures
     in
     rw (read w32 c.natural-weight.type_inv, c.natural-weight.ensures, c.shape_of-s.ensures.value) (
       flow-limits a.t a.samples.now p.limits (ahead-length p) p.ahead_most k.low_byte k.high_byte filled,
@@ -64,11 +64,11 @@ returns c =
     let p = c.requires.1 in
     let a = c.args in
     let e : c.fill_image.new.image ≡ image_of a.t a.samples.now a.ahead.now =
-        rw (c.shape_of-s.ensures.value, to_z-of_z w32 _ c.ranges.lower, to_z-of_z w32 _ c.ranges.upper) at c.fill_image.ensures
-        ∙ image-is a.t a.samples.now a.ahead.now c.requires.0
+    rw (c.shape_of-s.ensures.value, to_z-of_z w32 _ c.ranges.lower, to_z-of_z w32 _ c.ranges.upper) at c.fill_image.ensures
+    ∙ image-is a.t a.samples.now a.ahead.now c.requires.0
     in
     let by_next : Reciprocal (a.momentum - 65536) (next_momentum a.momentum) c.reciprocal-factor.result =
-        rw (← c.next_momentum-next.ensures) c.reciprocal-factor.ensures
+    rw (← c.next_momentum-next.ensures) c.reciprocal-factor.ensures
     in
     record {
       flow_after =
@@ -77,7 +77,7 @@ returns c =
       ahead_after =
           rw (c.shape_of-s.ensures.value, p.lengths.flow_length) at (rw (read w32 c.natural-weight.type_inv, c.natural-weight.ensures) at c.advance_pairs.ensures.ahead_after)
           ∙ ahead-is a.t a.samples.now a.weights.now p.limits p.pair_weights eighth a.flow.now a.ahead.now a.momentum e _ p.flow_most
-              p.momentum_least p.momentum_most by_next;
+          p.momentum_least p.momentum_most by_next;
       value = unfold quick_round in c.next_momentum-next.ensures;
       image_after = e;
     }

@@ -6,7 +6,6 @@ use lib.IntN.{ℤ, pos}
 use lib.ListN.{length, replicate}
 use mir.Syntax.{w32}
 use mir.ValLaws.{to_z-of_z}
-use Rattle.model.specs.Problem.{Problem}
 use Rattle.model.specs.Grid.{limit, grid}
 use Rattle.model.specs.Rounds.{eighth, nearest_eighth, Steady, steady_rounds}
 use Rattle.model.specs.Plain.{rounds_of}

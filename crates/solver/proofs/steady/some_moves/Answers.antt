@@ -46,8 +46,8 @@ first_moving-first-requires c =
     let a = c.args in
     let k = c.shape_of-s.ensures.byte_levels in
     let filled : c.fill_image.new.image ≡ image_of a.t a.samples.now a.flow.now =
-        rw (c.shape_of-s.ensures.value, to_z-of_z w32 _ c.ranges.lower, to_z-of_z w32 _ c.ranges.upper) at c.fill_image.ensures
-        ∙ image-is a.t a.samples.now a.flow.now c.requires.0
+    rw (c.shape_of-s.ensures.value, to_z-of_z w32 _ c.ranges.lower, to_z-of_z w32 _ c.ranges.upper) at c.fill_image.ensures
+    ∙ image-is a.t a.samples.now a.flow.now c.requires.0
     in
     rw (c.shape_of-s.ensures.value, read w32 c.natural.type_inv, c.natural.ensures) (
       flow-limits a.t a.samples.now p.limits p.lengths.flow_length (flow_most p) k.low_byte k.high_byte filled,
@@ -59,14 +59,14 @@ returns-in-At c =
     let p = c.requires.1 in
     let a = c.args in
     let filled : c.fill_image.new.image ≡ image_of a.t a.samples.now a.flow.now =
-        rw (c.shape_of-s.ensures.value, to_z-of_z w32 _ c.ranges.lower, to_z-of_z w32 _ c.ranges.upper) at c.fill_image.ensures
-        ∙ image-is a.t a.samples.now a.flow.now c.requires.0
+    rw (c.shape_of-s.ensures.value, to_z-of_z w32 _ c.ranges.lower, to_z-of_z w32 _ c.ranges.upper) at c.fill_image.ensures
+    ∙ image-is a.t a.samples.now a.flow.now c.requires.0
     in
     let n : ℕ = count a.t a.samples.now a.weights.now in
     let f : ℕ = first a.t a.samples.now a.weights.now a.flow.now in
     let answer : c.first_moving-first.result ≡ moving_of n f =
-        rw (c.shape_of-s.ensures.value, p.lengths.flow_length) at (rw (read w32 c.natural.type_inv, c.natural.ensures) at c.first_moving-first.ensures)
-        ∙ ap (moving_of n) (moving_is a.t a.samples.now a.weights.now a.flow.now filled nearest_eighth p.pair_weights)
+    rw (c.shape_of-s.ensures.value, p.lengths.flow_length) at (rw (read w32 c.natural.type_inv, c.natural.ensures) at c.first_moving-first.ensures)
+    ∙ ap (moving_of n) (moving_is a.t a.samples.now a.weights.now a.flow.now filled nearest_eighth p.pair_weights)
     in
     record { image_after = filled; value = sym (lt-ltb f n (one-moves n f answer c.in-At.is)) }
 
@@ -75,13 +75,13 @@ returns-in-Nothing c =
     let p = c.requires.1 in
     let a = c.args in
     let filled : c.fill_image.new.image ≡ image_of a.t a.samples.now a.flow.now =
-        rw (c.shape_of-s.ensures.value, to_z-of_z w32 _ c.ranges.lower, to_z-of_z w32 _ c.ranges.upper) at c.fill_image.ensures
-        ∙ image-is a.t a.samples.now a.flow.now c.requires.0
+    rw (c.shape_of-s.ensures.value, to_z-of_z w32 _ c.ranges.lower, to_z-of_z w32 _ c.ranges.upper) at c.fill_image.ensures
+    ∙ image-is a.t a.samples.now a.flow.now c.requires.0
     in
     let n : ℕ = count a.t a.samples.now a.weights.now in
     let f : ℕ = first a.t a.samples.now a.weights.now a.flow.now in
     let answer : c.first_moving-first.result ≡ moving_of n f =
-        rw (c.shape_of-s.ensures.value, p.lengths.flow_length) at (rw (read w32 c.natural.type_inv, c.natural.ensures) at c.first_moving-first.ensures)
-        ∙ ap (moving_of n) (moving_is a.t a.samples.now a.weights.now a.flow.now filled nearest_eighth p.pair_weights)
+    rw (c.shape_of-s.ensures.value, p.lengths.flow_length) at (rw (read w32 c.natural.type_inv, c.natural.ensures) at c.first_moving-first.ensures)
+    ∙ ap (moving_of n) (moving_is a.t a.samples.now a.weights.now a.flow.now filled nearest_eighth p.pair_weights)
     in
     record { image_after = filled; value = sym (le-ltb f n (nothing-moves n f answer c.in-Nothing.is)) }

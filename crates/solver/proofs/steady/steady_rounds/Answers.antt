@@ -1,13 +1,10 @@
 use mathlib.Core.Path.{◌≡◌, sym, ap, ◌∙◌}
 use mathlib.Core.Bool.{true, true≢false}
 use mathlib.Core.List.{List}
-use mathlib.Core.Logic.{⊎_elim}
-use Prim.Native.Nat.{◌≤◌, ◌<◌}
+use Prim.Native.Nat.{◌≤◌}
 use native.Mathlib.Omega.{arith}
-use borrow.Author.Tests.{leb-true, leb-false, not-true, not-false}
-use lib.IntN.{ℤ, pos}
+use lib.IntN.{ℤ}
 use mir.Syntax.{w32}
-use mir.Val.{to_z, of_z}
 use mir.ValLaws.{to_z-of_z}
 use Rattle.integers.proofs.Machine.{read}
 use Rattle.model.specs.Grid.{limit, grid}
@@ -36,10 +33,10 @@ returns-then-not-moving c =
     let m = c.some_moves-moving in
     -- the loop is left where no pair would move, or with the allowance used up
     let over : m.result ≡ true → c.args.allowance ≤ c.loop-t.moved =
-        elim c.then-not-moving.branch [
-          | then-not-moving-via-then-not-moving w ↦ λ h. absurd (true≢false (sym h ∙ w.if-not-moving.true))
-          | then-not-moving-via-else-not-moving+then-most-moved w ↦ λ h. w.if-most-moved.true
-        ]
+    elim c.then-not-moving.branch [
+      | then-not-moving-via-then-not-moving w ↦ λ h. absurd (true≢false (sym h ∙ w.if-not-moving.true))
+      | then-not-moving-via-else-not-moving+then-most-moved w ↦ λ h. w.if-most-moved.true
+    ]
     in
     let e = rested_end c.loop-t.invariant.1 m.result m.ensures.value over in
     record {
@@ -76,8 +73,8 @@ loop-t-preserved c =
     let image = c.some_moves-moving.ensures.image_after in
     -- a step on the flow
     let stepped : c.step_pairs.new.flow ≡ step nearest_eighth (grid a.t a.samples.now a.weights.now) l.flow =
-        rw (c.shape_of-s.ensures.value, read w32 n.type_inv, n.ensures, l.invariant.0.lengths.flow_length) at c.step_pairs.ensures
-        ∙ stepped-is a.t a.samples.now a.weights.now l.flow image nearest_eighth p.pair_weights
+    rw (c.shape_of-s.ensures.value, read w32 n.type_inv, n.ensures, l.invariant.0.lengths.flow_length) at c.step_pairs.ensures
+    ∙ stepped-is a.t a.samples.now a.weights.now l.flow image nearest_eighth p.pair_weights
     in (
       ready_more nearest_eighth l.invariant.0 stepped (image-size a.t a.samples.now l.flow image),
       rested_more l.invariant.1 (sym c.some_moves-moving.ensures.value ∙ c.if-not-moving.false) c.if-most-moved.false stepped,
