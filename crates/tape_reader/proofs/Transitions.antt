@@ -1,6 +1,6 @@
 -- The transition that the code makes on a record, by the verdict on it and by its kind: the turn of reading that the
 -- definition makes. Assumes nothing.
-use mathlib.Core.Path.{◌≡◌, refl, sym, ap, ◌∙◌}
+use mathlib.Core.Path.{◌≡◌, refl, ap, ◌∙◌}
 use mathlib.Core.Bool.{Bool, true, false, cond}
 use mathlib.Core.List.{List, [], ◌∷◌}
 use Prim.Native.Nat.{ℕ, ◌+◌}
@@ -11,22 +11,17 @@ use Rattle.model.specs.declared.Verdict.{Verdict}
 use Rattle.model.specs.declared.Entry.{Entry}
 use Rattle.model.specs.declared.Entry.TheVariants.{End, Size, WeightBox, RoundLimits, Sample, Flow, PairWeight}
 use Rattle.model.specs.declared.Lent.{Lent}
-use Rattle.model.specs.Verdict.{first_refusal, decided}
-use Rattle.model.specs.Tape.{kinds, known, decoded, Progress, allowed, absorbed, entry_rows}
+use Rattle.model.specs.Verdict.{decided}
+use Rattle.model.specs.Tape.{kinds, known, decoded, Progress, allowed, absorbed}
 use Rattle.tape_records.specs.declared.state.ParserState.{ParserState}
 use Rattle.tape_records.specs.declared.parse.Cursor.{Cursor}
 use Rattle.tape_records.specs.declared.parse.RecordResult.{RecordResult}
 use Rattle.tape_reader.specs.declared.transition.Transition.{Transition}
 use Rattle.tape_records.specs.State.{state_of}
 use Rattle.tape_records.specs.Record.{record_at, result_at}
-use Rattle.tape_reader.specs.Transition.{advanced, continued, judged_entry, transition_on, transition_at}
+use Rattle.tape_reader.specs.Transition.{advanced, continued, transition_on, transition_at}
 use Rattle.roundtrip.proofs.EachKind.{each_kind}
 use Rattle.roundtrip.proofs.Turns.{entry_at, next_at, terms_verdict, record_verdict, verdict, passed_record}
-
--- what the verdict on a record's terms gives
-pub judged-entry : (t : ParserState) (e : Entry) (next : Cursor) (o : ℕ) (lent : Lent) {v : Verdict} →
-    first_refusal (entry_rows o lent e) ≡ v → decided v (continued t e next) Transition.Refused ≡ judged_entry t e next o lent
-judged-entry t e next o lent h = ap (λ (v : Verdict). decided v (continued t e next) Transition.Refused) (sym h)
 
 -- the counts of what has been read once this record has been, too
 pub advanced-absorbed : (p : Progress) (e : Entry) → advanced (state_of p) e ≡ state_of (absorbed p e)
