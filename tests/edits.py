@@ -103,6 +103,7 @@ class Said(unittest.TestCase):
             "`omega`: the goal does not follow from what it read",
             "what it leaves must be a path whose two ends are equal",
             "computed as far as they go, the two types differ only where one has `3`",
+            "give a proof of that as the last argument, `rw L t` (`rw L ?` shows it as a hole's goal), or add",
             "`search`: no proof of `an equation that is longer than what rt prints of a line",
         ]:
             self.assertIsNone(self.judged("run", at_error(f"`last`: {said}")))

@@ -250,7 +250,7 @@ PROMISED = re.compile(r"it is not proved that (what the function ensures|the inv
 # no equation of two equal ends. Any other one (a name or a field that is not there) is the proof file's.
 FACT = re.compile(
     r"the two (types|sides)|but this has type|no proof of|the goal does not follow|a path whose two ends are equal"
-    r"|`(grind|omega|search|simp|rw)`: "
+    r"|give a proof of that as the last argument, `rw L t`|`(grind|omega|search|simp)`: "
 )
 UNFIT = re.compile(r"that can be named from here|has no field|is not in scope|not admitted")
 LIMIT = re.compile(r"limit was met|broke off|ran out of|took more than (?!200000 steps)|gave up at one of its limits")
