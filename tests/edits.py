@@ -103,6 +103,8 @@ class Said(unittest.TestCase):
             "`omega`: the goal does not follow from what it read",
             "what it leaves must be a path whose two ends are equal",
             "computed as far as they go, the two types differ only where one has `3`",
+            "give a proof of that as the last argument, `rw L t` (`rw L ?` shows it as a hole's goal), or add",
+            "expected type `a type that is longer than what rt prints of a line",
             "`search`: no proof of `an equation that is longer than what rt prints of a line",
         ]:
             self.assertIsNone(self.judged("run", at_error(f"`last`: {said}")))
@@ -177,6 +179,10 @@ class Said(unittest.TestCase):
         self.assertEqual(list(edits.judge_log([edit], f"rt: calls proved\n{well}\n1 passed, 0 failed\n")), [])
         self.assertIn("not tried", list(edits.judge_log([edit], well.replace("label", "other")))[0])
         self.assertIn("not tried", list(edits.judge_log([edit], "rt: calls proved\n"))[0])
+        self.assertEqual(edits.undecided([edit], well), [])
+        given_up = well.replace("the facts known there", "`search` gave up at one of its limits")
+        self.assertEqual(edits.undecided([edit], given_up), ["calls/label"])
+        self.assertEqual(list(edits.judge_log([edit], given_up)), [])
 
 
 class Faults(unittest.TestCase):

@@ -246,11 +246,11 @@ WHERE = re.compile(r"(?:note: )?(?:\./)?(?P<path>[^\s:]+):(?P<line>\d+):\d+: (?P
 PROMISE = re.compile(r"(returns|loop-.+-(init|preserved))(-.*)?")
 # the same in the words of a note, whose name of the goal may be cut off
 PROMISED = re.compile(r"it is not proved that (what the function ensures|the invariant )")
-# what an error says where a fact does not hold: two types or sides differ, a tactic finds no proof, or what a rewriting leaves is
-# no equation of two equal ends. Any other one (a name or a field that is not there) is the proof file's.
+# what an error says where a fact does not hold: two types or sides differ, another type is expected, a tactic finds no proof, or
+# what a rewriting leaves is no equation of two equal ends. Any other one (a name or a field that is not there) is the proof file's.
 FACT = re.compile(
-    r"the two (types|sides)|but this has type|no proof of|the goal does not follow|a path whose two ends are equal"
-    r"|`(grind|omega|search|simp|rw)`: "
+    r"the two (types|sides)|expected type `|but this has type|no proof of|the goal does not follow"
+    r"|a path whose two ends are equal|give a proof of that as the last argument, `rw L t`|`(grind|omega|search|simp)`: "
 )
 UNFIT = re.compile(r"that can be named from here|has no field|is not in scope|not admitted")
 LIMIT = re.compile(r"limit was met|broke off|ran out of|took more than (?!200000 steps)|gave up at one of its limits")
@@ -347,6 +347,12 @@ def judge_log(found, text):
             yield f"{edit.crate}/{edit.label} (at: {edit.at}): {fault}"
 
 
+def undecided(found, text):
+    """Those of these edits at which the toolchain's own search says that it gave up: they say less of a contract than the others."""
+    said = {(line["crate"], line["label"]): line["said"] for line in map(SAID.fullmatch, text.splitlines()) if line}
+    return [f"{edit.crate}/{edit.label}" for edit in found if "gave up at one of its limits" in said.get((edit.crate, edit.label), "")]
+
+
 def main(arguments):
     found = edits()
     if arguments == []:
@@ -361,8 +367,11 @@ def main(arguments):
         done = "docs/REVIEW.md: the table of edits is what the edits say"
     elif arguments[:1] == ["--said"] and len(arguments) > 1:
         found = [edit for edit in found if edit.crate in arguments[2:] or not arguments[2:]]
-        wrong = list(judge_log(found, pathlib.Path(arguments[1]).read_text(encoding="utf-8", errors="replace")))
+        text = pathlib.Path(arguments[1]).read_text(encoding="utf-8", errors="replace")
+        wrong = list(judge_log(found, text))
         done = f"{len(found)} edits refused where they say, each at a fact"
+        if undecided(found, text):
+            done += f"; at a limit of the search, which finds no proof: {', '.join(undecided(found, text))}"
     else:
         sys.exit(__doc__)
     for fault in wrong:
