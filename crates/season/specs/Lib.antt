@@ -1,7 +1,5 @@
 -- What the contracts cite.
 --     Window   the bytes at hand in a buffer
 --     Jobs     how far a season has been read, and what its report still depends on
---     Report   what is printed for an input that is known
 pub mod Window
 pub mod Jobs
-pub mod Report

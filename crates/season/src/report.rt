@@ -1,11 +1,11 @@
 // What the program prints for standard input.
 
-ghost use Rattle.std.specs.Prelude.{true, false, ◌≡◌, IfSome};
+ghost use Rattle.std.specs.Prelude.{true, false, ◌≡◌, IfSome, length};
 ghost use Rattle.std.specs.Counts.{IsPrefixLen};
 ghost use Rattle.model.specs.Program.{tables};
 ghost use Rattle.season.specs.Jobs.{ReportOf, KnownReport};
-ghost use Rattle.model.specs.Season.{TextOf};
-ghost use Rattle.season.specs.Report.{TextFor};
+ghost use Rattle.lists.specs.Lists.{overwritten};
+ghost use Rattle.model.specs.Season.{TextOf, season_text};
 
 use crate::jobs::{Ended, read_season};
 use std::io::Read;
@@ -45,7 +45,8 @@ fn read_jobs<R: Read>(stdin: &mut R) -> Ended
 // one failed, count and output are free but for the output's length.
 pub fn season_text<R: Read>(stdin: &mut R, output: &mut [u8; 512]) -> Printed
     ensures text_of { result.failed ≡ false → TextOf output.old result.count output.new }
-    ensures known_text { result.failed ≡ false → IfSome (R.remaining stdin.old) (λ input. TextFor input output.old result.count output.new) }
+    ensures known_count { result.failed ≡ false → IfSome (R.remaining stdin.old) (λ input. result.count ≡ length (season_text input)) }
+    ensures known_output { result.failed ≡ false → IfSome (R.remaining stdin.old) (λ input. output.new ≡ overwritten (season_text input) output.old) }
     ensures prefix_len { IsPrefixLen result.count output.new }
 {
     let e = read_jobs(stdin);

@@ -20,10 +20,14 @@ returns-clause-text_of g c ok =
       laid = λ rest follows. f.filled ∙ ap (λ (text : List ℕ). overwritten text former) (season_text_lem (input ++ rest) (reports rest follows));
     }
 
-pub returns-clause-known_text : goal.returns-clause-known_text
-returns-clause-known_text g c ok =
+pub returns-clause-known_count : goal.returns-clause-known_count
+returns-clause-known_count g c ok =
+    IfSome_then (g.R.Read.remaining c.args.stdin.now) (c.read_jobs-e.ensures.known_report ok)
+    (λ input e. (put_front c.put_report-count.ensures.put).counted ∙ ap length (season_text_lem input e))
+
+pub returns-clause-known_output : goal.returns-clause-known_output
+returns-clause-known_output g c ok =
     let former : List ℕ = c.args.output.now in
-    let f = put_front c.put_report-count.ensures.put in
     IfSome_then (g.R.Read.remaining c.args.stdin.now) (c.read_jobs-e.ensures.known_report ok)
     (λ input e.
-    record { counted = f.counted ∙ ap length (season_text_lem input e); laid = f.filled ∙ ap (λ (text : List ℕ). overwritten text former) (season_text_lem input e) })
+    (put_front c.put_report-count.ensures.put).filled ∙ ap (λ (text : List ℕ). overwritten text former) (season_text_lem input e))
