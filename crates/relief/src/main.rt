@@ -7,6 +7,7 @@ mod input;
 
 use clean::clean;
 use input::read_input;
+use std::io::ErrorKind;
 
 fn main(rt: HostRuntime) {
     let mut tape = [0u8; 65537];
@@ -17,7 +18,10 @@ fn main(rt: HostRuntime) {
     }
     let mut text = [0u8; 98304];
     let count = clean(&tape[..got.count], &mut text);
-    if rt.write_all(&text[..count]).is_err() {
-        let _ = rt.eprintln("relief: standard output cannot be written");
+    if let Err(e) = rt.write_all(&text[..count]) {
+        // A pipe that nobody reads ends it without a word.
+        if e.kind() != ErrorKind::BrokenPipe {
+            let _ = rt.eprintln("relief: standard output cannot be written");
+        }
     }
 }

@@ -4,7 +4,7 @@ use mathlib.Core.List.{List, ◌++◌}
 use Prim.Native.Nat.{ℕ, ◌+◌, ◌-◌, ◌≤◌}
 use native.Mathlib.Omega.{arith}
 use lib.ListN.{length, get_or, take, drop}
-use lib.Seq.{drop-append-le, length-take-le, take-append-add}
+use lib.Seq.{drop-append-le, drop_at, length-take-le, take-append-add}
 use Rattle.lists.specs.Lists.{table, overwritten}
 use Rattle.lists.proofs.Tables.{length-table}
 use Rattle.lists.proofs.Parts.{part_table, drop-take, part_length}
@@ -28,3 +28,10 @@ grown buffer part start end more h k =
     ∙ ap (λ (l : List ℕ). take (end + more - start) (l ++ part)) (drop-take start end buffer h k)
     ∙ ap (λ (n : ℕ). take n (kept ++ part)) all
     ∙ take-append-add kept part more
+
+-- .. and these alone
+pub came : (buffer part : List ℕ) (start end more : ℕ) → start ≤ end → end ≤ length buffer →
+    drop (end - start) (take (end + more - start) (drop start (take end buffer ++ part))) ≡ take more part
+came buffer part start end more h k =
+    ap (drop (end - start)) (grown buffer part start end more h k)
+    ∙ drop_at (take (end - start) (drop start buffer)) (take more part) (end - start) (part_length start (end - start) buffer (omega arith))

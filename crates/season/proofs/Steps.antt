@@ -46,6 +46,8 @@ module _ (lent : Lent) (buffer : List ℕ) (w : Window) (within : WindowIn buffe
   job-counted few =
       record {
         within = record { ordered = omega (arith, size, g.inside, within.ordered); inside = within.inside };
+        ended = refl;
+        failed = refl;
         first = refl;
         unread = refl;
         bounded = g.bounded;

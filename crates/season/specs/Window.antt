@@ -5,6 +5,10 @@ use Rattle.season.specs.declared.window.Window.{Window}
 abbrev pub at_hand : List ℕ → Window → List ℕ
 at_hand buffer w = take (w.end - w.start) (drop w.start buffer)
 
+-- what came behind the bytes at hand
+abbrev pub new_bytes : Window → List ℕ → Window → List ℕ
+new_bytes w after r = drop (w.end - w.start) (at_hand after r)
+
 -- a window lies in a buffer
 pub record WindowIn (buffer : List ℕ) (w : Window) : Type 0 where
   pub ordered : w.start ≤ w.end

@@ -5,7 +5,7 @@ ghost use Rattle.model.specs.declared.Lent.{Lent};
 ghost use Rattle.stream.specs.Jobs.{lent_in};
 ghost use Rattle.stream.specs.AtHand.{NextJob};
 ghost use Rattle.season.specs.Window.{at_hand, WindowIn};
-ghost use Rattle.season.specs.Jobs.{ValidState, StepOf, ReportOf, SeasonTables};
+ghost use Rattle.season.specs.Jobs.{ValidState, StepOf, ReportOf, KnownReport, SeasonTables};
 
 use crate::window::{Window, more_bytes};
 use model::{Totals, Verdict};
@@ -131,7 +131,8 @@ pub fn read_season<R: Read>(
     work: &mut [i32],
 ) -> Ended
     requires { SeasonTables (length buffer.old) (length samples.old) (length flow.old) (length image.old) (length work.old) }
-    ensures { ReportOf (lent_in (length samples.old) (length weights.old) (length flow.old)) result }
+    ensures report { ReportOf (lent_in (length samples.old) (length weights.old) (length flow.old)) result }
+    ensures known_report { KnownReport (lent_in (length samples.old) (length weights.old) (length flow.old)) (R.remaining stdin.old) result }
 {
     let window = Window {
         start: 0,

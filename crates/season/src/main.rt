@@ -10,6 +10,7 @@ mod report;
 mod window;
 
 use report::season_text;
+use std::io::ErrorKind;
 
 fn main(rt: HostRuntime) {
     let mut output = [0u8; 512];
@@ -19,7 +20,10 @@ fn main(rt: HostRuntime) {
         return;
     }
     let count = r.count;
-    if rt.write_all(&output[..count]).is_err() {
-        let _ = rt.eprintln("season: standard output cannot be written");
+    if let Err(e) = rt.write_all(&output[..count]) {
+        // A pipe that nobody reads ends it without a word.
+        if e.kind() != ErrorKind::BrokenPipe {
+            let _ = rt.eprintln("season: standard output cannot be written");
+        }
     }
 }

@@ -1,8 +1,9 @@
 // The bytes at hand: a part of a buffer that is filled from standard input.
 
-ghost use Rattle.std.specs.Prelude.{◌≡◌, ◌+◌, ◌≤◌, length, get_or};
+ghost use Rattle.std.specs.Prelude.{◌≡◌, true, false, ◌+◌, ◌≤◌, ◌<◌, length, get_or};
+ghost use Rattle.std.specs.Io.KnownBytes.{Consumes, IsAtEnd};
 ghost use Rattle.lists.specs.Lists.{table, overwritten};
-ghost use Rattle.season.specs.Window.{WindowIn, CanGrow, WithRoom, Grown};
+ghost use Rattle.season.specs.Window.{new_bytes, WindowIn, CanGrow, WithRoom, Grown};
 
 use std::io::Read;
 
@@ -46,10 +47,13 @@ fn make_room(buffer: &mut [u8], w: Window) -> Window
     }
 }
 
-// One read, behind the bytes at hand.
+// One read, behind the bytes at hand. Of a reader whose bytes are known it gives the first of these; it
+// ends only where there is none, if there is room.
 fn read_more<R: Read>(stdin: &mut R, buffer: &mut [u8], w: Window) -> Window
     requires { WindowIn buffer.old w }
-    ensures { Grown buffer.old w buffer.new result }
+    ensures grown { Grown buffer.old w buffer.new result }
+    ensures first_bytes { Consumes (R.remaining stdin.old) (R.remaining stdin.new) (new_bytes w buffer.new result) }
+    ensures all_bytes { w.end < length buffer.old → result.ended ≡ true → result.failed ≡ false → IsAtEnd (R.remaining stdin.new) }
 {
     let end = w.end;
     match stdin.read(&mut buffer[end..]) {
@@ -71,7 +75,9 @@ fn read_more<R: Read>(stdin: &mut R, buffer: &mut [u8], w: Window) -> Window
 // More bytes behind those at hand, if the input has more.
 pub fn more_bytes<R: Read>(stdin: &mut R, buffer: &mut [u8], w: Window) -> Window
     requires { CanGrow buffer.old w }
-    ensures { Grown buffer.old w buffer.new result }
+    ensures grown { Grown buffer.old w buffer.new result }
+    ensures first_bytes { Consumes (R.remaining stdin.old) (R.remaining stdin.new) (new_bytes w buffer.new result) }
+    ensures all_bytes { result.ended ≡ true → result.failed ≡ false → IsAtEnd (R.remaining stdin.new) }
 {
     let moved = make_room(buffer, w);
     read_more(stdin, buffer, moved)

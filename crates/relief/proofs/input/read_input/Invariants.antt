@@ -1,9 +1,15 @@
-use Rattle.std.proofs.Common.{length, ◌-◌, ◌≡◌, ◌≤◌}
+use Rattle.std.proofs.Common.{◌≡◌, ◌≤◌, ◌-◌, length, take}
 use mathlib.Core.Bool.{false}
+use Rattle.std.specs.Io.KnownBytes.{Consumes}
 use Rattle.relief.proofs.input.read_input.Given as goal
 
 abbrev pub invariant-loop-count : goal.invariant-loop-count
-invariant-loop-count g l = (l.count ≤ length l.buffer) × (l.failed ≡ false)
+invariant-loop-count g l =
+    record {
+      within : l.count ≤ length l.buffer;
+      whole : l.failed ≡ false;
+      first_bytes : Consumes (g.R.Read.remaining l.fn.stdin) (g.R.Read.remaining l.stdin) (take l.count l.buffer);
+    }
 
 abbrev pub decreases-loop-count : goal.decreases-loop-count
 decreases-loop-count g l = length l.initial.buffer - l.count

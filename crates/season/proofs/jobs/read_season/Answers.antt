@@ -1,40 +1,37 @@
-use Rattle.std.proofs.Common.{◌≡◌, ℕ, length, refl, arith}
-use mathlib.Core.Bool.{false}
-use mathlib.Core.Path.{sym, ◌∙◌, subst, subst₂}
+use Rattle.std.proofs.Common.{ℕ, length, refl, arith}
+use mathlib.Core.Bool.{true≢false}
+use mathlib.Core.Path.{sym, ◌∙◌, subst}
 use Rattle.model.specs.declared.Lent.{Lent}
-use Rattle.model.specs.declared.Totals.{Totals}
-use Rattle.tape_records.specs.declared.state.ParserState.{ParserState}
-use Rattle.stream.specs.Jobs.{lent_in}
+use Rattle.std.proofs.KnownBytes.{Consumes-nil}
 use Rattle.stream.specs.AtHand.{NeedsMore}
 use Rattle.season.specs.Window.{at_hand}
-use Rattle.season.specs.Jobs.{Continues}
+use Rattle.season.specs.Jobs.{Continues, Stops}
 use Rattle.season.proofs.Steps.{nearer}
-use Rattle.season.proofs.Loop.{same-lent, Invariant, begins, continued, grown}
+use Rattle.season.proofs.Loop.{same-lent, begins, continued, grown, stopped, taken-on, taken_more, known_report}
 use Rattle.season.proofs.jobs.read_season.Goals as goal
 
 pub loop-r-init : goal.loop-r-init
-loop-r-init g c =
-    let a = c.args in
-    let lent : Lent = lent_in (length a.samples.now) (length a.weights.now) (length a.flow.now) in (
-      subst₂ (λ (t : ParserState) (n : Totals). Invariant lent a.buffer.now (record { window = record { start = 0; end = 0; ended = false; failed = false }; at = 0; parser = t; totals = n }))
-          (sym c.initial.ensures) (sym c.no_jobs.ensures) (begins lent a.buffer.now),
-      record {
-        buffer_length = refl;
-        samples_length = refl;
-        weights_length = refl;
-        flow_length = refl;
-        image_length = refl;
-        work_length = refl;
-      },
-    )
+loop-r-init g c = (
+  begins _ c.args.buffer.now c.initial.ensures c.no_jobs.ensures,
+  record {
+    buffer_length = refl;
+    samples_length = refl;
+    weights_length = refl;
+    flow_length = refl;
+    image_length = refl;
+    work_length = refl;
+  },
+  record { first_bytes = Consumes-nil (g.R.Read.remaining c.args.stdin.now); all_bytes = λ e f. absurd (true≢false (sym e)) },
+)
 
 pub loop-r-preserved-in-Continue : goal.loop-r-preserved-in-Continue
 loop-r-preserved-in-Continue g c =
     let l = c.loop-r in
+    let k = l.invariant.0 in
     let same = l.invariant.1 in
-    let kept = c.advance-step.auto in (
-      continued _ l.invariant.0
-          (subst (λ (lent : Lent). Continues lent l.buffer l.s.window l.s.totals c.in-Continue.r) (same-lent same) c.in-Continue.ensures),
+    let kept = c.advance-step.auto in
+    let on = subst (λ (lent : Lent). Continues lent l.buffer l.s.window l.s.totals c.in-Continue.r) (same-lent same) c.in-Continue.ensures in (
+      continued _ k on,
       record {
         buffer_length = same.buffer_length;
         samples_length = kept.samples ∙ same.samples_length;
@@ -43,6 +40,7 @@ loop-r-preserved-in-Continue g c =
         image_length = kept.image ∙ same.image_length;
         work_length = kept.work ∙ same.work_length;
       },
+      taken-on _ k l.invariant.2 on,
     )
 
 pub loop-r-smaller : goal.loop-r-smaller
@@ -50,16 +48,17 @@ loop-r-smaller g c =
     let l = c.loop-r in
     nearer l.invariant.0.valid
     (subst (λ (lent : Lent). NeedsMore (at_hand l.buffer l.s.window) l.s.window.ended lent c.in-Read.parser c.in-Read.at) (same-lent l.invariant.1) c.in-Read.ensures)
-    c.more_bytes-window.ensures
+    c.more_bytes-window.ensures.grown
 
 pub loop-r-preserved : goal.loop-r-preserved
 loop-r-preserved g c =
     let l = c.loop-r in
+    let k = l.invariant.0 in
     let same = l.invariant.1 in
-    let kept = c.advance-step.auto in (
-      grown _ l.invariant.0
-          (subst (λ (lent : Lent). NeedsMore (at_hand l.buffer l.s.window) l.s.window.ended lent c.in-Read.parser c.in-Read.at) (same-lent same) c.in-Read.ensures)
-          c.more_bytes-window.ensures,
+    let kept = c.advance-step.auto in
+    let more = c.more_bytes-window.ensures in
+    let needs = subst (λ (lent : Lent). NeedsMore (at_hand l.buffer l.s.window) l.s.window.ended lent c.in-Read.parser c.in-Read.at) (same-lent same) c.in-Read.ensures in (
+      grown _ k needs more.grown,
       record {
         buffer_length = c.more_bytes-window.auto.buffer ∙ same.buffer_length;
         samples_length = kept.samples ∙ same.samples_length;
@@ -68,4 +67,5 @@ loop-r-preserved g c =
         image_length = kept.image ∙ same.image_length;
         work_length = kept.work ∙ same.work_length;
       },
+      taken_more _ k l.invariant.2 needs more.grown more.first_bytes more.all_bytes,
     )

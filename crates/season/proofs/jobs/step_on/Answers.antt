@@ -1,4 +1,4 @@
-use mathlib.Core.Path.{◌≡◌, subst, subst⁻¹}
+use mathlib.Core.Path.{◌≡◌, refl, subst, subst⁻¹}
 use mathlib.Core.List.{List}
 use Prim.Native.Nat.{ℕ, ◌+◌}
 use Rattle.model.specs.declared.Lent.{Lent}
@@ -27,8 +27,8 @@ returns-then-after-lt65535 c lent buffer within few next =
     (job-counted lent buffer w within counts c.if-after-lt65535.true)
 
 pub returns-else-after-lt65535 : goal.returns-else-after-lt65535
-returns-else-after-lt65535 c lent buffer within few next ok =
+returns-else-after-lt65535 c lent buffer within few next =
     let w = c.args.w in
     let counts : CountsJob (at_hand buffer w) lent c.args.totals c.in-Counted.after c.in-Counted.size =
     subst (NextJob (at_hand buffer w) w.ended lent c.args.totals) c.in-Counted.is next in
-    last_counted lent buffer w within counts few c.if-after-lt65535.false
+    record { ended = refl; failed = refl; report = λ _. last_counted lent buffer w within counts few c.if-after-lt65535.false }
