@@ -69,17 +69,17 @@ module _ (lent : Lent) (t : Totals) where
         ∙ ap (λ (m : ℕ). followed_by (treated p) (season_from lent m (drop (bytes_of p) input))) (omega arith))
 
 -- the totals with jobs counted one by one are the sums over all of them
-with_jobs : (done jobs : List Treated) → with_jobs (totals_of done) jobs ≡ totals_of (done ++ jobs)
+with_jobs_lem : (done jobs : List Treated) → with_jobs (totals_of done) jobs ≡ totals_of (done ++ jobs)
 unfolding with_jobs
-with_jobs done [] = ap totals_of (sym (append-nil done))
-with_jobs done (job ∷ jobs) =
+with_jobs_lem done [] = ap totals_of (sym (append-nil done))
+with_jobs_lem done (job ∷ jobs) =
     ap (λ (t : Totals). with_jobs t jobs) (with_job-more done job)
-    ∙ with_jobs (done ++ (job ∷ [])) jobs
+    ∙ with_jobs_lem (done ++ (job ∷ [])) jobs
     ∙ ap totals_of (append_assoc done (job ∷ []) jobs)
 
 -- a report from the first byte on: its text
-pub season_text : (input : List ℕ) {r : Report} → report_from (tables true) (totals_of []) input ≡ r → report_text r.totals r.ending ≡ season_text input
+pub season_text_lem : (input : List ℕ) {r : Report} → report_from (tables true) (totals_of []) input ≡ r → report_text r.totals r.ending ≡ season_text input
 unfolding report_from season_text
-season_text input e =
+season_text_lem input e =
     let s : Season = season_from (tables true) 65535 input in
-    ap (λ (r : Report). report_text r.totals r.ending) (sym e) ∙ ap (λ (t : Totals). report_text t s.ending) (with_jobs [] s.jobs)
+    ap (λ (r : Report). report_text r.totals r.ending) (sym e) ∙ ap (λ (t : Totals). report_text t s.ending) (with_jobs_lem [] s.jobs)
