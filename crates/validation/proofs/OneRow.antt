@@ -4,11 +4,10 @@ use mathlib.Core.Bool.{Bool, true, false, cond}
 use mathlib.Core.List.{[], ◌∷◌}
 use Prim.Native.Nat.{ℕ, ◌≤◌}
 use native.Mathlib.Omega.{arith}
-use lib.Dec.{ltb}
 use Rattle.model.specs.declared.Terms.{Terms}
 use Rattle.model.specs.declared.Verdict.{Verdict}
 use Rattle.model.specs.Grid.{size_allowed}
-use Rattle.model.specs.Verdict.{Row, row, first_refusal}
+use Rattle.model.specs.Verdict.{Row, first_refusal}
 use Rattle.model.specs.Calls.{pixels_of, pairs_of}
 use Rattle.validation.proofs.Size.{allowed-size}
 use Rattle.validation.specs.Lengths.{pixels_due, pairs_due, length_rows}
