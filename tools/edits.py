@@ -303,7 +303,8 @@ def judge_where(edit, where):
         goal = re.search(r" \(`([^`]+)`\)", message)
         if not message.startswith("it is not proved that ") or not path.startswith("src/"):
             return f"its first line is no fact: {where}"
-        function = function_at((TOP / "crates" / edit.crate / path).read_text(encoding="utf-8"), int(place["line"]))
+        source = TOP / "crates" / edit.crate / path
+        function = function_at(source.read_text(encoding="utf-8"), int(place["line"])) if source.is_file() else None
         is_promise = PROMISE.fullmatch(goal[1]) if goal else PROMISED.match(message)
         how = ("search" if at["how"] == "search" else None) if is_promise else "asks"
         right = (at["function"], at["how"]) == (function, how)
@@ -318,8 +319,10 @@ def judge_where(edit, where):
         return f"its first error is no fact: {where}"
     parts = pathlib.PurePosixPath(path)
     if parts.stem in ("Answers", "Invariants", "Proof") and len(parts.parts) > 2:
-        function = parts.parent.name
-        how = None if declared in facts_of_promise(TOP / "crates" / edit.crate / path) else "asks"
+        function, proof = parts.parent.name, TOP / "crates" / edit.crate / path
+        if not proof.is_file():
+            return f"there is no such file: {where}"
+        how = None if declared in facts_of_promise(proof) else "asks"
         right = (at["function"], at["how"]) == (function, how)
         return None if right else f"refused at {function}{' (asks)' if how else ''}: `{declared}`"
     return None if (at["law"], at["file"]) == (declared, parts.stem) else f"refused at {declared} in {parts.stem}"
