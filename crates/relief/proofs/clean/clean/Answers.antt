@@ -1,7 +1,4 @@
-use Rattle.std.proofs.Common.{arith}
-use Rattle.output.proofs.Puts.{Front, put_as, put_front}
-use Rattle.lists.specs.Lists.{overwritten}
-use Rattle.model.specs.Program.{program_text}
+use Rattle.output.proofs.Puts.{put_as, put_front}
 use Rattle.relief.proofs.Limits.{too_long, not-too_long}
 use Rattle.relief.proofs.clean.clean.Goals as goal
 
