@@ -4,10 +4,11 @@ use mathlib.Core.Bool.{Bool, true, false, cond}
 use mathlib.Core.List.{[], ◌∷◌}
 use Prim.Native.Nat.{ℕ, ◌≤◌}
 use native.Mathlib.Omega.{arith}
+use lib.Dec.{ltb}
 use Rattle.model.specs.declared.Terms.{Terms}
 use Rattle.model.specs.declared.Verdict.{Verdict}
 use Rattle.model.specs.Grid.{size_allowed}
-use Rattle.model.specs.Verdict.{Row, first_refusal}
+use Rattle.model.specs.Verdict.{Row, row, first_refusal}
 use Rattle.model.specs.Calls.{pixels_of, pairs_of}
 use Rattle.validation.proofs.Size.{allowed-size}
 use Rattle.validation.specs.Lengths.{pixels_due, pairs_due, length_rows}
@@ -15,6 +16,11 @@ use Rattle.validation.specs.Lengths.{pixels_due, pairs_due, length_rows}
 -- a row, by an equal number
 pub row_by : (r : ℕ → Row) {v : Verdict} {n m : ℕ} → v ≡ first_refusal (r n ∷ []) → n ≡ m → v ≡ first_refusal (r m ∷ [])
 row_by r e f = e ∙ ap (λ (k : ℕ). first_refusal (r k ∷ [])) f
+
+-- the row of a search, by what it finds
+pub found_at : (number end : ℕ) {v : Verdict} {n m : ℕ} → v ≡ first_refusal (row (ltb n end) number n ∷ []) → n ≡ m →
+    v ≡ first_refusal (row (ltb m end) number m ∷ [])
+found_at number end = row_by (λ k. row (ltb k end) number k)
 
 module _ (t : Terms) where
   -- what is counted where the size is allowed
