@@ -3,7 +3,7 @@
 
     tools/respell.py [--dry]
 
-Run once, at the top, after /opt/rattle/port/port.py and before anything is edited by hand. What turns:
+Run once, at the top, after the port.py of the toolchain and before anything is edited by hand. What turns:
 
     camelCase words             checkAnswer -> check_answer, natAbs-clamp -> nat_abs-clamp, negℤ-mono -> neg_ℤ-mono, sameZ -> same_z
     fields of records in specs/ samples-length -> samples_length
