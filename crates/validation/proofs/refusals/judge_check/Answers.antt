@@ -37,16 +37,16 @@ returns-in_default c =
     stopped _ _ (judged a.t a.samples a.weights.now a.flow.now a.image c.first-above.ensures c.judge_terms.ensures c.judge_lengths.ensures)
     c.in_default.is
 
-pub judge_flow-requires : goal.judge_flow-requires
-judge_flow-requires c =
-    let a = c.args in
-    each-weighed a.t a.samples a.weights.now a.flow.now a.image
-    (sym (judged a.t a.samples a.weights.now a.flow.now a.image c.first-above.ensures c.judge_terms.ensures c.judge_lengths.ensures)
-    ∙ c.in-Accept.is)
-
 pub returns : goal.returns
 returns c =
     let a = c.args in
     went_on _ _ (judged a.t a.samples a.weights.now a.flow.now a.image c.first-above.ensures c.judge_terms.ensures c.judge_lengths.ensures)
     c.in-Accept.is
     (joined _ _ c.first.ensures c.judge_weights.ensures c.judge_flow.ensures)
+
+pub judge_flow-requires : goal.judge_flow-requires
+judge_flow-requires c =
+    let a = c.args in
+    each-weighed a.t a.samples a.weights.now a.flow.now a.image
+    (sym (judged a.t a.samples a.weights.now a.flow.now a.image c.first-above.ensures c.judge_terms.ensures c.judge_lengths.ensures)
+    ∙ c.in-Accept.is)
