@@ -19,12 +19,6 @@ begun {tape} {lent} e = subst⁻¹ (λ (t : ParserState). Reached tape lent t 0)
 pub scan_tape-scanned-requires : goal.scan_tape-scanned-requires
 scan_tape-scanned-requires c = begun c.initial.ensures
 
-pub read_numbers-requires : goal.read_numbers-requires
-read_numbers-requires c =
-    let a = c.args in
-    let s = subst (StopsAt a.tape.now (lent_by a.samples.now a.weights.now a.flow.now)) c.in-Whole.is c.scan_tape-scanned.ensures in
-    whole-tape _ _ s.0 refl s.1
-
 pub returns-in-Refused : goal.returns-in-Refused
 returns-in-Refused c =
     let a = c.args in
@@ -58,3 +52,9 @@ returns-in-Whole c =
       variant = p.1.1.1.1.0;
       writes_back = p.1.1.1.1.1;
     }
+
+pub read_numbers-requires : goal.read_numbers-requires
+read_numbers-requires c =
+    let a = c.args in
+    let s = subst (StopsAt a.tape.now (lent_by a.samples.now a.weights.now a.flow.now)) c.in-Whole.is c.scan_tape-scanned.ensures in
+    whole-tape _ _ s.0 refl s.1
