@@ -11,13 +11,6 @@ use Rattle.roundtrip.proofs.WriteRows.{written_answer, written-output}
 use Rattle.tape_writer.proofs.Promised.{promised}
 use Rattle.tape_writer.proofs.write.write.Goals as goal
 
-pub put_tape-requires : goal.put_tape-requires
-put_tape-requires c =
-    let a = c.args in
-    let judged : c.judge_write-v.result ≡ first_refusal (write_rows a.t a.r a.samples.now a.weights.now a.flow.now (length a.output.now)) =
-    rw (tape_length a.t a.r a.samples.now a.weights.now a.flow.now) c.judge_write-v.ensures in
-    ((write_accepted _ _ _ _ _ a.output.now).0 (sym judged ∙ c.in-Accept.is)).output_length
-
 pub returns-in-Refuse : goal.returns-in-Refuse
 returns-in-Refuse c =
     let a = c.args in
@@ -40,3 +33,10 @@ returns-in-Accept c =
     ∙ sym (written_answer a.t a.r a.samples.now a.weights.now a.flow.now a.output.now v))
     (c.put_tape.ensures.output_after ∙ sym (written-output a.t a.r a.samples.now a.weights.now a.flow.now a.output.now v)) in
     record { result_value = p.0; output_after = p.1.0; variant = p.1.1.0; reads_back = p.1.1.1 }
+
+pub put_tape-requires : goal.put_tape-requires
+put_tape-requires c =
+    let a = c.args in
+    let judged : c.judge_write-v.result ≡ first_refusal (write_rows a.t a.r a.samples.now a.weights.now a.flow.now (length a.output.now)) =
+    rw (tape_length a.t a.r a.samples.now a.weights.now a.flow.now) c.judge_write-v.ensures in
+    ((write_accepted _ _ _ _ _ a.output.now).0 (sym judged ∙ c.in-Accept.is)).output_length
