@@ -59,22 +59,6 @@ fill_image-requires c =
       flow_most = flow_most t c.args.samples.now c.args.weights.now c.args.flow.now a.flow_length a.pair_weights a.terms.weight_most (feasible t c.args.samples.now c.args.weights.now c.args.flow.now c.args.image.now accepted);
     })
 
-pub of_flow-figures-requires : goal.of_flow-figures-requires
-unfolding check_verdict
-of_flow-figures-requires c =
-    let t = c.args.t in
-    let accepted = sym c.judge_check-verdict.ensures ∙ c.in_default.is in
-    let a = facts t c.args.samples.now c.args.weights.now c.args.flow.now c.args.image.now accepted in
-    let ends = box-ends c.args.t (read w32 c.low_end-lower.type_inv ∙ c.low_end-lower.ensures) (read w32 c.high_end-upper.type_inv ∙ c.high_end-upper.ensures) in
-    record {
-      terms = a.terms;
-      pair_weights = a.pair_weights;
-      samples_length = a.samples_length;
-      flow_length = a.flow_length;
-      feasible = feasible t c.args.samples.now c.args.weights.now c.args.flow.now c.args.image.now accepted;
-      image = rw c.shape_of-s.ensures.value at c.fill_image.ensures ∙ image-is t c.args.samples.now c.args.flow.now ends;
-    }
-
 pub returns : goal.returns
 unfolding check_verdict
 returns c =
@@ -96,4 +80,20 @@ returns c =
       image_after = g;
       accepted = zero-as k (check_number t a.samples.now a.weights.now a.flow.now a.image.now);
       check_demand = check_demand t a.samples.now a.weights.now a.flow.now a.image.now k g;
+    }
+
+pub of_flow-figures-requires : goal.of_flow-figures-requires
+unfolding check_verdict
+of_flow-figures-requires c =
+    let t = c.args.t in
+    let accepted = sym c.judge_check-verdict.ensures ∙ c.in_default.is in
+    let a = facts t c.args.samples.now c.args.weights.now c.args.flow.now c.args.image.now accepted in
+    let ends = box-ends c.args.t (read w32 c.low_end-lower.type_inv ∙ c.low_end-lower.ensures) (read w32 c.high_end-upper.type_inv ∙ c.high_end-upper.ensures) in
+    record {
+      terms = a.terms;
+      pair_weights = a.pair_weights;
+      samples_length = a.samples_length;
+      flow_length = a.flow_length;
+      feasible = feasible t c.args.samples.now c.args.weights.now c.args.flow.now c.args.image.now accepted;
+      image = rw c.shape_of-s.ensures.value at c.fill_image.ensures ∙ image-is t c.args.samples.now c.args.flow.now ends;
     }

@@ -67,25 +67,6 @@ solve-end-requires c =
       },
     )
 
-pub of_flow-f-requires : goal.of_flow-f-requires
-unfolding run_verdict
-of_flow-f-requires c =
-    let accepted = sym c.judge_run-verdict.ensures ∙ c.in_default.is in
-    let a = facts c.args.t c.args.r c.args.samples.now c.args.weights.now c.args.flow.now c.args.image.now c.args.work.now accepted in
-    let t = c.args.t in
-    let b = c.args.samples.now in
-    let o = c.args.weights.now in
-    let g = ending-flow t c.args.r b o a.terms.box in
-    let flow-is = c.solve-end.ensures.flow_after in
-    record {
-      terms = a.terms;
-      pair_weights = a.pair_weights;
-      samples_length = a.samples_length;
-      flow_length = ap length flow-is ∙ g.0;
-      feasible = subst (λ (h : List ℤ). Feasible (grid t b o) (at h)) (sym flow-is) g.1;
-      image = c.solve-end.ensures.image_after ∙ ap (image_of t b) (sym flow-is);
-    }
-
 pub returns : goal.returns
 unfolding run_verdict
 returns c =
@@ -119,4 +100,23 @@ returns c =
       work_after = work;
       accepted = zero-as answer (run-number t r b o f x w);
       run_demand = run-demand t r b o f x w answer flow image;
+    }
+
+pub of_flow-f-requires : goal.of_flow-f-requires
+unfolding run_verdict
+of_flow-f-requires c =
+    let accepted = sym c.judge_run-verdict.ensures ∙ c.in_default.is in
+    let a = facts c.args.t c.args.r c.args.samples.now c.args.weights.now c.args.flow.now c.args.image.now c.args.work.now accepted in
+    let t = c.args.t in
+    let b = c.args.samples.now in
+    let o = c.args.weights.now in
+    let g = ending-flow t c.args.r b o a.terms.box in
+    let flow-is = c.solve-end.ensures.flow_after in
+    record {
+      terms = a.terms;
+      pair_weights = a.pair_weights;
+      samples_length = a.samples_length;
+      flow_length = ap length flow-is ∙ g.0;
+      feasible = subst (λ (h : List ℤ). Feasible (grid t b o) (at h)) (sym flow-is) g.1;
+      image = c.solve-end.ensures.image_after ∙ ap (image_of t b) (sym flow-is);
     }
