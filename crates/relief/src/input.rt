@@ -17,8 +17,8 @@ pub struct Input {
 // call promises nothing of it. Of a reader whose bytes are known they are the first of these, and all
 // where no read failed and the buffer is not full.
 pub fn read_input<R: Read>(stdin: &mut R, buffer: &mut [u8]) -> Input
-    ensures count_in_bounds { result.count ≤ length buffer.new }
-    ensures count_in_bounds_2 { result.failed ≡ true → result.count < length buffer.new }
+    ensures within { result.count ≤ length buffer.new }
+    ensures room_where_failed { result.failed ≡ true → result.count < length buffer.new }
     ensures first_bytes { Consumes (R.remaining stdin.old) (R.remaining stdin.new) (take result.count buffer.new) }
     ensures all_bytes { result.failed ≡ false → result.count < length buffer.new → IsAtEnd (R.remaining stdin.new) }
 {

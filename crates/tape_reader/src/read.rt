@@ -59,7 +59,7 @@ pub fn read(tape: &[u8], samples: &mut [u8], weights: &mut [i32], flow: &mut [i3
     ensures samples_after { samples.new ≡ read_samples tape.now samples.old weights.old flow.old }
     ensures weights_after { weights.new ≡ read_weights tape.now samples.old weights.old flow.old }
     ensures flow_after { flow.new ≡ read_flow tape.now samples.old weights.old flow.old }
-    ensures variant { ((read_answer_of result).number ≡ 0) ↔ ReadAllowed tape.now samples.old weights.old flow.old }
+    ensures accepted { ((read_answer_of result).number ≡ 0) ↔ ReadAllowed tape.now samples.old weights.old flow.old }
     ensures writes_back { (read_answer_of result).number ≡ 0 → WritesBack (read_answer_of result).terms (read_answer_of result).rounds (take (pixels_of (read_answer_of result).terms) samples.new) (take (weight_count (read_answer_of result)) weights.new) (take (flow_count (read_answer_of result)) flow.new) tape.now }
 {
     let lent = Lent {

@@ -21,7 +21,7 @@ pub fn write(
 ) -> WriteResult
     ensures result_value { write_answer_of result ≡ write_answer t r samples.now weights.now flow.now output.old }
     ensures output_after { output.new ≡ write_output t r samples.now weights.now flow.now output.old }
-    ensures variant { ((write_answer_of result).number ≡ 0) ↔ WriteAllowed t r samples.now weights.now flow.now output.old }
+    ensures accepted { ((write_answer_of result).number ≡ 0) ↔ WriteAllowed t r samples.now weights.now flow.now output.old }
     ensures reads_back { (write_answer_of result).number ≡ 0 → ReadsBack t r samples.now weights.now flow.now (take (write_answer_of result).count output.new) }
 {
     let v = judge_write(t, r.quick, samples.len(), weights, flow, output.len());

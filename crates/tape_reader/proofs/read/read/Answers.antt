@@ -34,7 +34,7 @@ returns-in-Refused c =
       samples_after = p.1.0;
       weights_after = p.1.1.0;
       flow_after = p.1.1.1.0;
-      variant = p.1.1.1.1.0;
+      accepted = p.1.1.1.1.0;
       writes_back = p.1.1.1.1.1;
     }
 
@@ -49,7 +49,7 @@ returns-in-Whole c =
       samples_after = p.1.0;
       weights_after = p.1.1.0;
       flow_after = p.1.1.1.0;
-      variant = p.1.1.1.1.0;
+      accepted = p.1.1.1.1.0;
       writes_back = p.1.1.1.1.1;
     }
 

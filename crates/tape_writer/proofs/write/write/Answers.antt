@@ -20,7 +20,7 @@ returns-in-Refuse c =
     let p = promised a.t a.r a.samples.now a.weights.now a.flow.now a.output.now (omega (arith, c.well_formed))
     (sym (written_answer a.t a.r a.samples.now a.weights.now a.flow.now a.output.now v))
     (sym (written-output a.t a.r a.samples.now a.weights.now a.flow.now a.output.now v)) in
-    record { result_value = p.0; output_after = p.1.0; variant = p.1.1.0; reads_back = p.1.1.1 }
+    record { result_value = p.0; output_after = p.1.0; accepted = p.1.1.0; reads_back = p.1.1.1 }
 
 pub returns-in-Accept : goal.returns-in-Accept
 returns-in-Accept c =
@@ -32,7 +32,7 @@ returns-in-Accept c =
     (ap (λ (n : ℕ). record { number = 0; place = 0; count = n }) c.put_tape.ensures.value
     ∙ sym (written_answer a.t a.r a.samples.now a.weights.now a.flow.now a.output.now v))
     (c.put_tape.ensures.output_after ∙ sym (written-output a.t a.r a.samples.now a.weights.now a.flow.now a.output.now v)) in
-    record { result_value = p.0; output_after = p.1.0; variant = p.1.1.0; reads_back = p.1.1.1 }
+    record { result_value = p.0; output_after = p.1.0; accepted = p.1.1.0; reads_back = p.1.1.1 }
 
 pub put_tape-requires : goal.put_tape-requires
 put_tape-requires c =
