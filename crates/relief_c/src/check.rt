@@ -30,7 +30,7 @@ pub extern "C" fn relief_call_check(
 ) -> u32
     ensures answer_numbers { AnswerNumbers result place.new outcome.new moved.new price.new floor.new slack.new (check_answer (terms_of width height weight low high) samples.now weights.now flow.now image.old) }
     ensures image_after { image.new ≡ check_image (terms_of width height weight low high) samples.now weights.now flow.now image.old }
-    ensures variant { (result ≡ 0) ↔ CheckAllowed (terms_of width height weight low high) samples.now weights.now flow.now image.old }
+    ensures accepted { (result ≡ 0) ↔ CheckAllowed (terms_of width height weight low high) samples.now weights.now flow.now image.old }
     ensures check_demand { result ≡ 0 → CheckDemand (terms_of width height weight low high) samples.now weights.now flow.now image.new (answer_from result place.new outcome.new moved.new price.new floor.new slack.new) }
 {
     let t = Terms {

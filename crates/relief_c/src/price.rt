@@ -27,7 +27,7 @@ pub extern "C" fn relief_call_price(
     slack: &mut u64,
 ) -> u32
     ensures answer_numbers { AnswerNumbers result place.new outcome.new moved.new price.new floor.new slack.new (price_answer (terms_of width height weight low high) samples.now weights.now image.now) }
-    ensures variant { (result ≡ 0) ↔ PriceAllowed (terms_of width height weight low high) samples.now weights.now image.now }
+    ensures accepted { (result ≡ 0) ↔ PriceAllowed (terms_of width height weight low high) samples.now weights.now image.now }
 {
     let t = Terms {
         width,

@@ -88,7 +88,7 @@ pub extern "C" fn relief_call_read(
     ensures samples_after { samples.new ≡ read_samples tape.now samples.old weights.old flow.old }
     ensures weights_after { weights.new ≡ read_weights tape.now samples.old weights.old flow.old }
     ensures flow_after { flow.new ≡ read_flow tape.now samples.old weights.old flow.old }
-    ensures variant { (result ≡ 0) ↔ ReadAllowed tape.now samples.old weights.old flow.old }
+    ensures accepted { (result ≡ 0) ↔ ReadAllowed tape.now samples.old weights.old flow.old }
     ensures writes_back { result ≡ 0 → WritesBack (terms_of width.new height.new weight.new low.new high.new) (rounds_of quick.new allowance.new) (take (pixels_of (terms_of width.new height.new weight.new low.new high.new)) samples.new) (take (weighted.new * pairs_of (terms_of width.new height.new weight.new low.new high.new)) weights.new) (take (flowed.new * pairs_of (terms_of width.new height.new weight.new low.new high.new)) flow.new) tape.now }
 {
     let j = job_of(read(tape, samples, weights, flow));

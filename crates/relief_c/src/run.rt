@@ -35,7 +35,7 @@ pub extern "C" fn relief_call_run(
     ensures flow_after { flow.new ≡ run_flow (terms_of width height weight low high) (rounds_of quick allowance) samples.now weights.now flow.old image.old work.old }
     ensures image_after { image.new ≡ run_image (terms_of width height weight low high) (rounds_of quick allowance) samples.now weights.now flow.old image.old work.old }
     ensures work_after { work.new ≡ run_work (terms_of width height weight low high) (rounds_of quick allowance) samples.now weights.now flow.old image.old work.old }
-    ensures variant { (result ≡ 0) ↔ RunAllowed (terms_of width height weight low high) (rounds_of quick allowance) samples.now weights.now flow.old image.old work.old }
+    ensures accepted { (result ≡ 0) ↔ RunAllowed (terms_of width height weight low high) (rounds_of quick allowance) samples.now weights.now flow.old image.old work.old }
     ensures run_demand { result ≡ 0 → RunDemand (terms_of width height weight low high) (rounds_of quick allowance) samples.now weights.now flow.new image.new (answer_from result place.new outcome.new moved.new price.new floor.new slack.new) }
 {
     let t = Terms {

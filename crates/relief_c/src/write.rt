@@ -53,7 +53,7 @@ pub extern "C" fn relief_call_write(
 ) -> u32
     ensures write_numbers { WriteNumbers result place.new count.new (write_answer (terms_of width height weight low high) (rounds_of quick allowance) samples.now weights.now flow.now output.old) }
     ensures output_after { output.new ≡ write_output (terms_of width height weight low high) (rounds_of quick allowance) samples.now weights.now flow.now output.old }
-    ensures variant { (result ≡ 0) ↔ WriteAllowed (terms_of width height weight low high) (rounds_of quick allowance) samples.now weights.now flow.now output.old }
+    ensures accepted { (result ≡ 0) ↔ WriteAllowed (terms_of width height weight low high) (rounds_of quick allowance) samples.now weights.now flow.now output.old }
     ensures reads_back { result ≡ 0 → ReadsBack (terms_of width height weight low high) (rounds_of quick allowance) samples.now weights.now flow.now (take count.new output.new) }
 {
     let t = Terms {
