@@ -1,6 +1,6 @@
 -- What the loop over a season's jobs keeps: the report on all input that begins with the bytes read so far is the report on
 -- the bytes at hand and what follows, with the totals counted so far. Assumes nothing.
-use mathlib.Core.Path.{◌≡◌, refl, sym, ap, ◌∙◌, subst, subst₂}
+use mathlib.Core.Path.{◌≡◌, sym, ap, ◌∙◌, subst, subst₂}
 use mathlib.Core.Bool.{Bool, true, false}
 use mathlib.Core.List.{List, [], ◌++◌, append_assoc}
 use Prim.Native.Nat.{ℕ, ◌-◌, zero-le}

@@ -1,5 +1,5 @@
 -- The bytes at hand in a buffer.
-use Rattle.std.specs.Prelude.{◌≡◌, false, List, ◌++◌, ℕ, ◌+◌, ◌-◌, ◌≤◌, ◌<◌, length, take, drop}
+use Rattle.std.specs.Prelude.{◌≡◌, false, List, ◌++◌, ℕ, ◌-◌, ◌≤◌, ◌<◌, length, take, drop}
 use Rattle.season.specs.declared.window.Window.{Window}
 
 abbrev pub at_hand : List ℕ → Window → List ℕ

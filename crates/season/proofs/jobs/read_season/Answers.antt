@@ -1,13 +1,13 @@
-use Rattle.std.proofs.Common.{ℕ, length, refl, arith}
+use Rattle.std.proofs.Common.{refl}
 use mathlib.Core.Bool.{true≢false}
 use mathlib.Core.Path.{sym, ◌∙◌, subst}
 use Rattle.model.specs.declared.Lent.{Lent}
 use Rattle.std.proofs.KnownBytes.{Consumes-nil}
 use Rattle.stream.specs.AtHand.{NeedsMore}
 use Rattle.season.specs.Window.{at_hand}
-use Rattle.season.specs.Jobs.{Continues, Stops}
+use Rattle.season.specs.Jobs.{Continues}
 use Rattle.season.proofs.Steps.{nearer}
-use Rattle.season.proofs.Loop.{same-lent, begins, continued, grown, stopped, taken-on, taken_more, known_report}
+use Rattle.season.proofs.Loop.{same-lent, begins, continued, grown, taken-on, taken_more}
 use Rattle.season.proofs.jobs.read_season.Goals as goal
 
 pub loop-r-init : goal.loop-r-init

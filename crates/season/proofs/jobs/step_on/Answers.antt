@@ -1,7 +1,5 @@
-use mathlib.Core.Path.{◌≡◌, refl, subst, subst⁻¹}
-use mathlib.Core.List.{List}
-use Prim.Native.Nat.{ℕ, ◌+◌}
-use Rattle.model.specs.declared.Lent.{Lent}
+use mathlib.Core.Path.{refl, subst, subst⁻¹}
+use Prim.Native.Nat.{◌+◌}
 use Rattle.tape_records.specs.declared.state.ParserState.{ParserState}
 use Rattle.stream.specs.AtHand.{NextJob, CountsJob}
 use Rattle.season.specs.Window.{at_hand}

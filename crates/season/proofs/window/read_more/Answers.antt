@@ -1,15 +1,14 @@
 -- The bytes that came stand behind those before them, which are as they were.
 use Rattle.std.proofs.Common.{◌≡◌, List, ℕ, ◌++◌, ◌-◌, ◌≤◌, length, take, drop, arith, length-append}
-use mathlib.Core.Bool.{true, true≢false}
+use mathlib.Core.Bool.{true≢false}
 use mathlib.Core.List.{[]}
-use mathlib.Core.Path.{sym, ap, ◌∙◌, subst}
+use mathlib.Core.Path.{sym, ◌∙◌, subst}
 use native.Mathlib.Nat.{add-zero}
 use lib.Seq.{length-take-le, take-append-le}
 use borrow.Author.Tests.{eqb-false, eqb-true}
 use borrow.Rule.Slice.PartMut.{post_of}
 use Rattle.std.specs.Io.KnownBytes.{Consumes}
 use Rattle.std.proofs.KnownBytes.{Consumes-nil, Consumes-kept}
-use Rattle.season.specs.Window.{new_bytes}
 use Rattle.season.proofs.Buffers.{grown, came}
 use Rattle.season.proofs.window.read_more.Goals as goal
 
