@@ -299,6 +299,8 @@ def judge_where(edit, where):
         return f"rt does not say where: {where}"
     path, message = place["path"], place["message"]
     if not place["error"]:
+        if LIMIT.search(message):
+            return f"a limit was met: {where}"
         # the toolchain's own search: it says what it did not prove, and names the goal
         goal = re.search(r" \(`([^`]+)`\)", message)
         if not message.startswith("it is not proved that ") or not path.startswith("src/"):
@@ -350,12 +352,6 @@ def judge_log(found, text):
             yield f"{edit.crate}/{edit.label} (at: {edit.at}): {fault}"
 
 
-def undecided(found, text):
-    """Those of these edits at which the toolchain's own search says that it gave up: they say less of a contract than the others."""
-    said = {(line["crate"], line["label"]): line["said"] for line in map(SAID.fullmatch, text.splitlines()) if line}
-    return [f"{edit.crate}/{edit.label}" for edit in found if "gave up at one of its limits" in said.get((edit.crate, edit.label), "")]
-
-
 def main(arguments):
     found = edits()
     if arguments == []:
@@ -373,8 +369,6 @@ def main(arguments):
         text = pathlib.Path(arguments[1]).read_text(encoding="utf-8", errors="replace")
         wrong = list(judge_log(found, text))
         done = f"{len(found)} edits refused where they say, each at a fact"
-        if undecided(found, text):
-            done += f"; at a limit of the search, which finds no proof: {', '.join(undecided(found, text))}"
     else:
         sys.exit(__doc__)
     for fault in wrong:

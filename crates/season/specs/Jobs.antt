@@ -52,7 +52,8 @@ pub record Continues (lent : Lent) (buffer : List ℕ) (w : Window) (totals : To
       (rest : List ℕ) →
       report_from lent totals (at_hand buffer w ++ rest) ≡ report_from lent r.totals (at_hand buffer r.window ++ rest)
 
--- .. or the season's end: where no read failed, the report on all that is at hand and may follow
+-- .. or the season's end, with whether the input ended or a read failed as the window has it: where none failed, the report on
+-- all that is at hand and may follow
 pub record Stops (lent : Lent) (buffer : List ℕ) (w : Window) (totals : Totals) (e : Ended) : Type 0 where
   pub ended : e.ended ≡ w.ended
   pub failed : e.failed ≡ w.failed
