@@ -43,7 +43,7 @@ PUBLIC = {
     "calls": ["check", "price", "run"],
     "tape_reader": ["read"],
     "tape_writer": ["write"],
-    "relief": ["clean"],
+    "relief": ["clean", "read_input"],
     "season": ["season_text"],
 }
 # The crates all of whose edits show that a table can fail, and the equation at which each is refused.

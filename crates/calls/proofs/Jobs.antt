@@ -6,6 +6,8 @@ use native.Mathlib.Omega.{arith}
 use lib.IntN.{ℤ, pos}
 use lib.ListN.{length, get_or}
 use lib.Signed.{◌≤ℤ◌}
+use mir.Syntax.{w8}
+use mir.Val.{Fits}
 use Rattle.integers.proofs.Absolute.{nat_abs-upto}
 use Rattle.model.specs.declared.Terms.{Terms}
 use Rattle.lists.specs.Lists.{at}
@@ -33,6 +35,10 @@ box-ends t e f = record { low_is = e; high_is = f }
 module _ (t : Terms) (samples : List ℕ) (weights : List ℤ) where
   pub with_bytes : TermsAllowed t → WeightsAllowed t weights → t.high < 256 → ((i : ℕ) → get_or samples i 0 < 256) → Bounds.Allowed t samples weights
   with_bytes a w high bytes = record { terms = a; pair_weights = w; high_byte = omega arith; bytes = λ i. omega (arith, bytes i) }
+
+  -- .. by what a slice of bytes says of its samples
+  pub with_codes : TermsAllowed t → WeightsAllowed t weights → t.high < 256 → ((i : ℕ) → Fits w8 (get_or samples i 0)) → Bounds.Allowed t samples weights
+  with_codes a w high codes = with_bytes a w high (λ i. (codes i).fits)
 
   -- a flow within the weights
   pub flow_most : (flow : List ℤ) → length flow ≡ pairs_of t → WeightsAllowed t weights → t.weight ≤ limit.weight → Feasible (grid t samples weights) (at flow) →

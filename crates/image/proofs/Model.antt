@@ -13,6 +13,8 @@ use Rattle.model.specs.declared.Terms.{Terms}
 use Rattle.model.specs.Problem.{pull, image}
 use Rattle.model.specs.Grid.{reading_of, low_end, high_end, grid}
 use Rattle.model.specs.Calls.{image_of}
+use Rattle.layout.specs.declared.Shape.{Shape}
+use Rattle.layout.specs.Runs.{shape_of, pixel_count}
 use Rattle.stencil.specs.Ends.{BoxEnds}
 use Rattle.image.specs.Image.{image_value}
 use Rattle.image.proofs.Pull.{pull-gathered}
@@ -37,3 +39,8 @@ module _ (t : Terms) (samples : List ℕ) where
       ap (λ (q : ℤ). clamp (low_end t.low) (high_end t.high) (reading_of (get_or samples i 0) -ℤ q))
       (sym (pull-gathered t samples [] (at flow) (i / t.width) (i % t.width) (placed i l).0 (placed i l).1)
       ∙ ap (pull (grid t samples []) (at flow)) (div-add-mod' i t.width))))
+
+  -- .. and so is what `fill_image` leaves, by whatever shape and ends are this job's
+  pub image-filled : (flow : List ℤ) {s : Shape} {filled : List ℤ} {low high l h : ℤ} → s ≡ shape_of t → l ≡ low → h ≡ high → BoxEnds t low high →
+      filled ≡ table (pixel_count s) (image_value l h samples flow s.width s.height) → filled ≡ image_of t samples flow
+  image-filled flow shape low high ends e = rw (shape, low, high) at e ∙ image-is flow ends

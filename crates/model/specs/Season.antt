@@ -162,7 +162,7 @@ abbrev pub Follows : Bool → List ℕ → Type 0
 Follows ended rest = ended ≡ true → rest ≡ []
 
 -- The text stands at the front of the output, and counts so many bytes: that of some input, and, unless that had ended, of
--- every input that begins with it. Which input, no promise can say: the text of any season meets this (DECISIONS 54)
+-- every input that begins with it. Which input, this leaves open: the text of any season meets it (DECISIONS 54)
 pub record TextOf (former : List ℕ) (count : ℕ) (output : List ℕ) : Type 0 where
   pub input : List ℕ
   pub ended : Bool

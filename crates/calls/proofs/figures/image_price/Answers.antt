@@ -5,7 +5,7 @@ use native.Mathlib.Omega.{arith}
 use lib.IntN.{pos}
 use Rattle.lists.specs.Lists.{at}
 use Rattle.calls.proofs.Bounds.{largest-fits}
-use Rattle.calls.proofs.Jobs.{with_bytes, own-weights, raster-limits, misfit-limits}
+use Rattle.calls.proofs.Jobs.{with_codes, own-weights, raster-limits, misfit-limits}
 use Rattle.calls.proofs.Objectives.{misfit-at, variation_at_lem, price-is, price-fits}
 use Rattle.calls.proofs.figures.image_price.Goals as goal
 
@@ -13,21 +13,21 @@ pub total_variation-variation-requires : goal.total_variation-variation-requires
 total_variation-variation-requires c =
     let a = c.args in
     let r = c.requires in
-    let ok = with_bytes a.t a.samples.now a.weights.now r.terms r.pair_weights c.shape_of-s.ensures.byte_levels.high_byte (λ i. (c.type_inv.samples i).fits) in
+    let ok = with_codes _ _ _ r.terms r.pair_weights c.shape_of-s.ensures.byte_levels.high_byte c.type_inv.samples in
     rw c.shape_of-s.ensures.value (raster-limits _ _ _ ok a.image.now r.image_length r.inside, own-weights _ _ _ ok)
 
 pub misfit-requires : goal.misfit-requires
 misfit-requires c =
     let a = c.args in
     let r = c.requires in
-    let ok = with_bytes a.t a.samples.now a.weights.now r.terms r.pair_weights c.shape_of-s.ensures.byte_levels.high_byte (λ i. (c.type_inv.samples i).fits) in
+    let ok = with_codes _ _ _ r.terms r.pair_weights c.shape_of-s.ensures.byte_levels.high_byte c.type_inv.samples in
     misfit-limits _ _ _ ok a.image.now r.image_length r.inside r.samples_length
 
 pub objective-requires : goal.objective-requires
 objective-requires c =
     let a = c.args in
     let r = c.requires in
-    let ok = with_bytes a.t a.samples.now a.weights.now r.terms r.pair_weights c.shape_of-s.ensures.byte_levels.high_byte (λ i. (c.type_inv.samples i).fits) in
+    let ok = with_codes _ _ _ r.terms r.pair_weights c.shape_of-s.ensures.byte_levels.high_byte c.type_inv.samples in
     let fidelity = misfit-at a.t a.samples.now a.weights.now a.image.now r.image_length c.misfit.ensures in
     let falls =
     variation_at_lem a.t a.samples.now a.weights.now a.image.now (rw c.shape_of-s.ensures.value at c.total_variation-variation.ensures)

@@ -24,7 +24,7 @@ use Rattle.passes.specs.Limits.{FlowLimits, MisfitLimits}
 use Rattle.passes.specs.Pairs.{weight_at, variation_at, product_at, first_value, second_value}
 use Rattle.passes.proofs.Model.{misfit-is, variation_is, product_is}
 use Rattle.calls.specs.Ready.{scale_of, FlowReady}
-use Rattle.calls.proofs.Jobs.{with_bytes, own-weights, misfit-limits, flow-limits, image-inside-box}
+use Rattle.calls.proofs.Jobs.{with_codes, own-weights, misfit-limits, flow-limits, image-inside-box}
 use Rattle.calls.proofs.Objectives.{variation, sized, price-is, price-fits, floor-is, floor-fits}
 use Rattle.calls.proofs.figures.of_flow.Goals as goal
 
@@ -83,32 +83,32 @@ module _ (t : Terms) (samples : List ℕ) (weights flow values : List ℤ) (r : 
 pub misfit-fidelity-requires : goal.misfit-fidelity-requires
 misfit-fidelity-requires c =
     let r = c.requires in
-    let ok = with_bytes c.args.t c.args.samples.now c.args.weights.now r.terms r.pair_weights c.shape_of-s.ensures.byte_levels.high_byte (λ i. (c.type_inv.samples i).fits) in
+    let ok = with_codes _ _ _ r.terms r.pair_weights c.shape_of-s.ensures.byte_levels.high_byte c.type_inv.samples in
     misfit-lent _ _ _ _ _ r ok
 
 pub total_variation-variation-requires : goal.total_variation-variation-requires
 total_variation-variation-requires c =
     let r = c.requires in
-    let ok = with_bytes c.args.t c.args.samples.now c.args.weights.now r.terms r.pair_weights c.shape_of-s.ensures.byte_levels.high_byte (λ i. (c.type_inv.samples i).fits) in
+    let ok = with_codes _ _ _ r.terms r.pair_weights c.shape_of-s.ensures.byte_levels.high_byte c.type_inv.samples in
     rw c.shape_of-s.ensures.value ((limits _ _ _ _ _ r ok).raster, own-weights _ _ _ ok)
 
 pub objective-price-requires : goal.objective-price-requires
 objective-price-requires c =
     let r = c.requires in
-    let ok = with_bytes c.args.t c.args.samples.now c.args.weights.now r.terms r.pair_weights c.shape_of-s.ensures.byte_levels.high_byte (λ i. (c.type_inv.samples i).fits) in
+    let ok = with_codes _ _ _ r.terms r.pair_weights c.shape_of-s.ensures.byte_levels.high_byte c.type_inv.samples in
     let v = rw c.shape_of-s.ensures.value at c.total_variation-variation.ensures in
     rw c.scale.ensures (omega (arith, largest-fits, priced _ _ _ _ _ r ok c.misfit-fidelity.ensures v))
 
 pub total_product-requires : goal.total_product-requires
 total_product-requires c =
     let r = c.requires in
-    let ok = with_bytes c.args.t c.args.samples.now c.args.weights.now r.terms r.pair_weights c.shape_of-s.ensures.byte_levels.high_byte (λ i. (c.type_inv.samples i).fits) in
+    let ok = with_codes _ _ _ r.terms r.pair_weights c.shape_of-s.ensures.byte_levels.high_byte c.type_inv.samples in
     rw c.shape_of-s.ensures.value (limits _ _ _ _ _ r ok)
 
 pub dual-floor-requires : goal.dual-floor-requires
 dual-floor-requires c =
     let r = c.requires in
-    let ok = with_bytes c.args.t c.args.samples.now c.args.weights.now r.terms r.pair_weights c.shape_of-s.ensures.byte_levels.high_byte (λ i. (c.type_inv.samples i).fits) in
+    let ok = with_codes _ _ _ r.terms r.pair_weights c.shape_of-s.ensures.byte_levels.high_byte c.type_inv.samples in
     let v = rw c.shape_of-s.ensures.value at c.total_variation-variation.ensures in
     let s = read w64 c.total_product.type_inv ∙ rw c.shape_of-s.ensures.value at c.total_product.ensures in
     omega (arith, largest-fits, dual-fits _ _ _ _ _ r ok c.misfit-fidelity.ensures v s)
@@ -116,7 +116,7 @@ dual-floor-requires c =
 pub gap-requires : goal.gap-requires
 gap-requires c =
     let r = c.requires in
-    let ok = with_bytes c.args.t c.args.samples.now c.args.weights.now r.terms r.pair_weights c.shape_of-s.ensures.byte_levels.high_byte (λ i. (c.type_inv.samples i).fits) in
+    let ok = with_codes _ _ _ r.terms r.pair_weights c.shape_of-s.ensures.byte_levels.high_byte c.type_inv.samples in
     let m = c.misfit-fidelity.ensures in
     let v = rw c.shape_of-s.ensures.value at c.total_variation-variation.ensures in
     let s = read w64 c.total_product.type_inv ∙ rw c.shape_of-s.ensures.value at c.total_product.ensures in
@@ -131,7 +131,7 @@ pub returns : goal.returns
 unfolding slack
 returns c =
     let r = c.requires in
-    let ok = with_bytes c.args.t c.args.samples.now c.args.weights.now r.terms r.pair_weights c.shape_of-s.ensures.byte_levels.high_byte (λ i. (c.type_inv.samples i).fits) in
+    let ok = with_codes _ _ _ r.terms r.pair_weights c.shape_of-s.ensures.byte_levels.high_byte c.type_inv.samples in
     let m = c.misfit-fidelity.ensures in
     let v = rw c.shape_of-s.ensures.value at c.total_variation-variation.ensures in
     let s = read w64 c.total_product.type_inv ∙ rw c.shape_of-s.ensures.value at c.total_product.ensures in

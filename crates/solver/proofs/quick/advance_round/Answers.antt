@@ -10,10 +10,9 @@ use Rattle.integers.proofs.Machine.{read}
 use Rattle.model.specs.declared.Terms.{Terms}
 use Rattle.model.specs.Grid.{grid_pairs}
 use Rattle.model.specs.Rounds.{eighth, next_momentum, quick_round}
-use Rattle.model.specs.Calls.{image_of}
 use Rattle.momentum.specs.Reciprocal.{Reciprocal}
 use Rattle.passes.proofs.Model.{weights-within}
-use Rattle.image.proofs.Model.{image-is}
+use Rattle.image.proofs.Model.{image-filled}
 use Rattle.solver.specs.Ready.{QuickReady}
 use Rattle.solver.proofs.QuickRound.{next_range, factor_most, iterate-is, ahead-is}
 use Rattle.solver.proofs.Passes.{fill_limits, flow-limits, pair_weights}
@@ -40,10 +39,7 @@ advance_pairs-requires c =
     let p = c.requires.1 in
     let a = c.args in
     let k = c.shape_of-s.ensures.byte_levels in
-    let filled : c.fill_image.new.image ≡ image_of a.t a.samples.now a.ahead.now =
-    rw (c.shape_of-s.ensures.value, to_z-of_z w32 _ c.ranges.lower, to_z-of_z w32 _ c.ranges.upper) at c.fill_image.ensures
-    ∙ image-is a.t a.samples.now a.ahead.now c.requires.0
-    in
+    let filled = image-filled a.t a.samples.now a.ahead.now c.shape_of-s.ensures.value (to_z-of_z w32 _ c.ranges.lower) (to_z-of_z w32 _ c.ranges.upper) c.requires.0 c.fill_image.ensures in
     let by_next : Reciprocal (a.momentum - 65536) (next_momentum a.momentum) c.reciprocal-factor.result =
     rw (← c.next_momentum-next.ensures) c.reciprocal-factor.ensures
     in
@@ -63,10 +59,7 @@ pub returns : goal.returns
 returns c =
     let p = c.requires.1 in
     let a = c.args in
-    let e : c.fill_image.new.image ≡ image_of a.t a.samples.now a.ahead.now =
-    rw (c.shape_of-s.ensures.value, to_z-of_z w32 _ c.ranges.lower, to_z-of_z w32 _ c.ranges.upper) at c.fill_image.ensures
-    ∙ image-is a.t a.samples.now a.ahead.now c.requires.0
-    in
+    let e = image-filled a.t a.samples.now a.ahead.now c.shape_of-s.ensures.value (to_z-of_z w32 _ c.ranges.lower) (to_z-of_z w32 _ c.ranges.upper) c.requires.0 c.fill_image.ensures in
     let by_next : Reciprocal (a.momentum - 65536) (next_momentum a.momentum) c.reciprocal-factor.result =
     rw (← c.next_momentum-next.ensures) c.reciprocal-factor.ensures
     in

@@ -13,12 +13,11 @@ use Rattle.model.specs.Problem.{pair_count}
 use Rattle.model.specs.declared.Terms.{Terms}
 use Rattle.model.specs.Grid.{grid}
 use Rattle.model.specs.Rounds.{nearest_eighth, first_moving}
-use Rattle.model.specs.Calls.{image_of}
 use Rattle.stencil.specs.Limits.{most}
 use Rattle.passes.specs.Moving.{moving_of}
 use Rattle.passes.specs.Limits.{Within}
 use Rattle.passes.proofs.Model.{moving_is}
-use Rattle.image.proofs.Model.{image-is}
+use Rattle.image.proofs.Model.{image-filled}
 use Rattle.passes.proofs.Moving.{one-moves, nothing-moves}
 use Rattle.solver.specs.Ready.{SteadyReady}
 use Rattle.solver.proofs.Passes.{fill_limits, flow-limits, pair_weights}
@@ -45,10 +44,7 @@ first_moving-first-requires c =
     let p = c.requires.1 in
     let a = c.args in
     let k = c.shape_of-s.ensures.byte_levels in
-    let filled : c.fill_image.new.image ≡ image_of a.t a.samples.now a.flow.now =
-    rw (c.shape_of-s.ensures.value, to_z-of_z w32 _ c.ranges.lower, to_z-of_z w32 _ c.ranges.upper) at c.fill_image.ensures
-    ∙ image-is a.t a.samples.now a.flow.now c.requires.0
-    in
+    let filled = image-filled a.t a.samples.now a.flow.now c.shape_of-s.ensures.value (to_z-of_z w32 _ c.ranges.lower) (to_z-of_z w32 _ c.ranges.upper) c.requires.0 c.fill_image.ensures in
     rw (c.shape_of-s.ensures.value, read w32 c.natural.type_inv, c.natural.ensures) (
       flow-limits a.t a.samples.now p.limits p.lengths.flow_length (flow_most p) k.low_byte k.high_byte filled,
       pair_weights a.t a.weights.now p.limits p.pair_weights,
@@ -58,10 +54,7 @@ pub returns-in-At : goal.returns-in-At
 returns-in-At c =
     let p = c.requires.1 in
     let a = c.args in
-    let filled : c.fill_image.new.image ≡ image_of a.t a.samples.now a.flow.now =
-    rw (c.shape_of-s.ensures.value, to_z-of_z w32 _ c.ranges.lower, to_z-of_z w32 _ c.ranges.upper) at c.fill_image.ensures
-    ∙ image-is a.t a.samples.now a.flow.now c.requires.0
-    in
+    let filled = image-filled a.t a.samples.now a.flow.now c.shape_of-s.ensures.value (to_z-of_z w32 _ c.ranges.lower) (to_z-of_z w32 _ c.ranges.upper) c.requires.0 c.fill_image.ensures in
     let n : ℕ = count a.t a.samples.now a.weights.now in
     let f : ℕ = first a.t a.samples.now a.weights.now a.flow.now in
     let answer : c.first_moving-first.result ≡ moving_of n f =
@@ -74,10 +67,7 @@ pub returns-in-Nothing : goal.returns-in-Nothing
 returns-in-Nothing c =
     let p = c.requires.1 in
     let a = c.args in
-    let filled : c.fill_image.new.image ≡ image_of a.t a.samples.now a.flow.now =
-    rw (c.shape_of-s.ensures.value, to_z-of_z w32 _ c.ranges.lower, to_z-of_z w32 _ c.ranges.upper) at c.fill_image.ensures
-    ∙ image-is a.t a.samples.now a.flow.now c.requires.0
-    in
+    let filled = image-filled a.t a.samples.now a.flow.now c.shape_of-s.ensures.value (to_z-of_z w32 _ c.ranges.lower) (to_z-of_z w32 _ c.ranges.upper) c.requires.0 c.fill_image.ensures in
     let n : ℕ = count a.t a.samples.now a.weights.now in
     let f : ℕ = first a.t a.samples.now a.weights.now a.flow.now in
     let answer : c.first_moving-first.result ≡ moving_of n f =

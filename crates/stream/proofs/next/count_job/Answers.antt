@@ -1,4 +1,4 @@
-use mathlib.Core.Path.{◌≡◌, ap, ap₂, ◌∙◌, subst, subst⁻¹}
+use mathlib.Core.Path.{◌≡◌, ap, ap₂, ◌∙◌, subst}
 use mathlib.Core.List.{List}
 use Prim.Native.Nat.{ℕ}
 use lib.ListN.{take}
@@ -10,8 +10,8 @@ use Rattle.model.specs.declared.ReadResult.{ReadResult}
 use Rattle.model.specs.Calls as Calls
 use Rattle.model.specs.Calls.{pixels_of}
 use Rattle.model.specs.Answers.{answer_of}
-use Rattle.model.specs.Season.{Treated, treated}
-use Rattle.stream.specs.Totals.{Countable, with_job}
+use Rattle.model.specs.Season.{treated}
+use Rattle.stream.specs.Totals.{with_job}
 use Rattle.stream.specs.Jobs.{Whole, Answered}
 use Rattle.stream.proofs.AtHand.{next_counted, next_refused}
 use Rattle.stream.proofs.next.count_job.Goals as goal

@@ -1,6 +1,4 @@
-use mathlib.Core.Path.{◌≡◌, sym, ◌∙◌}
-use mathlib.Core.Bool.{Bool, true, false}
-use borrow.Author.Tests.{not-true, not-false}
+use mathlib.Core.Path.{sym, ◌∙◌}
 use Rattle.stream.proofs.AtHand.{next_refused, next_past, next_more, next_ended, next_over}
 use Rattle.stream.proofs.next.unfinished.Goals as goal
 
