@@ -112,24 +112,24 @@ fn decode(tape: &[u8], at: usize, kind: u8) -> Entry
     let body = at + 1;
     match kind {
         1 => Entry::Size {
-            width: two_at(tape, body),
-            height: two_at(tape, body + 2),
+            width: u32::from(two_at(tape, body)),
+            height: u32::from(two_at(tape, body + 2)),
         },
         2 => Entry::WeightBox {
-            weight: two_at(tape, body),
+            weight: u32::from(two_at(tape, body)),
             low: tape[body + 2],
             high: tape[body + 3],
         },
         3 => Entry::RoundLimits {
-            quick: two_at(tape, body),
-            allowance: two_at(tape, body + 2) as u16,
+            quick: u32::from(two_at(tape, body)),
+            allowance: two_at(tape, body + 2),
         },
         4 => Entry::Sample { code: tape[body] },
         5 => Entry::Flow {
             value: four_at(tape, body),
         },
         6 => Entry::PairWeight {
-            weight: two_at(tape, body),
+            weight: u32::from(two_at(tape, body)),
         },
         _ => Entry::End,
     }
