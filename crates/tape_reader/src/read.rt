@@ -8,7 +8,7 @@ ghost use Rattle.model.specs.RoundTrip.{WritesBack, weight_count, flow_count};
 ghost use Rattle.tape_reader.specs.Scan.{WholeRecords};
 ghost use Rattle.model.specs.Answers.{read_answer_of};
 
-use crate::fill::{beyond_from, fill_flow, fill_samples, fill_weights};
+use crate::fill::{FlowNumbers, PairWeights, Samples, beyond_from, fill};
 use crate::scan::{Scanned, scan_tape};
 use model::{Lent, ReadResult};
 use tape_records::state::{ParserState, initial};
@@ -42,9 +42,9 @@ pub fn read_numbers(
     if place < state.flows {
         return ReadResult::Refused { number: 8, place };
     }
-    fill_samples(tape, 15, state.samples, samples);
-    fill_weights(tape, weights_at, state.weights, weights);
-    fill_flow(tape, flow_at, state.flows, flow);
+    fill::<Samples>(tape, 15, state.samples, samples);
+    fill::<PairWeights>(tape, weights_at, state.weights, weights);
+    fill::<FlowNumbers>(tape, flow_at, state.flows, flow);
     ReadResult::Job {
         terms,
         rounds,
