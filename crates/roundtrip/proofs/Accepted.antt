@@ -16,12 +16,11 @@ use borrow.Author.Tests.{eqb-true, ltb-true, ltb-false, not-false}
 use Rattle.integers.proofs.Order.{0≤pos, ≤→pos}
 use Rattle.model.specs.declared.Terms.{Terms}
 use Rattle.model.specs.declared.Rounds.{Rounds}
-use Rattle.model.specs.declared.Verdict.{Verdict}
 use Rattle.model.specs.declared.Entry.{Entry}
 use Rattle.model.specs.declared.Entry.TheVariants.{End, Size, WeightBox, RoundLimits, Sample, Flow, PairWeight}
 use Rattle.lists.specs.Lists.{chain}
 use Rattle.model.specs.Grid.{limit, size_allowed, weight_allowed, box_allowed}
-use Rattle.model.specs.Verdict.{first_refusal}
+use Rattle.model.specs.Verdict.{Verdict, first_refusal}
 use Rattle.model.specs.Calls.{pixels_of, pairs_of}
 use Rattle.model.specs.Tape.{known, decoded, encoded, Progress, nothing, kinds, allowed, absorbed, with_numbers, entry_rows, Parse, whole, parse_from, tape_of}
 use Rattle.model.proofs.Refusals.{accepted-row}

@@ -7,8 +7,7 @@ use native.Mathlib.Omega.{arith}
 use lib.IntN.{ℤ}
 use lib.ListN.{length}
 use borrow.Author.Tests.{lt-ltb, le-ltb, ltb-false}
-use Rattle.model.specs.declared.Verdict.{Verdict}
-use Rattle.model.specs.Verdict.{first_refusal}
+use Rattle.model.specs.Verdict.{Verdict, first_refusal}
 use Rattle.model.specs.Grid.{weight_of}
 use Rattle.model.specs.Calls.{first_beyond, flow_row}
 use Rattle.model.specs.Tape.{Progress, nothing, Parse, turned, whole, parse_from, unless, judged, parse, read_of, read_answer, read_samples, read_weights, read_flow, samples_after, weights_after, flow_after, lent_by}

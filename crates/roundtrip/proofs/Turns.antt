@@ -8,11 +8,10 @@ use native.Mathlib.Omega.{arith}
 use lib.Dec.{eqb, ltb}
 use lib.ListN.{length, get_or}
 use borrow.Author.Tests.{leb-false, ltb-false, eqb-true, eqb-false, not-false, eq-eqb, ne_eqb}
-use Rattle.model.specs.declared.Verdict.{Verdict}
 use Rattle.model.specs.declared.Entry.{Entry}
 use Rattle.model.specs.declared.Entry.TheVariants.{End, Size, WeightBox, RoundLimits, Sample, Flow, PairWeight}
 use Rattle.model.specs.declared.Lent.{Lent}
-use Rattle.model.specs.Verdict.{first_refusal, decided}
+use Rattle.model.specs.Verdict.{Verdict, first_refusal, decided}
 use Rattle.model.specs.Tape.{known, body_length, decoded, Progress, allowed, absorbed, record_rows, entry_rows, Parse, turned, whole, parse_from, ParseLaw}
 use Rattle.model.proofs.Refusals.{accepted-row, first_refusal-append, Numbered, refused-number}
 

@@ -8,9 +8,8 @@ use lib.Dec.{eqb, ltb}
 use lib.ListN.{length, get_or, take, drop, length-append, length-drop}
 use lib.Seq.{take-suc, take-length}
 use borrow.Author.Tests.{lt-leb, le-ltb, ne_eqb}
-use Rattle.model.specs.declared.Verdict.{Verdict}
 use Rattle.model.specs.declared.Entry.{Entry}
-use Rattle.model.specs.Verdict.{first_refusal}
+use Rattle.model.specs.Verdict.{Verdict, first_refusal}
 use Rattle.model.specs.Tape.{kinds, known, body_length, encoded, Progress, allowed, absorbed, record_rows, entry_rows, Parse, whole, parse_from}
 use Rattle.model.proofs.Refusals.{accepted, passed}
 use Rattle.model.specs.declared.Lent.{Lent}

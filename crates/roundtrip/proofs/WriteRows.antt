@@ -8,8 +8,7 @@ use lib.ListN.{length}
 use Rattle.lists.specs.Lists.{overwritten}
 use Rattle.model.specs.declared.Terms.{Terms}
 use Rattle.model.specs.declared.Rounds.{Rounds}
-use Rattle.model.specs.declared.Verdict.{Verdict}
-use Rattle.model.specs.Verdict.{first_refusal, left}
+use Rattle.model.specs.Verdict.{Verdict, first_refusal, left}
 use Rattle.model.specs.Accepted.{WriteAllowed}
 use Rattle.model.proofs.Accepted.{write_accepted}
 use mathlib.Core.Logic.{◌↔◌}

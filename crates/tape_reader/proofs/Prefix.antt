@@ -9,10 +9,9 @@ use lib.Dec.{leb, ltb}
 use lib.ListN.{length, get_or, take, length-append, get_or-append}
 use lib.Seq.{get_or-take, take-append-le}
 use borrow.Author.Tests.{leb-false, lt-leb}
-use Rattle.model.specs.declared.Verdict.{Verdict}
 use Rattle.model.specs.declared.Entry.{Entry}
 use Rattle.model.specs.declared.Entry.TheVariants.{End, Size, WeightBox, RoundLimits, Sample, Flow, PairWeight}
-use Rattle.model.specs.Verdict.{first_refusal, decided}
+use Rattle.model.specs.Verdict.{Verdict, first_refusal, decided}
 use Rattle.model.specs.declared.Lent.{Lent}
 use Rattle.model.specs.Tape.{kinds, known, body_length, decoded, body_rows, record_rows, entry_rows, too_short}
 use Rattle.model.proofs.Refusals.{accepted, refused, passed}

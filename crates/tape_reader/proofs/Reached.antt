@@ -8,10 +8,9 @@ use native.Mathlib.Omega.{arith}
 use lib.Dec.{eqb}
 use lib.ListN.{length, get_or, take, length-append}
 use lib.Seq.{take-take, take-append-le}
-use Rattle.model.specs.declared.Verdict.{Verdict}
 use Rattle.model.specs.declared.Entry.{Entry}
 use Rattle.model.specs.declared.Entry.TheVariants.{End, Size, WeightBox, RoundLimits, Sample, Flow, PairWeight}
-use Rattle.model.specs.Verdict.{first_refusal}
+use Rattle.model.specs.Verdict.{Verdict, first_refusal}
 use Rattle.model.specs.declared.Lent.{Lent}
 use Rattle.model.specs.Tape.{kinds, Progress, nothing, allowed, absorbed, body_length, decoded, entry_rows, Parse, turned, whole, parse_from, too_short}
 use Rattle.model.proofs.Refusals.{accepted}

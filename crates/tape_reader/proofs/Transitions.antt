@@ -7,11 +7,10 @@ use Prim.Native.Nat.{ℕ, ◌+◌}
 use lib.Dec.{eqb}
 use lib.IntN.{pos}
 use lib.ListN.{get_or, length-append}
-use Rattle.model.specs.declared.Verdict.{Verdict}
 use Rattle.model.specs.declared.Entry.{Entry}
 use Rattle.model.specs.declared.Entry.TheVariants.{End, Size, WeightBox, RoundLimits, Sample, Flow, PairWeight}
 use Rattle.model.specs.declared.Lent.{Lent}
-use Rattle.model.specs.Verdict.{decided}
+use Rattle.model.specs.Verdict.{Verdict, decided}
 use Rattle.model.specs.Tape.{kinds, known, decoded, Progress, allowed, absorbed}
 use Rattle.tape_records.specs.declared.state.ParserState.{ParserState}
 use Rattle.tape_records.specs.declared.parse.Cursor.{Cursor}
