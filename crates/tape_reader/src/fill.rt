@@ -1,7 +1,7 @@
 // The numbers of a whole tape: the first flow number beyond its pair's weight, and the buffers filled.
 
 ghost use Rattle.std.specs.Prelude.{◌≡◌, ℕ, List, ◌+◌, ◌*◌, ◌≤◌, pos, length, get_or};
-ghost use Rattle.lists.specs.Lists.{table, first_where, overwritten};
+ghost use Rattle.lists.specs.Lists.{table, first_where, below, overwritten};
 ghost use Rattle.tape_reader.specs.Places.{pair_weight_at, number_at, own_weight, beyond_own};
 
 use tape_records::bytes::{four_at, two_at};
@@ -29,19 +29,17 @@ pub fn beyond_from(
     weight_count: usize,
     flow_at: usize,
     flow_count: usize,
-) -> usize
+) -> Option<usize>
     requires { (weights_at + 3 * flow_count ≤ length tape.now) × (flow_at + 5 * flow_count ≤ length tape.now) }
-    ensures { result ≡ first_where flow_count (beyond_own tape.now weight weights_at weight_count flow_at) }
+    ensures { result ≡ below flow_count (first_where flow_count (beyond_own tape.now weight weights_at weight_count flow_at)) }
 {
-    let mut j = 0;
-    while j < flow_count {
+    for j in 0..flow_count {
         let limit = own_weight(tape, weight, weights_at, weight_count, j);
         if is_beyond(four_at(tape, flow_at + 5 * j + 1), limit) {
-            return j;
+            return Some(j);
         }
-        j += 1;
     }
-    j
+    None
 }
 
 // The records of one kind, as they stand one behind the other: how many bytes each has, and its number.
