@@ -10,7 +10,7 @@ use lib.ListN.{get_or, length-append}
 use Rattle.model.specs.declared.Entry.{Entry}
 use Rattle.model.specs.declared.Entry.TheVariants.{End, Size, WeightBox, RoundLimits, Sample, Flow, PairWeight}
 use Rattle.model.specs.declared.Lent.{Lent}
-use Rattle.std.specs.Prelude.{Option, Some, None, Ok}
+use Rattle.std.specs.Prelude.{Some, None, Ok}
 use Rattle.model.specs.Verdict.{Verdict, decided, refused}
 use Rattle.model.specs.Tape.{kinds, known, decoded, Progress, allowed, absorbed}
 use Rattle.tape_records.specs.declared.state.ParserState.{ParserState}
@@ -33,10 +33,10 @@ advanced-absorbed p (PairWeight w) = rw (length-append p.weights (pos w ∷ []))
 
 -- only the end ends
 continued-kind : (t : ParserState) (kind : ℕ) (b : ℕ → ℕ) → known kind ≡ true →
-    continued t (decoded kind b) ≡ cond (eqb kind 0) None (Some (advanced t (decoded kind b)))
+    continued t (decoded kind b) ≡ Ok (cond (eqb kind 0) None (Some (advanced t (decoded kind b))))
 unfolding kinds
 continued-kind t kind b h =
-    each_kind (λ n. continued t (decoded n b) ≡ cond (eqb n 0) None (Some (advanced t (decoded n b)))) refl refl refl refl refl refl refl kind h
+    each_kind (λ n. continued t (decoded n b) ≡ Ok (cond (eqb n 0) None (Some (advanced t (decoded n b))))) refl refl refl refl refl refl refl kind h
 
 module _ (tape : List ℕ) (lent : Lent) (o : ℕ) (p : Progress) where
   abbrev behind : Cursor
@@ -54,10 +54,10 @@ module _ (tape : List ℕ) (lent : Lent) (o : ℕ) (p : Progress) where
   ends false = ap (λ (t : ParserState). Ok (Some (t, behind))) (advanced-absorbed p (entry_at tape o))
 
   judged : (v : Verdict) → known (get_or tape o 0) ≡ true →
-      with_next behind (decided v (Ok (continued (state_of p) (entry_at tape o))) refused) ≡ transition_by v (eqb (get_or tape o 0) 0)
+      with_next behind (decided v (continued (state_of p) (entry_at tape o)) refused) ≡ transition_by v (eqb (get_or tape o 0) 0)
   judged (Verdict.Refuse number place) h = refl
   judged Verdict.Accept h =
-      ap (λ (t : Option ParserState). with_next behind (Ok t)) (continued-kind (state_of p) (get_or tape o 0) (λ i. get_or tape (o + 1 + i) 0) h)
+      ap (with_next behind) (continued-kind (state_of p) (get_or tape o 0) (λ i. get_or tape (o + 1 + i) 0) h)
       ∙ ends (eqb (get_or tape o 0) 0)
 
   read_one : (v : Verdict) → record_verdict tape lent o p ≡ v →

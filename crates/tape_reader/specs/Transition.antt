@@ -58,14 +58,14 @@ advanced t (Flow f) = with_counts t t.samples t.weights (t.flows + 1)
 advanced t (PairWeight w) = with_counts t t.samples (t.weights + 1) t.flows
 
 -- the end ends the job; after any other record there is another
-abbrev pub continued : ParserState → Entry → Option ParserState
-continued t End = None
-continued t (Size w h) = Some (advanced t (Size w h))
-continued t (WeightBox weight low high) = Some (advanced t (WeightBox weight low high))
-continued t (RoundLimits q a) = Some (advanced t (RoundLimits q a))
-continued t (Sample s) = Some (advanced t (Sample s))
-continued t (Flow f) = Some (advanced t (Flow f))
-continued t (PairWeight w) = Some (advanced t (PairWeight w))
+abbrev pub continued : ParserState → Entry → Result (Option ParserState) (ℕ × ℕ)
+continued t End = Ok None
+continued t (Size w h) = Ok (Some (advanced t (Size w h)))
+continued t (WeightBox weight low high) = Ok (Some (advanced t (WeightBox weight low high)))
+continued t (RoundLimits q a) = Ok (Some (advanced t (RoundLimits q a)))
+continued t (Sample s) = Ok (Some (advanced t (Sample s)))
+continued t (Flow f) = Ok (Some (advanced t (Flow f)))
+continued t (PairWeight w) = Ok (Some (advanced t (PairWeight w)))
 
 -- the record's terms judged, at offset o: what has been read then
 abbrev pub counted_entry : ParserState → Entry → ℕ → Lent → Result ParserState (ℕ × ℕ)
@@ -73,7 +73,7 @@ counted_entry t e o lent = decided (first_refusal (entry_rows o lent e)) (Ok (ad
 
 -- .. and whether there is another record
 abbrev pub judged_entry : ParserState → Entry → ℕ → Lent → Result (Option ParserState) (ℕ × ℕ)
-judged_entry t e o lent = decided (first_refusal (entry_rows o lent e)) (Ok (continued t e)) refused
+judged_entry t e o lent = decided (first_refusal (entry_rows o lent e)) (continued t e) refused
 
 -- What a record leads to: a refusal with its place, none at the job's end, or what has been read now with the place of the
 -- next record

@@ -1,4 +1,4 @@
-use mathlib.Core.Path.{ap, ◌∙◌}
+use mathlib.Core.Path.{◌≡◌, subst}
 use Prim.Native.Nat.{ℕ, ◌+◌, ◌*◌}
 use native.Mathlib.Omega.{arith}
 use Rattle.lists.proofs.Fill.{filling_none, filling_more}
@@ -11,4 +11,4 @@ pub loop-j-preserved : goal.loop-j-preserved
 loop-j-preserved g c =
     let a = c.args in
     filling_more c.loop-j.invariant (omega (arith, c.requires.1))
-    (c.number.ensures ∙ ap (λ (n : ℕ). g.S.Section.number a.tape.now (a.start + n * c.loop-j.j)) c.LENGTH.ensures)
+    (subst (λ (n : ℕ). c.number.result ≡ g.S.Section.number a.tape.now (a.start + n * c.loop-j.j)) c.LENGTH.ensures c.number.ensures)
