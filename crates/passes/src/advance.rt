@@ -11,7 +11,7 @@ ghost use Rattle.passes.specs.Pairs.{weight_at, step_at, ahead_at, first_value, 
 use crate::part::{number_or, part_of};
 use layout::Shape;
 use stencil::pair;
-use stencil::pair::Round;
+use stencil::rounding::Quick;
 
 // One run of pairs, with the values of their first and of their second pixels: flow holds the earlier
 // iterate and gets the next one, ahead holds R and gets the next R.
@@ -31,7 +31,7 @@ fn advance_run(
     let mut j = 0;
     while j < flow.len() {
         let own = number_or(weights, j, weight);
-        let next = pair::step_value(Round::Quick, ahead[j], first[j], second[j], own);
+        let next = pair::step_value::<Quick>(ahead[j], first[j], second[j], own);
         ahead[j] = momentum::extrapolated(flow[j], next, m);
         flow[j] = next;
         j += 1;

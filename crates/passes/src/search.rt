@@ -12,7 +12,7 @@ ghost use Rattle.passes.specs.Moving.{moving_of};
 use crate::part::{number_or, part_of};
 use layout::Shape;
 use stencil::pair;
-use stencil::pair::Round;
+use stencil::rounding::Steady;
 
 // The first pair that would move.
 #[derive(Clone, Copy)]
@@ -32,7 +32,7 @@ fn search_run(flow: &[i32], first: &[i32], second: &[i32], weight: i32, weights:
             break Moving::Nothing;
         }
         let own = number_or(weights, j, weight);
-        if pair::would_move(Round::Steady, flow[j], first[j], second[j], own) {
+        if pair::would_move::<Steady>(flow[j], first[j], second[j], own) {
             break Moving::At(j);
         }
         j += 1;

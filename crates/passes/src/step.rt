@@ -11,7 +11,7 @@ ghost use Rattle.passes.specs.Pairs.{weight_at, step_at, first_value, second_val
 use crate::part::{number_or, part_of};
 use layout::Shape;
 use stencil::pair;
-use stencil::pair::Round;
+use stencil::rounding::Steady;
 
 // One run of pairs, with the values of their first and of their second pixels.
 fn step_run(flow: &mut [i32], first: &[i32], second: &[i32], weight: i32, weights: &[i32])
@@ -21,7 +21,7 @@ fn step_run(flow: &mut [i32], first: &[i32], second: &[i32], weight: i32, weight
     let mut j = 0;
     while j < flow.len() {
         let own = number_or(weights, j, weight);
-        flow[j] = pair::step_value(Round::Steady, flow[j], first[j], second[j], own);
+        flow[j] = pair::step_value::<Steady>(flow[j], first[j], second[j], own);
         j += 1;
     }
 }
