@@ -3,9 +3,5 @@
 
 #![tactic(auto)]
 
-pub mod advance;
 pub mod part;
-pub mod pixels;
-pub mod search;
 pub mod step;
-pub mod sums;
