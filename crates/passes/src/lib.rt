@@ -3,5 +3,9 @@
 
 #![tactic(auto)]
 
+pub mod advance;
 pub mod part;
+pub mod pixels;
+pub mod search;
 pub mod step;
+pub mod sums;

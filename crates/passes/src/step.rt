@@ -10,7 +10,7 @@ ghost use Rattle.passes.specs.Pairs.{weight_at, step_at, first_value, second_val
 use crate::part::{Values, Weights};
 use layout::Shape;
 use stencil::pair;
-use stencil::pair::Round;
+use stencil::rounding::Steady;
 
 // One run of pairs, with the values of their pixels.
 fn step_run(flow: &mut [i32], values: Values, weights: Weights)
@@ -18,13 +18,8 @@ fn step_run(flow: &mut [i32], values: Values, weights: Weights)
     ensures { flow.new ≡ table (length flow.old) (step_at nearest_eighth (weight_at weights.entry.all weights.entry.own.now) (at flow.old) (at values.entry.first.now) (at values.entry.second.now)) }
 {
     for j in 0..flow.len() {
-        flow[j] = pair::step_value(
-            Round::Steady,
-            flow[j],
-            values.first[j],
-            values.second[j],
-            weights.at(j),
-        );
+        let own = weights.at(j);
+        flow[j] = pair::step_value::<Steady>(flow[j], values.first[j], values.second[j], own);
     }
 }
 

@@ -1,8 +1,8 @@
 -- The quick rounds' share is the truncated quotient.
 use Rattle.std.proofs.Common.{rules}
 use Rattle.model.specs.Rounds.{eighth}
-use Rattle.stencil.proofs.pair.share.Goals as goal
+use Rattle.stencil.proofs.rounding.QuickRounding.share.Goals as goal
 
-pub returns-in-Quick : goal.returns-in-Quick
+pub returns : goal.returns
 unfolding eighth
-returns-in-Quick c = search rules
+returns c = search rules
