@@ -43,10 +43,16 @@ pub fn advance_pairs(
 {
     for k in 0..s.run_count() {
         let r = s.run(k);
-        let start = r.pair;
-        let end = start + r.count;
         let values = Values::of_run(image, r);
         let own = weights.of_run(r);
-        advance_run(&mut flow[start..end], &mut ahead[start..end], values, own, m);
+        let start = r.pair;
+        let end = start + r.count;
+        advance_run(
+            &mut flow[start..end],
+            &mut ahead[start..end],
+            values,
+            own,
+            m,
+        );
     }
 }

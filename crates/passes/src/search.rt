@@ -18,8 +18,8 @@ fn search_run(flow: &[i32], values: Values, weights: Weights) -> Option<usize>
     requires { RunLimits flow.now values.first.now values.second.now × WeightLimits (length flow.now) weights.all weights.own.now }
     ensures { result ≡ moving_of (length flow.now) (first_where (length flow.now) (moves_at nearest_eighth (weight_at weights.entry.all weights.entry.own.now) (at flow.now) (at values.entry.first.now) (at values.entry.second.now))) }
 {
-    // A loop that yields by `break` the first pair that moves, or none: the form that the search is to
-    // have, which a `for` cannot take.
+    // A rule of the project: the search yields by `break` the first pair that moves, or none. A `for`
+    // yields nothing.
     let mut j = 0;
     loop {
         if flow.len() <= j {

@@ -36,7 +36,9 @@ pub fn total_variation(image: &[i32], s: Shape, weights: &[i32]) -> u64
     let mut sum = 0;
     for k in 0..s.run_count() {
         let r = s.run(k);
-        sum += variation_run(Values::of_run(image, r), each.of_run(r));
+        let values = Values::of_run(image, r);
+        let own = each.of_run(r);
+        sum += variation_run(values, own);
     }
     sum
 }
@@ -63,7 +65,8 @@ pub fn total_product(flow: &[i32], image: &[i32], s: Shape) -> i64
     for k in 0..s.run_count() {
         let r = s.run(k);
         let numbers = part_of(flow, r.pair, r.count);
-        sum += product_run(numbers, Values::of_run(image, r));
+        let values = Values::of_run(image, r);
+        sum += product_run(numbers, values);
     }
     sum
 }

@@ -1,6 +1,6 @@
 -- run after run.
-use mathlib.Core.Path.{◌≡◌, ◌∙◌}
-use Prim.Native.Nat.{ℕ, ◌+◌, ◌-◌}
+use mathlib.Core.Path.{◌∙◌}
+use Prim.Native.Nat.{◌+◌, ◌-◌}
 use native.Mathlib.Omega.{arith}
 use lib.ListN.{take, drop}
 use Rattle.lists.specs.Lists.{at, table}
@@ -8,7 +8,7 @@ use Rattle.lists.proofs.Tables.{table-cong}
 use Rattle.model.specs.Rounds.{nearest_eighth}
 use Rattle.stencil.specs.Pair.{step_value}
 use Rattle.passes.specs.Pairs.{weight_at}
-use Rattle.passes.proofs.Runs.{PartOf, part_weight, Turn, turn, none_filled, all_filled, values-there, weights_there, buffer-there, unfilled, run-filled, ValuesOf, values_of, run-limits, run-weights, run-pass}
+use Rattle.passes.proofs.Runs.{PartOf, part_weight, Turn, turn, none_filled, all_filled, values-there, weights_there, unfilled, run-filled, ValuesOf, values_of, run-limits, run-weights, run-pass}
 use Rattle.passes.proofs.step.step_pairs.Goals as goal
 
 pub loop-k-init : goal.loop-k-init
@@ -53,10 +53,10 @@ loop-k-preserved c =
     let d = c.before.before.before.before.before in
     let own = c.of_run-own.ensures in
     run-filled (run d) c.loop-k.invariant (
-      c.step_run.ensures
-      ∙ run-pass (values d) (weight_at c.args.weights.all c.args.weights.own.now) (at c.args.flow.now)
-          (part_weight c.args.weights.own.now c.run-r.result.pair c.run-r.result.count own.all own.own) (numbers d).number
-          table (λ n _ _. table-cong n) (step_value nearest_eighth) (numbers d).size
+    c.step_run.ensures
+    ∙ run-pass (values d) (weight_at c.args.weights.all c.args.weights.own.now) (at c.args.flow.now)
+    (part_weight c.args.weights.own.now c.run-r.result.pair c.run-r.result.count own.all own.own) (numbers d).number
+    table (λ n _ _. table-cong n) (step_value nearest_eighth) (numbers d).size
     )
 
 pub returns : goal.returns

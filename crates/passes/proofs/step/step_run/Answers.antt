@@ -1,6 +1,5 @@
 use mathlib.Core.Path.{◌∙◌}
 use native.Mathlib.Nat.{le_refl}
-use native.Mathlib.Omega.{arith}
 use lib.IntN.{pos}
 use mir.Syntax.{w32}
 use Rattle.integers.proofs.Machine.{read}
@@ -15,9 +14,9 @@ pub loop-j-init : goal.loop-j-init
 loop-j-init c = filling_none _ _
 
 -- pair j, whose number is not stepped yet
-pair : (c : goal.After-at) → let a = c.args in
-    ReadPair a.weights.all a.weights.own.now a.flow.now a.values.first.now a.values.second.now c.loop-j.j c.at.result (at c.loop-j.flow c.loop-j.j)
-pair c = let l = c.loop-j in read-pair c.requires.0 c.requires.1 l.j c.at.type_inv c.at.ensures (filling_rest l.invariant l.j (pos 0) (le_refl l.j))
+pair : (c : goal.After-step_value-arg-in-loop-j-2-1) → let a = c.args in
+    ReadPair a.weights.all a.weights.own.now a.flow.now a.values.first.now a.values.second.now c.loop-j.j c.at-own.result (at c.loop-j.flow c.loop-j.j)
+pair c = let l = c.loop-j in read-pair c.requires.0 c.requires.1 l.j c.at-own.type_inv c.at-own.ensures (filling_rest l.invariant l.j (pos 0) (le_refl l.j))
 
 pub step_value-requires : goal.step_value-requires
 step_value-requires c = pair_limits-read (pair c)
