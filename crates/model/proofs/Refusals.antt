@@ -71,8 +71,8 @@ module _ (upper lower : List Row) where
     pub went_on : {a : A} {v : Verdict} → r ≡ Ok a → v ≡ first_refusal lower → v ≡ first_refusal (upper ++ lower)
     went_on {v} h g = joined (sym (ap (λ (x : Result A Refusal). decided (verdict_of x) v Refuse) h)) f g
 
--- .. and where they accept
-pub passes : {A : Type 0} {r : Result A Refusal} {a : A} {v : Verdict} → verdict_of r ≡ v → r ≡ Ok a → v ≡ Accept
+-- the verdict of a result that is known
+pub passes : {A : Type 0} {r s : Result A Refusal} {v : Verdict} → verdict_of r ≡ v → r ≡ s → v ≡ verdict_of s
 passes f h = sym f ∙ ap verdict_of h
 
 -- ---- no row has the number 0, so a refusal is never taken for an acceptance
