@@ -5,4 +5,4 @@ use Rattle.text.proofs.number.put_field.Goals as goal
 
 pub returns-clause-put : goal.returns-clause-put
 unfolding ascii
-returns-clause-put c = put_within c.put_byte-next.ensures c.put_decimal.ensures.put (omega arith)
+returns-clause-put g c = put_within c.put_byte-next.ensures c.put.ensures.put (omega arith)
