@@ -79,6 +79,7 @@ impl Decimal for i32 {
 }
 
 // With a space in front.
+#[tactic(auto, using(output::proofs::Puts::put_within), unfolding(model::specs::Text::ascii))]
 pub fn put_field<N: Decimal>(output: &mut [u8], o: usize, n: N) -> usize
     requires { o + (1 + N.room) ≤ length output.old }
     ensures put { Put o (field (N.text n)) output.old result output.new }
