@@ -6,14 +6,14 @@ ghost use Rattle.stencil.specs.Pair.{step_value, moves};
 ghost use Rattle.stencil.specs.Limits.{PairLimits};
 
 use crate::rounding::Rounding;
-use integers::signed;
+use integers::signed::clamped;
 
 // The number of a pair after a step, from its number and its pixels' values.
 pub fn step_value<R: Rounding>(f: i32, x: i32, y: i32, weight: i32) -> i32
     requires { PairLimits weight f x y }
     ensures { result ≡ step_value R.rounded weight f x y }
 {
-    signed::clamped(f + R::share(x - y), -weight, weight)
+    clamped(f + R::share(x - y), -weight, weight)
 }
 
 // Whether a step would change the number of a pair.
@@ -29,7 +29,7 @@ pub fn variation(weight: i32, x: i32, y: i32) -> u64
     requires { (pos 0 ≤ℤ weight) × (nat_abs x + nat_abs y < 2 ^ 31) }
     ensures { pos result ≡ weight *ℤ abs (x -ℤ y) }
 {
-    (signed::magnitude(weight) as u64) * (signed::magnitude(signed::sub(x, y)) as u64)
+    u64::from(weight.unsigned_abs()) * u64::from(x.abs_diff(y))
 }
 
 // A pair's number times its fall.
@@ -37,5 +37,5 @@ pub fn product(f: i32, x: i32, y: i32) -> i64
     requires { nat_abs x + nat_abs y < 2 ^ 31 }
     ensures { result ≡ f *ℤ (x -ℤ y) }
 {
-    signed::mul_wide(signed::wide(f), signed::wide(signed::sub(x, y)))
+    i64::from(f) * i64::from(x - y)
 }

@@ -4,8 +4,6 @@ ghost use Rattle.std.specs.Prelude.{◌≡◌, ◌+◌, ◌*◌, ◌^◌, ◌≤
 ghost use Rattle.model.specs.Rounds.{eighth, nearest_eighth};
 ghost use Rattle.model.proofs.Shares.{eighth-most, nearest_eighth-most};
 
-use integers::signed;
-
 // An eighth of a fall, rounded.
 pub trait Rounding {
     ghost rounded: { ℤ → ℤ };

@@ -1,10 +1,5 @@
 -- The sum rounded down is the nearest.
-use Rattle.std.proofs.Common.{◌≡◌, refl, sym, ◌∙◌, ◌≤◌, arith, rules}
-use lib.Dec.{lit<, lit≤}
-use lib.IntN.{ℤ, pos, nat_abs, ◌+ℤ◌}
-use lib.Signed.{shr_z}
-use mir.Syntax.{w32}
-use mir.Val.{to_z, of_z, SFits}
+use Rattle.std.proofs.Common.{◌≡◌, pos, to_z, w32, arith}
 use Rattle.std.proofs.lemmas.Int.{to_z-of_z, ints}
 use Rattle.integers.proofs.Rounded.{nearest-up, nearest-down}
 use Rattle.model.specs.Rounds.{nearest_eighth}
@@ -15,6 +10,6 @@ pub returns : goal.returns
 unfolding nearest_eighth
 returns c =
     elim c.if-fall-lt0.branch [
-      | then-fall-lt0 w ↦ grind (arith, ints, to_z-of_z, nearest-down 3)
-      | else-fall-lt0 w ↦ grind (arith, ints, to_z-of_z, nearest-up 3)
+      | then-fall-lt0 w ↦ let raise : to_z w32 c.if-fall-lt0.raise-bits ≡ pos 4 = w.raise-is in grind (arith, ints, to_z-of_z, nearest-down 3)
+      | else-fall-lt0 w ↦ let raise : to_z w32 c.if-fall-lt0.raise-bits ≡ pos 3 = w.raise-is in grind (arith, ints, to_z-of_z, nearest-up 3)
     ]
