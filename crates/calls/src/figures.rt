@@ -6,7 +6,6 @@ ghost use Rattle.model.specs.Problem;
 ghost use Rattle.model.specs.Grid.{grid};
 ghost use Rattle.calls.specs.Ready.{PriceReady, FlowReady, scale_of};
 
-use integers::signed;
 use model::{Figures, Terms};
 use passes::pixels::misfit;
 use passes::sums::{total_product, total_variation};
@@ -17,14 +16,14 @@ fn objective(fidelity: u64, variation: u64, factor: u32) -> u64
     requires { fidelity + 2 * (factor * variation) < 2 ^ 63 }
     ensures { result ≡ fidelity + 2 * (factor * variation) }
 {
-    fidelity + 2 * ((factor as u64) * variation)
+    fidelity + 2 * (u64::from(factor) * variation)
 }
 
 // That factor: the terms' weight, or 1 where the sum has the pairs' own weights.
 fn scale(weight: u32, weights: &[i32]) -> u32
     ensures { result ≡ scale_of weight weights.now }
 {
-    if weights.len() == 0 { weight } else { 1 }
+    if weights.is_empty() { weight } else { 1 }
 }
 
 // The dual objective: the data fidelity term plus twice the sum of flow times fall.
@@ -32,7 +31,7 @@ fn dual(fidelity: u64, product: i64) -> i64
     requires { fidelity + 2 * nat_abs product < 2 ^ 63 }
     ensures { result ≡ pos fidelity +ℤ pos 2 *ℤ product }
 {
-    signed::add_wide(signed::natural_wide(fidelity), signed::mul_wide(2, product))
+    fidelity as i64 + 2 * product
 }
 
 // The duality gap.
@@ -40,7 +39,7 @@ fn gap(price: u64, floor: i64) -> u64
     requires { (price + nat_abs floor < 2 ^ 63) × (floor ≤ℤ pos price) }
     ensures { pos result ≡ pos price -ℤ floor }
 {
-    signed::unsigned_wide(signed::sub_wide(signed::natural_wide(price), floor))
+    (price as i64 - floor) as u64
 }
 
 // The price of an image of the box.

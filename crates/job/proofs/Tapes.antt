@@ -12,10 +12,9 @@ use lib.Seq.{length-take-le, take_at}
 use borrow.Author.Tests.{eqb-true, eqb-false}
 use Rattle.model.specs.declared.Terms.{Terms}
 use Rattle.model.specs.declared.Rounds.{Rounds}
-use Rattle.model.specs.declared.Verdict.{Verdict}
 use Rattle.lists.specs.Lists.{zeros, overwritten}
 use Rattle.model.specs.Grid.{size_allowed}
-use Rattle.model.specs.Verdict.{left}
+use Rattle.model.specs.Verdict.{Verdict, Accept, Refuse, left}
 use Rattle.model.specs.Calls.{Answer, refusal, pixels_of, pairs_of, image_of, check_verdict, check_answer, check_image, run_verdict, run_answer, run_image}
 use Rattle.model.specs.Tape.{Progress, nothing, Parse, turned, whole, parse, ReadAnswer, read_of, read_answer, read_samples, read_weights, read_flow, lent_by}
 use Rattle.model.specs.declared.ReadResult.{ReadResult}
@@ -32,8 +31,8 @@ use Rattle.job.proofs.Shown.{Shows, of_check, same_check, of_run, same-run}
 
 -- the image that a call leaves is as long as the one it was lent, if that has a value for each pixel
 left-length : (n : ℕ) (v : Verdict) (new former : List ℤ) → length new ≡ n → length former ≡ n → length (left v new former) ≡ n
-left-length n Verdict.Accept new former e g = e
-left-length n (Verdict.Refuse number place) new former e g = g
+left-length n Accept new former e g = e
+left-length n (Refuse number place) new former e g = g
 
 module _ (t : Terms) (samples : List ℕ) (weights : List ℤ) where
   image_length : (flow : List ℤ) → length (image_of t samples flow) ≡ pixels_of t

@@ -13,8 +13,7 @@ use Rattle.model.specs.declared.Terms.{Terms}
 use Rattle.model.specs.declared.Totals.{Totals}
 use Rattle.model.specs.declared.Answer.{Answer}
 use Rattle.model.specs.declared.ReadResult.{ReadResult}
-use Rattle.model.specs.declared.Verdict.{Verdict}
-use Rattle.model.specs.Verdict.{or_else, first_refusal}
+use Rattle.model.specs.Verdict.{Verdict, Accept, Refuse, or_else, first_refusal}
 use Rattle.model.specs.Grid.{weight_of}
 use Rattle.model.specs.Calls as Calls
 use Rattle.model.specs.Calls.{pixels_of, first_beyond, flow_row}
@@ -89,14 +88,14 @@ module _ (bytes samples : List ℕ) (weights flow : List ℤ) {t : ParserState} 
   unfolding parse first_refusal
   faulty {n} {q} h = go (first_refusal (flow_row weight r.progress.flow ∷ [])) refl (sym (ap judged alone) ∙ h)
     where
-      eight : (b : Bool) (x : ℕ) {m l : ℕ} → or_else b (Verdict.Refuse 8 x) Verdict.Accept ≡ Verdict.Refuse m l → m ≡ 8
+      eight : (b : Bool) (x : ℕ) {m l : ℕ} → or_else b (Refuse 8 x) Accept ≡ Refuse m l → m ≡ 8
       eight true x e = cc
       eight false x e = cc
 
       go : (v : Verdict) → first_refusal (flow_row weight r.progress.flow ∷ []) ≡ v →
           unless v (whole r.progress) ≡ turned n q → too_short n ≡ false
-      go Verdict.Accept e h = cc
-      go (Verdict.Refuse m l) e h =
+      go Accept e h = cc
+      go (Refuse m l) e h =
           let is : n ≡ m = cc in
           let flow : List ℤ = r.progress.flow in
           let first : ℕ = first_beyond weight flow in

@@ -11,7 +11,8 @@ mod limits;
 mod range;
 mod refusals;
 mod rows;
-mod verdict;
+mod search;
+mod terms;
 mod weights;
 
 pub use beyond::is_beyond;
@@ -20,3 +21,4 @@ pub use limits::{
     all_or_none, box_allowed, quick_allowed, size_allowed, weight_allowed, wrong_length,
 };
 pub use refusals::{judge_check, judge_price, judge_run, judge_write};
+pub use rows::require;
