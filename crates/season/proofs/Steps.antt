@@ -30,7 +30,7 @@ size_of buffer w l = part_length w.start (w.end - w.start) buffer (omega (arith,
 module _ (lent : Lent) (buffer : List ℕ) (w : Window) (within : WindowIn buffer w) {totals after : Totals} {n : ℕ}
     (g : CountsJob (at_hand buffer w) lent totals after n) where
   abbrev behind : Window
-  behind = record { start = w.start + n; end = w.end; ended = w.ended; failed = w.failed }
+  behind = record { start = w.start + n; end = w.end; ended = w.ended }
 
   size : length (at_hand buffer w) ≡ w.end - w.start
   size = size_of buffer w within
@@ -47,7 +47,6 @@ module _ (lent : Lent) (buffer : List ℕ) (w : Window) (within : WindowIn buffe
       record {
         within = record { ordered = omega (arith, size, g.inside, within.ordered); inside = within.inside };
         ended = refl;
-        failed = refl;
         first = refl;
         unread = refl;
         bounded = g.bounded;

@@ -1,7 +1,7 @@
 // The numbers of a whole tape: the first flow number beyond its pair's weight, and the buffers filled.
 
-ghost use Rattle.std.specs.Prelude.{◌≡◌, ◌+◌, ◌*◌, ◌≤◌, pos, length, get_or};
-ghost use Rattle.lists.specs.Lists.{table, first_where, overwritten};
+ghost use Rattle.std.specs.Prelude.{◌≡◌, ℕ, List, ◌+◌, ◌*◌, ◌≤◌, pos, length, get_or};
+ghost use Rattle.lists.specs.Lists.{table, first_where, below, overwritten};
 ghost use Rattle.tape_reader.specs.Places.{pair_weight_at, number_at, own_weight, beyond_own};
 
 use tape_records::bytes::{four_at, two_at};
@@ -16,7 +16,7 @@ fn own_weight(tape: &[u8], weight: u32, weights_at: usize, weight_count: usize, 
     if weight_count == 0 {
         weight
     } else {
-        two_at(tape, weights_at + 3 * j + 1)
+        u32::from(two_at(tape, weights_at + 3 * j + 1))
     }
 }
 
@@ -29,53 +29,89 @@ pub fn beyond_from(
     weight_count: usize,
     flow_at: usize,
     flow_count: usize,
-) -> usize
+) -> Option<usize>
     requires { (weights_at + 3 * flow_count ≤ length tape.now) × (flow_at + 5 * flow_count ≤ length tape.now) }
-    ensures { result ≡ first_where flow_count (beyond_own tape.now weight weights_at weight_count flow_at) }
+    ensures { result ≡ below flow_count (first_where flow_count (beyond_own tape.now weight weights_at weight_count flow_at)) }
 {
-    let mut j = 0;
-    while j < flow_count {
+    for j in 0..flow_count {
         let limit = own_weight(tape, weight, weights_at, weight_count, j);
         if is_beyond(four_at(tape, flow_at + 5 * j + 1), limit) {
-            return j;
+            return Some(j);
         }
-        j += 1;
     }
-    j
+    None
 }
 
-// So many sample records, from an offset on, into the front of a buffer.
-pub fn fill_samples(tape: &[u8], start: usize, count: usize, samples: &mut [u8])
-    requires { (start + 2 * count ≤ length tape.now) × (count ≤ length samples.old) }
-    ensures { samples.new ≡ overwritten (table count (λ i. get_or tape.now (start + 2 * i + 1) 0)) samples.old }
-{
-    let mut i = 0;
-    while i < count {
-        samples[i] = tape[start + 2 * i + 1];
-        i += 1;
+// The records of one kind, as they stand one behind the other: how many bytes each has, and its number.
+pub trait Section {
+    type Number: Copy;
+
+    ghost LENGTH: { ℕ };
+
+    const LENGTH: usize;
+
+    ghost number: { List ℕ → ℕ → Self.Number };
+
+    // The number of the record at an offset.
+    fn number(tape: &[u8], at: usize) -> Self::Number
+        requires { at + LENGTH ≤ length tape.now }
+        ensures { result ≡ number tape.now at };
+}
+
+pub struct Samples;
+
+impl Section for Samples {
+    type Number = u8;
+
+    ghost LENGTH = { 2 };
+
+    const LENGTH: usize = 2;
+
+    ghost number = { λ tape o. get_or tape (o + 1) 0 };
+
+    fn number(tape: &[u8], at: usize) -> u8 {
+        tape[at + 1]
     }
 }
 
-// So many weight records, from an offset on, into the front of a buffer.
-pub fn fill_weights(tape: &[u8], start: usize, count: usize, weights: &mut [i32])
-    requires { (start + 3 * count ≤ length tape.now) × (count ≤ length weights.old) }
-    ensures { weights.new ≡ overwritten (table count (λ j. pos (pair_weight_at tape.now (start + 3 * j)))) weights.old }
-{
-    let mut j = 0;
-    while j < count {
-        weights[j] = two_at(tape, start + 3 * j + 1) as i32;
-        j += 1;
+pub struct PairWeights;
+
+impl Section for PairWeights {
+    type Number = i32;
+
+    ghost LENGTH = { 3 };
+
+    const LENGTH: usize = 3;
+
+    ghost number = { λ tape o. pos (pair_weight_at tape o) };
+
+    fn number(tape: &[u8], at: usize) -> i32 {
+        i32::from(two_at(tape, at + 1))
     }
 }
 
-// So many flow records, from an offset on, into the front of a buffer.
-pub fn fill_flow(tape: &[u8], start: usize, count: usize, flow: &mut [i32])
-    requires { (start + 5 * count ≤ length tape.now) × (count ≤ length flow.old) }
-    ensures { flow.new ≡ overwritten (table count (λ j. number_at tape.now (start + 5 * j))) flow.old }
+pub struct FlowNumbers;
+
+impl Section for FlowNumbers {
+    type Number = i32;
+
+    ghost LENGTH = { 5 };
+
+    const LENGTH: usize = 5;
+
+    ghost number = { λ tape o. number_at tape o };
+
+    fn number(tape: &[u8], at: usize) -> i32 {
+        four_at(tape, at + 1)
+    }
+}
+
+// The numbers of so many records, from an offset on, into the front of a buffer.
+pub fn fill<S: Section>(tape: &[u8], start: usize, count: usize, buffer: &mut [S::Number])
+    requires { (start + S.LENGTH * count ≤ length tape.now) × (count ≤ length buffer.old) }
+    ensures { buffer.new ≡ overwritten (table count (λ j. S.number tape.now (start + S.LENGTH * j))) buffer.old }
 {
-    let mut j = 0;
-    while j < count {
-        flow[j] = four_at(tape, start + 5 * j + 1);
-        j += 1;
+    for j in 0..count {
+        buffer[j] = S::number(tape, start + S::LENGTH * j);
     }
 }
