@@ -6,6 +6,7 @@ ghost use Rattle.model.specs.Problem;
 ghost use Rattle.model.specs.Grid.{grid};
 ghost use Rattle.calls.specs.Ready.{PriceReady, FlowReady, scale_of};
 
+use layout::Shape;
 use model::{Figures, Terms};
 use passes::pixels::misfit;
 use passes::sums::{total_product, total_variation};
@@ -47,7 +48,7 @@ pub fn image_price(t: Terms, samples: &[u8], weights: &[i32], image: &[i32]) -> 
     requires { PriceReady t samples.now weights.now image.now }
     ensures { pos result ≡ Problem.price (grid t samples.now weights.now) (at image.now) }
 {
-    let s = layout::shape_of(t);
+    let s = Shape::of(t);
     let variation = total_variation(image, s, weights);
     objective(misfit(image, samples), variation, scale(t.weight, weights))
 }
@@ -59,7 +60,7 @@ pub fn of_flow(t: Terms, samples: &[u8], weights: &[i32], flow: &[i32], image: &
     ensures floor_value { result.floor ≡ Problem.floor (grid t samples.now weights.now) (at flow.now) }
     ensures slack_value { pos result.slack ≡ Problem.slack (grid t samples.now weights.now) (at flow.now) }
 {
-    let s = layout::shape_of(t);
+    let s = Shape::of(t);
     let fidelity = misfit(image, samples);
     let variation = total_variation(image, s, weights);
     let price = objective(fidelity, variation, scale(t.weight, weights));

@@ -54,7 +54,7 @@ fill_image-requires c =
     let t = c.args.t in
     let accepted = passes c.judge_check.ensures c.in_ok-judge_check.was in
     let a = facts t c.args.samples.now c.args.weights.now c.args.flow.now c.args.image.now accepted in
-    rw c.shape_of-s.ensures.value
+    rw c.of.ensures.value
     (record {
       width_least = a.terms.width_least;
       height_least = a.terms.height_least;
@@ -70,14 +70,13 @@ returns c =
     let a = c.args in
     let t = a.t in
     let accepted = passes c.judge_check.ensures c.in_ok-judge_check.was in
-    let ends = box-ends c.args.t (read w32 c.low_end-lower.type_inv ∙ c.low_end-lower.ensures) (read w32 c.high_end-upper.type_inv ∙ c.high_end-upper.ensures) in
     let k =
     figured checked 0 t a.samples.now a.weights.now a.flow.now c.of_flow-figures.ensures.price_value c.of_flow-figures.ensures.floor_value c.of_flow-figures.ensures.slack_value
     ∙ sym (check_answer_lem t a.samples.now a.weights.now a.flow.now a.image.now accepted)
     in
     let g =
-    rw c.shape_of-s.ensures.value at c.fill_image.ensures
-    ∙ image-is t a.samples.now a.flow.now ends
+    rw c.of.ensures.value at c.fill_image.ensures
+    ∙ image-is t a.samples.now a.flow.now c.of-2.ensures
     ∙ sym (check_image_lem t a.samples.now a.weights.now a.flow.now a.image.now accepted)
     in
     record {
@@ -93,12 +92,11 @@ of_flow-figures-requires c =
     let t = c.args.t in
     let accepted = passes c.judge_check.ensures c.in_ok-judge_check.was in
     let a = facts t c.args.samples.now c.args.weights.now c.args.flow.now c.args.image.now accepted in
-    let ends = box-ends c.args.t (read w32 c.low_end-lower.type_inv ∙ c.low_end-lower.ensures) (read w32 c.high_end-upper.type_inv ∙ c.high_end-upper.ensures) in
     record {
       terms = a.terms;
       pair_weights = a.pair_weights;
       samples_length = a.samples_length;
       flow_length = a.flow_length;
       feasible = feasible t c.args.samples.now c.args.weights.now c.args.flow.now c.args.image.now accepted;
-      image = rw c.shape_of-s.ensures.value at c.fill_image.ensures ∙ image-is t c.args.samples.now c.args.flow.now ends;
+      image = rw c.of.ensures.value at c.fill_image.ensures ∙ image-is t c.args.samples.now c.args.flow.now c.of-2.ensures;
     }

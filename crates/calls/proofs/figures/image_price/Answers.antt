@@ -13,24 +13,24 @@ pub total_variation-variation-requires : goal.total_variation-variation-requires
 total_variation-variation-requires c =
     let a = c.args in
     let r = c.requires in
-    let ok = with_codes _ _ _ r.terms r.pair_weights c.shape_of-s.ensures.byte_levels.high_byte c.type_inv.samples in
-    rw c.shape_of-s.ensures.value (raster-limits _ _ _ ok a.image.now r.image_length r.inside, own-weights _ _ _ ok)
+    let ok = with_codes _ _ _ r.terms r.pair_weights c.of-s.ensures.byte_levels.high_byte c.type_inv.samples in
+    rw c.of-s.ensures.value (raster-limits _ _ _ ok a.image.now r.image_length r.inside, own-weights _ _ _ ok)
 
 pub misfit-requires : goal.misfit-requires
 misfit-requires c =
     let a = c.args in
     let r = c.requires in
-    let ok = with_codes _ _ _ r.terms r.pair_weights c.shape_of-s.ensures.byte_levels.high_byte c.type_inv.samples in
+    let ok = with_codes _ _ _ r.terms r.pair_weights c.of-s.ensures.byte_levels.high_byte c.type_inv.samples in
     misfit-limits _ _ _ ok a.image.now r.image_length r.inside r.samples_length
 
 pub objective-requires : goal.objective-requires
 objective-requires c =
     let a = c.args in
     let r = c.requires in
-    let ok = with_codes _ _ _ r.terms r.pair_weights c.shape_of-s.ensures.byte_levels.high_byte c.type_inv.samples in
+    let ok = with_codes _ _ _ r.terms r.pair_weights c.of-s.ensures.byte_levels.high_byte c.type_inv.samples in
     let fidelity = misfit-at a.t a.samples.now a.weights.now a.image.now r.image_length c.misfit.ensures in
     let falls =
-    variation_at_lem a.t a.samples.now a.weights.now a.image.now (rw c.shape_of-s.ensures.value at c.total_variation-variation.ensures)
+    variation_at_lem a.t a.samples.now a.weights.now a.image.now (rw c.of-s.ensures.value at c.total_variation-variation.ensures)
     in
     rw c.scale.ensures
     (omega (
@@ -44,7 +44,7 @@ returns c =
     let a = c.args in
     let fidelity = misfit-at a.t a.samples.now a.weights.now a.image.now c.requires.image_length c.misfit.ensures in
     let falls =
-    variation_at_lem a.t a.samples.now a.weights.now a.image.now (rw c.shape_of-s.ensures.value at c.total_variation-variation.ensures)
+    variation_at_lem a.t a.samples.now a.weights.now a.image.now (rw c.of-s.ensures.value at c.total_variation-variation.ensures)
     in
     ap pos (c.objective.ensures ∙ ap (λ (k : ℕ). c.misfit.result + 2 * (k * c.total_variation-variation.result)) c.scale.ensures)
     ∙ price-is a.t a.samples.now a.weights.now c.requires.pair_weights (at a.image.now) fidelity falls

@@ -83,43 +83,43 @@ module _ (t : Terms) (samples : List ℕ) (weights flow values : List ℤ) (r : 
 pub misfit-fidelity-requires : goal.misfit-fidelity-requires
 misfit-fidelity-requires c =
     let r = c.requires in
-    let ok = with_codes _ _ _ r.terms r.pair_weights c.shape_of-s.ensures.byte_levels.high_byte c.type_inv.samples in
+    let ok = with_codes _ _ _ r.terms r.pair_weights c.of-s.ensures.byte_levels.high_byte c.type_inv.samples in
     misfit-lent _ _ _ _ _ r ok
 
 pub total_variation-variation-requires : goal.total_variation-variation-requires
 total_variation-variation-requires c =
     let r = c.requires in
-    let ok = with_codes _ _ _ r.terms r.pair_weights c.shape_of-s.ensures.byte_levels.high_byte c.type_inv.samples in
-    rw c.shape_of-s.ensures.value ((limits _ _ _ _ _ r ok).raster, own-weights _ _ _ ok)
+    let ok = with_codes _ _ _ r.terms r.pair_weights c.of-s.ensures.byte_levels.high_byte c.type_inv.samples in
+    rw c.of-s.ensures.value ((limits _ _ _ _ _ r ok).raster, own-weights _ _ _ ok)
 
 pub objective-price-requires : goal.objective-price-requires
 objective-price-requires c =
     let r = c.requires in
-    let ok = with_codes _ _ _ r.terms r.pair_weights c.shape_of-s.ensures.byte_levels.high_byte c.type_inv.samples in
-    let v = rw c.shape_of-s.ensures.value at c.total_variation-variation.ensures in
+    let ok = with_codes _ _ _ r.terms r.pair_weights c.of-s.ensures.byte_levels.high_byte c.type_inv.samples in
+    let v = rw c.of-s.ensures.value at c.total_variation-variation.ensures in
     rw c.scale.ensures (omega (arith, largest-fits, priced _ _ _ _ _ r ok c.misfit-fidelity.ensures v))
 
 pub total_product-requires : goal.total_product-requires
 total_product-requires c =
     let r = c.requires in
-    let ok = with_codes _ _ _ r.terms r.pair_weights c.shape_of-s.ensures.byte_levels.high_byte c.type_inv.samples in
-    rw c.shape_of-s.ensures.value (limits _ _ _ _ _ r ok)
+    let ok = with_codes _ _ _ r.terms r.pair_weights c.of-s.ensures.byte_levels.high_byte c.type_inv.samples in
+    rw c.of-s.ensures.value (limits _ _ _ _ _ r ok)
 
 pub dual-floor-requires : goal.dual-floor-requires
 dual-floor-requires c =
     let r = c.requires in
-    let ok = with_codes _ _ _ r.terms r.pair_weights c.shape_of-s.ensures.byte_levels.high_byte c.type_inv.samples in
-    let v = rw c.shape_of-s.ensures.value at c.total_variation-variation.ensures in
-    let s = read w64 c.total_product.type_inv ∙ rw c.shape_of-s.ensures.value at c.total_product.ensures in
+    let ok = with_codes _ _ _ r.terms r.pair_weights c.of-s.ensures.byte_levels.high_byte c.type_inv.samples in
+    let v = rw c.of-s.ensures.value at c.total_variation-variation.ensures in
+    let s = read w64 c.total_product.type_inv ∙ rw c.of-s.ensures.value at c.total_product.ensures in
     omega (arith, largest-fits, dual-fits _ _ _ _ _ r ok c.misfit-fidelity.ensures v s)
 
 pub gap-requires : goal.gap-requires
 gap-requires c =
     let r = c.requires in
-    let ok = with_codes _ _ _ r.terms r.pair_weights c.shape_of-s.ensures.byte_levels.high_byte c.type_inv.samples in
+    let ok = with_codes _ _ _ r.terms r.pair_weights c.of-s.ensures.byte_levels.high_byte c.type_inv.samples in
     let m = c.misfit-fidelity.ensures in
-    let v = rw c.shape_of-s.ensures.value at c.total_variation-variation.ensures in
-    let s = read w64 c.total_product.type_inv ∙ rw c.shape_of-s.ensures.value at c.total_product.ensures in
+    let v = rw c.of-s.ensures.value at c.total_variation-variation.ensures in
+    let s = read w64 c.total_product.type_inv ∙ rw c.of-s.ensures.value at c.total_product.ensures in
     let p = c.objective-price.ensures ∙ ap (λ (k : ℕ). c.misfit-fidelity.result + 2 * (k * c.total_variation-variation.result)) c.scale.ensures in
     let e = read w64 c.dual-floor.type_inv ∙ c.dual-floor.ensures ∙ dual _ _ _ _ _ r ok m v s in
     rw e (
@@ -131,10 +131,10 @@ pub returns : goal.returns
 unfolding slack
 returns c =
     let r = c.requires in
-    let ok = with_codes _ _ _ r.terms r.pair_weights c.shape_of-s.ensures.byte_levels.high_byte c.type_inv.samples in
+    let ok = with_codes _ _ _ r.terms r.pair_weights c.of-s.ensures.byte_levels.high_byte c.type_inv.samples in
     let m = c.misfit-fidelity.ensures in
-    let v = rw c.shape_of-s.ensures.value at c.total_variation-variation.ensures in
-    let s = read w64 c.total_product.type_inv ∙ rw c.shape_of-s.ensures.value at c.total_product.ensures in
+    let v = rw c.of-s.ensures.value at c.total_variation-variation.ensures in
+    let s = read w64 c.total_product.type_inv ∙ rw c.of-s.ensures.value at c.total_product.ensures in
     let p = c.objective-price.ensures ∙ ap (λ (k : ℕ). c.misfit-fidelity.result + 2 * (k * c.total_variation-variation.result)) c.scale.ensures in
     let e = read w64 c.dual-floor.type_inv ∙ c.dual-floor.ensures ∙ dual _ _ _ _ _ r ok m v s in
     let q = ap pos p ∙ primal _ _ _ _ _ r ok m v in

@@ -61,16 +61,16 @@ pub solve-end-requires : goal.solve-end-requires
 unfolding run_verdict
 solve-end-requires c =
     let accepted = passes c.judge_run.ensures c.in_ok-judge_run.was in
-    let a = facts c.args.t c.args.r c.args.samples.now c.args.weights.now c.args.flow.now c.args.image.now c.args.work.now accepted in (
-      box-ends c.args.t (read w32 c.low_end-lower.type_inv ∙ c.low_end-lower.ensures) (read w32 c.high_end-upper.type_inv ∙ c.high_end-upper.ensures),
-      record {
+    let a = facts c.args.t c.args.r c.args.samples.now c.args.weights.now c.args.flow.now c.args.image.now c.args.work.now accepted in
+    let e = c.of-scan.ensures in
+    rw (e.terms, e.samples, e.weights)
+    (record {
         limits = a.terms;
         pair_weights = a.pair_weights;
         lengths = record { samples_length = a.samples_length; flow_length = a.flow_length; image_length = a.image_length };
         quick_most = omega (arith, a.quick_most);
         work_length = a.work_length ∙ ap (λ (n : ℕ). 2 * n) (sym a.flow_length);
-      },
-    )
+    })
 
 pub returns : goal.returns
 unfolding run_verdict
@@ -84,7 +84,7 @@ returns c =
     let w = c.args.work.now in
     let yes = passes c.judge_run.ensures c.in_ok-judge_run.was in
     let a = facts t r b o f x w yes in
-    let n = c.solve-end.ensures in
+    let n = left c in
     let g = c.of_flow-figures.ensures in
     -- how the rounds end
     let end : Steady = ending t r b o in
