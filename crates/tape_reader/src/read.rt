@@ -76,8 +76,6 @@ pub fn read(
         flow: flow.len(),
         followed: false,
     };
-    match scan_tape(tape, 0, ParserState::initial(), lent) {
-        Err(stopped) => Err(stopped.refusal),
-        Ok((state, _)) => read_numbers(tape, state, samples, weights, flow),
-    }
+    let (state, _) = scan_tape(tape, 0, ParserState::initial(), lent)?;
+    read_numbers(tape, state, samples, weights, flow)
 }
