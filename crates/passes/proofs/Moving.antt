@@ -5,10 +5,18 @@ use Prim.Native.Nat.{ℕ, ◌≤◌, ◌<◌}
 use native.Mathlib.Nat.{le_refl}
 use borrow.Author.Tests.{lt-ltb, le-ltb, ltb-true, ltb-false}
 use lib.Dec.{ltb}
-use Rattle.std.specs.Prelude.{Option, Some, None}
+use Rattle.std.specs.Prelude.{Option, Some, None, is_some}
 use Rattle.passes.specs.Moving.{moving_of}
 
 module _ (n k : ℕ) where
+  -- whether there is one
+  pub some_is : is_some (moving_of n k) ≡ ltb k n
+  some_is = go (ltb k n)
+    where
+      go : (t : Bool) → is_some (cond t (Some k) None) ≡ t
+      go true = refl
+      go false = refl
+
   pub nothing_is : k ≡ n → None ≡ moving_of n k
   nothing_is e = rw (e, le-ltb n n (le_refl n))
 
