@@ -25,7 +25,9 @@ pub fn check(
     ensures check_demand { (answer_of result).number ≡ 0 → CheckDemand t samples.now weights.now flow.now image.new (answer_of result) }
 {
     validation::judge_check(t, samples.len(), weights, flow, image.len())?;
-    fill_image(image, samples, flow, Shape::of(t), Ends::of(t));
+    let s = Shape::of(t);
+    let ends = Ends::of(t);
+    fill_image(image, samples, flow, s, ends);
     let figures = figures::of_flow(t, samples, weights, flow, image);
     Ok(Ending::Checked { figures })
 }
