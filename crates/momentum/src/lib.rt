@@ -10,12 +10,12 @@ ghost use Rattle.momentum.specs.Reciprocal.{Reciprocal, ahead_of};
 // A momentum of 1.
 const ONE: u64 = 65536;
 
-// The units of a reciprocal: 2^32 from the first step of its division, times 2^14 from the second.
+// The binary places of a reciprocal, as units: those of the first step of its division, of the second, and of both.
 const HIGH: u64 = 4294967296;
 
 const LOW: u64 = 16384;
 
-const UNITS: i64 = (HIGH * LOW) as i64;
+const UNITS: u64 = HIGH * LOW;
 
 // T of the next round.
 pub fn next_momentum(t: u64) -> u64
@@ -43,5 +43,7 @@ pub fn extrapolated(earlier: i32, now: i32, m: u64) -> i32
     requires { (nat_abs earlier ≤ limit.weight) × (nat_abs now ≤ limit.weight) × (m ≤ 2 ^ 46) }
     ensures { result ≡ ahead_of m earlier now }
 {
-    now + (i64::from(now - earlier) * m as i64 / UNITS) as i32
+    let change = now - earlier;
+    let ahead = (u64::from(change.unsigned_abs()) * m / UNITS) as i32;
+    if change < 0 { now - ahead } else { now + ahead }
 }
