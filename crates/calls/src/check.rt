@@ -7,9 +7,10 @@ ghost use Rattle.model.specs.Demand.{CheckDemand};
 ghost use Rattle.model.specs.Answers.{answer_of};
 
 use crate::figures;
+use image::row::Ends;
 use image::whole::fill_image;
+use layout::Shape;
 use model::{Ending, Refusal, Terms};
-use stencil::pixel;
 
 pub fn check(
     t: Terms,
@@ -24,10 +25,9 @@ pub fn check(
     ensures check_demand { (answer_of result).number ≡ 0 → CheckDemand t samples.now weights.now flow.now image.new (answer_of result) }
 {
     validation::judge_check(t, samples.len(), weights, flow, image.len())?;
-    let s = layout::shape_of(t);
-    let lower = pixel::low_end(t.low);
-    let upper = pixel::high_end(t.high);
-    fill_image(image, samples, flow, s, lower, upper);
+    let s = Shape::of(t);
+    let ends = Ends::of(t);
+    fill_image(image, samples, flow, s, ends);
     let figures = figures::of_flow(t, samples, weights, flow, image);
     Ok(Ending::Checked { figures })
 }

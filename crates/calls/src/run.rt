@@ -9,9 +9,9 @@ ghost use Rattle.model.specs.Answers.{accepted, answer_of};
 
 use crate::figures;
 use model::{Ending, Figures, Refusal, Rounds, Terms};
+use solver::scan::Scan;
 use solver::solve::solve;
 use solver::steady::Steady;
-use stencil::pixel;
 
 // How a run ended, from how its rounds did and the figures of the flow that they ended with.
 fn ending_of(end: Steady, figures: Figures) -> Ending
@@ -50,21 +50,9 @@ pub fn run(
         image.len(),
         work.len(),
     )?;
-    let lower = pixel::low_end(t.low);
-    let upper = pixel::high_end(t.high);
+    let scan = Scan::of(t, samples, weights);
     let quick = r.quick;
-    let end = solve(
-        t,
-        lower,
-        upper,
-        quick,
-        r.allowance,
-        samples,
-        weights,
-        flow,
-        image,
-        work,
-    );
+    let end = solve(scan, quick, r.allowance, flow, image, work);
     let figures = figures::of_flow(t, samples, weights, flow, image);
     Ok(ending_of(end, figures))
 }

@@ -6,7 +6,6 @@ ghost use Rattle.stencil.specs.Ends.{BoxEnds};
 use image::row::Ends;
 use model::Terms;
 use passes::part::Weights;
-use stencil::pixel;
 
 // A job's terms, the two ends of its box, its samples, and the weights of its pairs, which are the
 // terms' where it has none of their own.
@@ -29,10 +28,7 @@ impl<'a> Scan<'a> {
     {
         Scan {
             terms: t,
-            ends: Ends {
-                low: pixel::low_end(t.low),
-                high: pixel::high_end(t.high),
-            },
+            ends: Ends::of(t),
             samples,
             weights: Weights {
                 all: t.weight as i32,

@@ -1,6 +1,4 @@
 use mathlib.Core.Path.{◌≡◌, sym, ap, ◌∙◌}
-use mir.Syntax.{w32}
-use Rattle.integers.proofs.Machine.{read}
 use Rattle.lists.specs.Lists.{at}
 use Rattle.model.specs.Problem.{Feasible}
 use Rattle.model.specs.Grid.{grid}
@@ -11,7 +9,7 @@ use Rattle.model.proofs.Accepted.{zero-as, check_feasible, check_accepted, check
 use Rattle.layout.proofs.Pairs.{grid-count}
 use Rattle.certificate.proofs.Grid.{check_demand}
 use Rattle.image.proofs.Model.{image-is}
-use Rattle.calls.proofs.Jobs.{box-ends, flow_most}
+use Rattle.calls.proofs.Jobs.{flow_most}
 use Rattle.calls.proofs.Objectives.{figured}
 use Rattle.model.specs.declared.Terms.{Terms}
 use lib.IntN.{ℤ}
@@ -19,7 +17,7 @@ use Prim.Native.Nat.{ℕ}
 use mathlib.Core.List.{List}
 use borrow.Author.Rules.{rules}
 use Rattle.std.specs.Prelude.{Err}
-use Rattle.model.specs.Verdict.{Accept, verdict_of}
+use Rattle.model.specs.Verdict.{Accept}
 use Rattle.model.specs.Answers.{answer_of}
 use Rattle.model.proofs.Refusals.{passes}
 use Rattle.calls.proofs.check.check.Goals as goal
@@ -54,7 +52,7 @@ fill_image-requires c =
     let t = c.args.t in
     let accepted = passes c.judge_check.ensures c.in_ok-judge_check.was in
     let a = facts t c.args.samples.now c.args.weights.now c.args.flow.now c.args.image.now accepted in
-    rw c.shape_of-s.ensures.value
+    rw c.of-s.ensures.value
     (record {
       width_least = a.terms.width_least;
       height_least = a.terms.height_least;
@@ -70,14 +68,13 @@ returns c =
     let a = c.args in
     let t = a.t in
     let accepted = passes c.judge_check.ensures c.in_ok-judge_check.was in
-    let ends = box-ends c.args.t (read w32 c.low_end-lower.type_inv ∙ c.low_end-lower.ensures) (read w32 c.high_end-upper.type_inv ∙ c.high_end-upper.ensures) in
     let k =
     figured checked 0 t a.samples.now a.weights.now a.flow.now c.of_flow-figures.ensures.price_value c.of_flow-figures.ensures.floor_value c.of_flow-figures.ensures.slack_value
     ∙ sym (check_answer_lem t a.samples.now a.weights.now a.flow.now a.image.now accepted)
     in
     let g =
-    rw c.shape_of-s.ensures.value at c.fill_image.ensures
-    ∙ image-is t a.samples.now a.flow.now ends
+    rw c.of-s.ensures.value at c.fill_image.ensures
+    ∙ image-is t a.samples.now a.flow.now c.of-ends.ensures
     ∙ sym (check_image_lem t a.samples.now a.weights.now a.flow.now a.image.now accepted)
     in
     record {
@@ -93,12 +90,11 @@ of_flow-figures-requires c =
     let t = c.args.t in
     let accepted = passes c.judge_check.ensures c.in_ok-judge_check.was in
     let a = facts t c.args.samples.now c.args.weights.now c.args.flow.now c.args.image.now accepted in
-    let ends = box-ends c.args.t (read w32 c.low_end-lower.type_inv ∙ c.low_end-lower.ensures) (read w32 c.high_end-upper.type_inv ∙ c.high_end-upper.ensures) in
     record {
       terms = a.terms;
       pair_weights = a.pair_weights;
       samples_length = a.samples_length;
       flow_length = a.flow_length;
       feasible = feasible t c.args.samples.now c.args.weights.now c.args.flow.now c.args.image.now accepted;
-      image = rw c.shape_of-s.ensures.value at c.fill_image.ensures ∙ image-is t c.args.samples.now c.args.flow.now ends;
+      image = rw c.of-s.ensures.value at c.fill_image.ensures ∙ image-is t c.args.samples.now c.args.flow.now c.of-ends.ensures;
     }

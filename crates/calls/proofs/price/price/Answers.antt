@@ -11,7 +11,6 @@ use borrow.Author.Rules.{rules}
 use Rattle.std.specs.Prelude.{Err}
 use Rattle.model.specs.Verdict.{verdict_of}
 use Rattle.model.specs.Answers.{answer_of}
-use Rattle.model.proofs.Refusals.{passes}
 use Rattle.calls.proofs.price.price.Goals as goal
 
 pub returns-in_err-judge_price : goal.returns-in_err-judge_price

@@ -5,8 +5,6 @@ use Prim.Native.Nat.{ℕ, ◌*◌}
 use native.Mathlib.Omega.{arith}
 use lib.IntN.{ℤ, pos}
 use lib.ListN.{length, replicate}
-use mir.Syntax.{w32}
-use Rattle.integers.proofs.Machine.{read}
 use Rattle.lists.specs.Lists.{at}
 use Rattle.model.specs.Problem.{Feasible}
 use Rattle.model.specs.Grid.{grid}
@@ -19,10 +17,9 @@ use Rattle.certificate.proofs.Grid.{run-demand, ending-flow}
 use Rattle.calls.proofs.Objectives.{figured}
 use Rattle.model.specs.declared.Terms.{Terms}
 use Rattle.model.specs.declared.Rounds.{Rounds}
-use Rattle.calls.proofs.Jobs.{box-ends}
 use borrow.Author.Rules.{rules}
 use Rattle.std.specs.Prelude.{Err}
-use Rattle.model.specs.Verdict.{Accept, verdict_of}
+use Rattle.model.specs.Verdict.{Accept}
 use Rattle.model.specs.Answers.{answer_of}
 use Rattle.model.proofs.Refusals.{passes}
 use Rattle.calls.proofs.run.run.Goals as goal
@@ -57,20 +54,27 @@ facts : (t : Terms) (r : Rounds) (samples : List ℕ) (weights flow values work 
     RunAllowed t r samples weights flow values work
 facts t r samples weights flow values work accepted = (run-accepted t r samples weights flow values work).0 accepted
 
+pub of-scan-requires : goal.of-scan-requires
+unfolding run_verdict
+of-scan-requires c =
+    let accepted = passes c.judge_run.ensures c.in_ok-judge_run.was in
+    let a = facts c.args.t c.args.r c.args.samples.now c.args.weights.now c.args.flow.now c.args.image.now c.args.work.now accepted in
+    omega (arith, a.terms.weight_most)
+
 pub solve-end-requires : goal.solve-end-requires
 unfolding run_verdict
 solve-end-requires c =
     let accepted = passes c.judge_run.ensures c.in_ok-judge_run.was in
-    let a = facts c.args.t c.args.r c.args.samples.now c.args.weights.now c.args.flow.now c.args.image.now c.args.work.now accepted in (
-      box-ends c.args.t (read w32 c.low_end-lower.type_inv ∙ c.low_end-lower.ensures) (read w32 c.high_end-upper.type_inv ∙ c.high_end-upper.ensures),
-      record {
-        limits = a.terms;
-        pair_weights = a.pair_weights;
-        lengths = record { samples_length = a.samples_length; flow_length = a.flow_length; image_length = a.image_length };
-        quick_most = omega (arith, a.quick_most);
-        work_length = a.work_length ∙ ap (λ (n : ℕ). 2 * n) (sym a.flow_length);
-      },
-    )
+    let a = facts c.args.t c.args.r c.args.samples.now c.args.weights.now c.args.flow.now c.args.image.now c.args.work.now accepted in
+    let e = c.of-scan.ensures in
+    rw (e.terms, e.samples, e.weights)
+    (record {
+      limits = a.terms;
+      pair_weights = a.pair_weights;
+      lengths = record { samples_length = a.samples_length; flow_length = a.flow_length; image_length = a.image_length };
+      quick_most = omega (arith, a.quick_most);
+      work_length = a.work_length ∙ ap (λ (n : ℕ). 2 * n) (sym a.flow_length);
+    })
 
 pub returns : goal.returns
 unfolding run_verdict
@@ -84,7 +88,7 @@ returns c =
     let w = c.args.work.now in
     let yes = passes c.judge_run.ensures c.in_ok-judge_run.was in
     let a = facts t r b o f x w yes in
-    let n = c.solve-end.ensures in
+    let n = rw (c.of-scan.ensures.terms, c.of-scan.ensures.samples, c.of-scan.ensures.weights) at c.solve-end.ensures in
     let g = c.of_flow-figures.ensures in
     -- how the rounds end
     let end : Steady = ending t r b o in
@@ -116,12 +120,13 @@ of_flow-figures-requires c =
     let b = c.args.samples.now in
     let o = c.args.weights.now in
     let g = ending-flow t c.args.r b o a.terms.box in
-    let flow-is = c.solve-end.ensures.flow_after in
+    let n = rw (c.of-scan.ensures.terms, c.of-scan.ensures.samples, c.of-scan.ensures.weights) at c.solve-end.ensures in
+    let flow-is = n.flow_after in
     record {
       terms = a.terms;
       pair_weights = a.pair_weights;
       samples_length = a.samples_length;
       flow_length = ap length flow-is ∙ g.0;
       feasible = subst (λ (h : List ℤ). Feasible (grid t b o) (at h)) (sym flow-is) g.1;
-      image = c.solve-end.ensures.image_after ∙ ap (image_of t b) (sym flow-is);
+      image = n.image_after ∙ ap (image_of t b) (sym flow-is);
     }

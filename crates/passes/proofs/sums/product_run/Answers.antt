@@ -6,11 +6,11 @@ use mir.Val.{to_z, of_z}
 use mir.ValLaws.{to_z-of_z}
 use Rattle.integers.specs.Sum.{total}
 use Rattle.integers.proofs.Total.{total-zero, nat_abs-total}
-use Rattle.integers.proofs.Machine.{read, sum_fits}
+use Rattle.integers.proofs.Machine.{read}
 use Rattle.lists.specs.Lists.{at}
 use Rattle.passes.specs.Pairs.{product_at}
 use Rattle.passes.proofs.Elements.{element}
-use Rattle.passes.proofs.Totals.{total-more, product_most}
+use Rattle.passes.proofs.Totals.{total-more, product_most, sum_fits}
 use Rattle.passes.proofs.sums.product_run.Goals as goal
 
 pub loop-j-init : goal.loop-j-init
@@ -38,7 +38,7 @@ overflow_add-sum c =
     let a = c.args in
     let each = product_most (at a.values.first.now) (at a.values.second.now) c.requires.values.first_most c.requires.values.second_most (at a.flow.now) c.requires.flow_most in
     rw (l.invariant, term c)
-    (sum_fits w64 (total l.j (product_at (at a.flow.now) (at a.values.first.now) (at a.values.second.now))) (product_at (at a.flow.now) (at a.values.first.now) (at a.values.second.now) l.j)
+    (sum_fits (total l.j (product_at (at a.flow.now) (at a.values.first.now) (at a.values.second.now))) (product_at (at a.flow.now) (at a.values.first.now) (at a.values.second.now) l.j)
     (omega (arith, c.requires.values.count_most, c.requires.flow_count, nat_abs-total l.j (product_at (at a.flow.now) (at a.values.first.now) (at a.values.second.now)) (λ j _. each j), each l.j)))
 
 pub loop-j-preserved : goal.loop-j-preserved

@@ -8,11 +8,11 @@ use mir.Val.{to_z, of_z}
 use mir.ValLaws.{to_z-of_z}
 use Rattle.integers.specs.Sum.{total}
 use Rattle.integers.proofs.Total.{total-cong}
-use Rattle.integers.proofs.Machine.{read, sum_fits}
+use Rattle.integers.proofs.Machine.{read}
 use Rattle.lists.specs.Lists.{at}
 use Rattle.layout.specs.Runs.{first_pixel, second_pixel}
 use Rattle.passes.specs.Pairs.{product_at, first_value, second_value}
-use Rattle.passes.proofs.Totals.{product_most}
+use Rattle.passes.proofs.Totals.{product_most, sum_fits}
 use Rattle.passes.proofs.Runs.{PartOf, part_of, Turn, turn, none_summed, all-summed, values-there, numbers-there, run-total, run-most, ValuesOf, values_of, run-limits, run-pass}
 use Rattle.passes.proofs.sums.total_product.Goals as goal
 
@@ -57,7 +57,7 @@ overflow_add-sum c =
     let each =
     product_most (first_value s c.args.image.now) (second_value s c.args.image.now) (λ j. most (first_pixel s j)) (λ j. most (second_pixel s j)) (at c.args.flow.now) c.requires.flow_most
     in
-    sum_fits w64 (to_z w64 c.loop-k.sum-bits) (to_z w64 (of_z w64 c.product_run-sum.result)) (omega (arith, run-most (run c.before) c.loop-k.invariant (summed c) c.requires.raster.shape each))
+    sum_fits (to_z w64 c.loop-k.sum-bits) (to_z w64 (of_z w64 c.product_run-sum.result)) (omega (arith, run-most (run c.before) c.loop-k.invariant (summed c) c.requires.raster.shape each))
 
 pub loop-k-preserved : goal.loop-k-preserved
 loop-k-preserved c = rw (to_z-of_z w64 _ (overflow_add-sum c)) (run-total (run c.before) c.loop-k.invariant (summed c))
