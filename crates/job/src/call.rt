@@ -2,14 +2,21 @@
 
 ghost use Rattle.std.specs.Prelude.{◌≡◌, length};
 ghost use Rattle.model.specs.Answers.{answer_of};
+ghost use Rattle.model.specs.RoundTrip.{all_of};
 ghost use Rattle.job.specs.Tables.{Tables, answer_in, image_in};
 
 use calls::check::check;
 use calls::run::run;
 use model::{Ending, Job, Refusal};
 
-// The front of each table is lent to the call, as long as the job needs it; all weights of pairs or none. What run
-// leaves in the flow and the work table is of no use to the programs.
+// How many weights of pairs are lent: all or none.
+fn weight_count(weighted: bool, pairs: usize) -> usize
+    ensures { result ≡ all_of weighted pairs }
+{
+    if weighted { pairs } else { 0 }
+}
+
+// The front of each table is lent to the call, as long as the job needs it. What run leaves in the flow and the work table is of no use to the programs.
 pub fn check_or_run(
     job: Job,
     samples: &[u8],
@@ -26,7 +33,7 @@ pub fn check_or_run(
     let n = validation::pixels(t.width, t.height);
     let m = validation::pairs(t.width, t.height);
     let codes = &samples[..n];
-    let count = if job.weighted { m } else { 0 };
+    let count = weight_count(job.weighted, m);
     let own = &weights[..count];
     if job.flowed {
         check(t, codes, own, &flow[..m], &mut image[..n])
