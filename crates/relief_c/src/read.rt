@@ -1,6 +1,6 @@
 // Read takes a job from a tape.
 
-ghost use Rattle.std.specs.Prelude.{◌≡◌, cond, ◌↔◌, ◌*◌, take};
+ghost use Rattle.std.specs.Prelude.{◌≡◌, ◌↔◌, ◌*◌, take};
 ghost use Rattle.model.specs.Calls.{pixels_of, pairs_of};
 ghost use Rattle.model.specs.Accepted.{ReadAllowed};
 ghost use Rattle.model.specs.RoundTrip.{WritesBack};
@@ -8,31 +8,39 @@ ghost use Rattle.model.specs.Tape.{read_answer, read_samples, read_weights, read
 ghost use Rattle.model.specs.Answers.{read_answer_of};
 ghost use Rattle.model.specs.Plain.{terms_of, rounds_of, JobNumbers};
 
-use model::{Job, Refusal};
+use model::{Job, Refusal, Rounds, Terms};
 use tape_reader::read::read;
 
 // What read gives as plain numbers, which C takes: a job, or zeros beside a refusal.
-#[derive(Clone, Copy)]
-struct ReadNumbers {
-    number: u32,
-    place: u64,
-    job: Job,
+#[derive(Clone, Copy, Debug, Default, PartialEq, Eq)]
+pub struct ReadNumbers {
+    pub number: u32,
+    pub place: u64,
+    pub terms: Terms,
+    pub rounds: Rounds,
+    pub weighted: u32,
+    pub flowed: u32,
 }
 
-fn numbers_of(read: Result<Job, Refusal>) -> ReadNumbers
-    ensures { (weighted flowed : _) → weighted ≡ cond result.job.weighted 1 0 → flowed ≡ cond result.job.flowed 1 0 → JobNumbers result.number result.place result.job.terms result.job.rounds weighted flowed (read_answer_of read) }
-{
-    match read {
-        Ok(job) => ReadNumbers {
-            number: 0,
-            place: 0,
-            job,
-        },
-        Err(refusal) => ReadNumbers {
-            number: refusal.reason.number(),
-            place: refusal.place as u64,
-            job: Job::default(),
-        },
+impl ReadNumbers {
+    fn of(read: Result<Job, Refusal>) -> ReadNumbers
+        ensures { JobNumbers result.number result.place result.terms result.rounds result.weighted result.flowed (read_answer_of read) }
+    {
+        match read {
+            Ok(job) => ReadNumbers {
+                number: 0,
+                place: 0,
+                terms: job.terms,
+                rounds: job.rounds,
+                weighted: u32::from(job.weighted),
+                flowed: u32::from(job.flowed),
+            },
+            Err(refusal) => ReadNumbers {
+                number: refusal.reason.number(),
+                place: refusal.place as u64,
+                ..ReadNumbers::default()
+            },
+        }
     }
 }
 
@@ -60,9 +68,9 @@ pub extern "C" fn relief_call_read(
     ensures accepted { (result ≡ 0) ↔ ReadAllowed tape.now samples.old weights.old flow.old }
     ensures writes_back { result ≡ 0 → WritesBack (terms_of width.new height.new weight.new low.new high.new) (rounds_of quick.new allowance.new) (take (pixels_of (terms_of width.new height.new weight.new low.new high.new)) samples.new) (take (weighted.new * pairs_of (terms_of width.new height.new weight.new low.new high.new)) weights.new) (take (flowed.new * pairs_of (terms_of width.new height.new weight.new low.new high.new)) flow.new) tape.now }
 {
-    let n = numbers_of(read(tape, samples, weights, flow));
-    let t = n.job.terms;
-    let r = n.job.rounds;
+    let n = ReadNumbers::of(read(tape, samples, weights, flow));
+    let t = n.terms;
+    let r = n.rounds;
     *place = n.place;
     *width = t.width;
     *height = t.height;
@@ -71,7 +79,7 @@ pub extern "C" fn relief_call_read(
     *high = t.high;
     *quick = r.quick;
     *allowance = r.allowance;
-    *weighted = u32::from(n.job.weighted);
-    *flowed = u32::from(n.job.flowed);
+    *weighted = n.weighted;
+    *flowed = n.flowed;
     n.number
 }

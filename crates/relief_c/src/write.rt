@@ -10,28 +10,30 @@ ghost use Rattle.model.specs.Plain.{terms_of, rounds_of, WriteNumbers};
 use model::{Refusal, Rounds, Terms};
 use tape_writer::write::write;
 
-// What write gives as plain numbers, which C takes.
-#[derive(Clone, Copy)]
-struct Written {
-    number: u32,
-    place: u64,
-    count: u64,
+// What write gives as plain numbers, which C takes: a byte count, or zero beside a refusal.
+#[derive(Clone, Copy, Debug, Default, PartialEq, Eq)]
+pub struct WrittenNumbers {
+    pub number: u32,
+    pub place: u64,
+    pub count: u64,
 }
 
-fn numbers_of(written: Result<usize, Refusal>) -> Written
-    ensures { WriteNumbers result.number result.place result.count (write_answer_of written) }
-{
-    match written {
-        Ok(count) => Written {
-            number: 0,
-            place: 0,
-            count: count as u64,
-        },
-        Err(refusal) => Written {
-            number: refusal.reason.number(),
-            place: refusal.place as u64,
-            count: 0,
-        },
+impl WrittenNumbers {
+    fn of(written: Result<usize, Refusal>) -> WrittenNumbers
+        ensures { WriteNumbers result.number result.place result.count (write_answer_of written) }
+    {
+        match written {
+            Ok(count) => WrittenNumbers {
+                number: 0,
+                place: 0,
+                count: count as u64,
+            },
+            Err(refusal) => WrittenNumbers {
+                number: refusal.reason.number(),
+                place: refusal.place as u64,
+                count: 0,
+            },
+        }
     }
 }
 
@@ -64,7 +66,7 @@ pub extern "C" fn relief_call_write(
         high,
     };
     let r = Rounds { quick, allowance };
-    let n = numbers_of(write(t, r, samples, weights, flow, output));
+    let n = WrittenNumbers::of(write(t, r, samples, weights, flow, output));
     *place = n.place;
     *count = n.count;
     n.number
