@@ -1,6 +1,6 @@
 // Price, floor and slack of a flow and its image, in 64 bits.
 
-ghost use Rattle.std.specs.Prelude.{◌+◌, ◌*◌, ◌^◌, ◌<◌, ◌≡◌, pos, nat_abs, ◌+ℤ◌, ◌-ℤ◌, ◌*ℤ◌, ◌≤ℤ◌};
+ghost use Rattle.std.specs.Prelude.{◌+◌, ◌*◌, ◌^◌, ◌<◌, ◌≤◌, ◌≡◌, pos, nat_abs, ◌+ℤ◌, ◌-ℤ◌, ◌*ℤ◌, ◌≤ℤ◌};
 ghost use Rattle.lists.specs.Lists.{at};
 ghost use Rattle.model.specs.Problem;
 ghost use Rattle.model.specs.Grid.{grid};
@@ -43,14 +43,35 @@ fn gap(price: u64, floor: i64) -> u64
     (price as i64 - floor) as u64
 }
 
+// The data fidelity term of an image, and its price, in which it is a summand.
+#[derive(Clone, Copy)]
+struct Primal {
+    fidelity: u64,
+    price: u64,
+}
+
+// Both of an image of the box.
+fn primal_of(t: Terms, samples: &[u8], weights: &[i32], image: &[i32]) -> Primal
+    requires { PriceReady t samples.now weights.now image.now }
+    ensures fidelity_value { pos result.fidelity ≡ Problem.misfit (grid t samples.now weights.now) (at image.now) }
+    ensures fidelity_most { result.fidelity ≤ result.price }
+    ensures price_value { pos result.price ≡ Problem.price (grid t samples.now weights.now) (at image.now) }
+{
+    let s = Shape::of(t);
+    let fidelity = misfit(image, samples);
+    let variation = total_variation(image, s, weights);
+    Primal {
+        fidelity,
+        price: objective(fidelity, variation, scale(t.weight, weights)),
+    }
+}
+
 // The price of an image of the box.
 pub fn image_price(t: Terms, samples: &[u8], weights: &[i32], image: &[i32]) -> u64
     requires { PriceReady t samples.now weights.now image.now }
     ensures { pos result ≡ Problem.price (grid t samples.now weights.now) (at image.now) }
 {
-    let s = Shape::of(t);
-    let variation = total_variation(image, s, weights);
-    objective(misfit(image, samples), variation, scale(t.weight, weights))
+    primal_of(t, samples, weights, image).price
 }
 
 // The figures of a flow whose image is at hand.
@@ -61,9 +82,7 @@ pub fn of_flow(t: Terms, samples: &[u8], weights: &[i32], flow: &[i32], image: &
     ensures slack_value { pos result.slack ≡ Problem.slack (grid t samples.now weights.now) (at flow.now) }
 {
     let s = Shape::of(t);
-    let fidelity = misfit(image, samples);
-    let variation = total_variation(image, s, weights);
-    let price = objective(fidelity, variation, scale(t.weight, weights));
+    let Primal { fidelity, price } = primal_of(t, samples, weights, image);
     let floor = dual(fidelity, total_product(flow, image, s));
     Figures {
         price,

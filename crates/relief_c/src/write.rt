@@ -7,29 +7,29 @@ ghost use Rattle.model.specs.RoundTrip.{ReadsBack};
 ghost use Rattle.model.specs.Answers.{write_answer_of};
 ghost use Rattle.model.specs.Plain.{terms_of, rounds_of, WriteNumbers};
 
-use model::{Rounds, Terms, WriteResult};
+use model::{Refusal, Rounds, Terms};
 use tape_writer::write::write;
 
-// What write gives as plain numbers.
+// What write gives as plain numbers, which C takes.
 #[derive(Clone, Copy)]
-pub struct Written {
-    pub number: u32,
-    pub place: u64,
-    pub count: u64,
+struct Written {
+    number: u32,
+    place: u64,
+    count: u64,
 }
 
-fn written_of(a: WriteResult) -> Written
-    ensures { WriteNumbers result.number result.place result.count (write_answer_of a) }
+fn numbers_of(written: Result<usize, Refusal>) -> Written
+    ensures { WriteNumbers result.number result.place result.count (write_answer_of written) }
 {
-    match a {
-        WriteResult::Written { count } => Written {
+    match written {
+        Ok(count) => Written {
             number: 0,
             place: 0,
             count: count as u64,
         },
-        WriteResult::Refused { number, place } => Written {
-            number,
-            place: place as u64,
+        Err(refusal) => Written {
+            number: refusal.reason.number(),
+            place: refusal.place as u64,
             count: 0,
         },
     }
@@ -64,8 +64,8 @@ pub extern "C" fn relief_call_write(
         high,
     };
     let r = Rounds { quick, allowance };
-    let w = written_of(write(t, r, samples, weights, flow, output));
-    *place = w.place;
-    *count = w.count;
-    w.number
+    let n = numbers_of(write(t, r, samples, weights, flow, output));
+    *place = n.place;
+    *count = n.count;
+    n.number
 }

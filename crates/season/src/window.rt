@@ -1,7 +1,7 @@
 // The bytes at hand: a part of a buffer that is filled from standard input.
 
-ghost use Rattle.std.specs.Prelude.{[], ◌≡◌, true, ◌<◌, IfOk, IfErr, length};
-ghost use Rattle.std.specs.Io.KnownBytes.{Consumes, IsAtEnd};
+ghost use Rattle.std.specs.Prelude.{◌≡◌, true, ◌<◌, IfOk, IfErr, length};
+ghost use Rattle.std.specs.Io.KnownBytes.{Consumes, IsAtEnd, Keeps};
 ghost use Rattle.season.specs.Window.{new_bytes, WindowIn, CanGrow, WithRoom, Grown};
 
 use std::io::Read;
@@ -42,7 +42,7 @@ impl Window {
         ensures grown { IfOk result (Grown buffer.old self buffer.new) }
         ensures first_bytes { IfOk result (λ r. Consumes (R.remaining stdin.old) (R.remaining stdin.new) (new_bytes self buffer.new r)) }
         ensures all_bytes { IfOk result (λ r. self.end < length buffer.old → r.ended ≡ true → IsAtEnd (R.remaining stdin.new)) }
-        ensures none_read { IfErr result (λ _. Consumes (R.remaining stdin.old) (R.remaining stdin.new) []) }
+        ensures none_read { IfErr result (λ _. Keeps (R.remaining stdin.old) (R.remaining stdin.new)) }
     {
         match stdin.read(&mut buffer[self.end..]) {
             Ok(more) => Ok(Window {
@@ -60,7 +60,7 @@ impl Window {
         ensures grown { IfOk result (Grown buffer.old self buffer.new) }
         ensures first_bytes { IfOk result (λ r. Consumes (R.remaining stdin.old) (R.remaining stdin.new) (new_bytes self buffer.new r)) }
         ensures all_bytes { IfOk result (λ r. r.ended ≡ true → IsAtEnd (R.remaining stdin.new)) }
-        ensures none_read { IfErr result (λ _. Consumes (R.remaining stdin.old) (R.remaining stdin.new) []) }
+        ensures none_read { IfErr result (λ _. Keeps (R.remaining stdin.old) (R.remaining stdin.new)) }
     {
         let moved = self.with_room(buffer);
         moved.read_more(stdin, buffer)

@@ -4,7 +4,7 @@ use Rattle.model.specs.declared.Entry.{Entry}
 use Rattle.model.specs.declared.Entry.TheVariants.{End, Size, WeightBox, RoundLimits, Sample, Flow, PairWeight}
 use Rattle.model.specs.declared.Terms.{Terms}
 use Rattle.model.specs.declared.Rounds.{Rounds}
-use Rattle.model.specs.Verdict.{first_refusal, decided, refused}
+use Rattle.model.specs.Verdict.{Row, first_refusal, decided, refused}
 use Rattle.model.specs.Calls.{pixels_of, pairs_of}
 use Rattle.model.specs.Tape.{sized, with_box, entry_rows}
 use Rattle.tape_records.specs.declared.state.ParserState.{ParserState}
@@ -67,11 +67,11 @@ continued t (Sample s) = Ok (Some (advanced t (Sample s)))
 continued t (Flow f) = Ok (Some (advanced t (Flow f)))
 continued t (PairWeight w) = Ok (Some (advanced t (PairWeight w)))
 
--- the record's terms judged, at offset o: what has been read then
-abbrev pub counted_entry : ParserState → Entry → ℕ → Lent → Result ParserState (ℕ × ℕ)
-counted_entry t e o lent = decided (first_refusal (entry_rows o lent e)) (Ok (advanced t e)) refused
+-- what has been read, where none of these rows refuses it
+abbrev pub unless_refused : List Row → ParserState → Result ParserState (ℕ × ℕ)
+unless_refused rows t = decided (first_refusal rows) (Ok t) refused
 
--- .. and whether there is another record
+-- the record's terms judged, at offset o
 abbrev pub judged_entry : ParserState → Entry → ℕ → Lent → Result (Option ParserState) (ℕ × ℕ)
 judged_entry t e o lent = decided (first_refusal (entry_rows o lent e)) (continued t e) refused
 

@@ -7,42 +7,40 @@ ghost use Rattle.tape_reader.specs.Places.{pair_weight_at, number_at, own_weight
 use tape_records::bytes::{four_at, two_at};
 use validation::is_beyond;
 
-// The weight of pair j, of so many weight records from an offset on: its own, or, where there are
-// none, the terms' weight.
-fn own_weight(tape: &[u8], weight: u32, weights_at: usize, weight_count: usize, j: usize) -> u32
-    requires { weights_at + 3 * (j + 1) ≤ length tape.now }
-    ensures { result ≡ own_weight tape.now weight weights_at weight_count j }
+// Records of one kind, one behind the other: where the first begins, and how many there are.
+#[derive(Clone, Copy)]
+pub struct Records {
+    pub start: usize,
+    pub count: usize,
+}
+
+// The weight of pair j: that of its record, or, where there are none, the terms' weight.
+fn own_weight(tape: &[u8], weight: u32, weights: Records, j: usize) -> u32
+    requires { weights.start + 3 * (j + 1) ≤ length tape.now }
+    ensures { result ≡ own_weight tape.now weight weights.start weights.count j }
 {
-    if weight_count == 0 {
+    if weights.count == 0 {
         weight
     } else {
-        u32::from(two_at(tape, weights_at + 3 * j + 1))
+        u32::from(two_at(tape, weights.start + 3 * j + 1))
     }
 }
 
-// The first flow number beyond ± its pair's weight: so many flow records, and so many weight records,
-// each from an offset on.
-pub fn beyond_from(
-    tape: &[u8],
-    weight: u32,
-    weights_at: usize,
-    weight_count: usize,
-    flow_at: usize,
-    flow_count: usize,
-) -> Option<usize>
-    requires { (weights_at + 3 * flow_count ≤ length tape.now) × (flow_at + 5 * flow_count ≤ length tape.now) }
-    ensures { result ≡ below flow_count (first_where flow_count (beyond_own tape.now weight weights_at weight_count flow_at)) }
+// The first flow number beyond ± its pair's weight.
+pub fn first_beyond(tape: &[u8], weight: u32, weights: Records, flow: Records) -> Option<usize>
+    requires { (weights.start + 3 * flow.count ≤ length tape.now) × (flow.start + 5 * flow.count ≤ length tape.now) }
+    ensures { result ≡ below flow.count (first_where flow.count (beyond_own tape.now weight weights.start weights.count flow.start)) }
 {
-    for j in 0..flow_count {
-        let limit = own_weight(tape, weight, weights_at, weight_count, j);
-        if is_beyond(four_at(tape, flow_at + 5 * j + 1), limit) {
+    for j in 0..flow.count {
+        let limit = own_weight(tape, weight, weights, j);
+        if is_beyond(four_at(tape, flow.start + 5 * j + 1), limit) {
             return Some(j);
         }
     }
     None
 }
 
-// The records of one kind, as they stand one behind the other: how many bytes each has, and its number.
+// A kind of record that a tape repeats: how many bytes each has, and its number.
 pub trait Section {
     type Number: Copy;
 
@@ -106,12 +104,12 @@ impl Section for FlowNumbers {
     }
 }
 
-// The numbers of so many records, from an offset on, into the front of a buffer.
-pub fn fill<S: Section>(tape: &[u8], start: usize, count: usize, buffer: &mut [S::Number])
-    requires { (start + S.LENGTH * count ≤ length tape.now) × (count ≤ length buffer.old) }
-    ensures { buffer.new ≡ overwritten (table count (λ j. S.number tape.now (start + S.LENGTH * j))) buffer.old }
+// The numbers of records, into the front of a buffer.
+pub fn fill<S: Section>(tape: &[u8], records: Records, buffer: &mut [S::Number])
+    requires { (records.start + S.LENGTH * records.count ≤ length tape.now) × (records.count ≤ length buffer.old) }
+    ensures { buffer.new ≡ overwritten (table records.count (λ j. S.number tape.now (records.start + S.LENGTH * j))) buffer.old }
 {
-    for j in 0..count {
-        buffer[j] = S::number(tape, start + S::LENGTH * j);
+    for j in 0..records.count {
+        buffer[j] = S::number(tape, records.start + S::LENGTH * j);
     }
 }

@@ -8,7 +8,7 @@ ghost use Rattle.model.specs.RoundTrip.{WritesBack, weight_count, flow_count};
 ghost use Rattle.tape_reader.specs.Scan.{WholeRecords};
 ghost use Rattle.model.specs.Answers.{read_answer_of};
 
-use crate::fill::{FlowNumbers, PairWeights, Samples, beyond_from, fill};
+use crate::fill::{FlowNumbers, PairWeights, Records, Samples, fill, first_beyond};
 use crate::scan::scan_tape;
 use model::{Job, Lent, Reason, Refusal};
 use tape_records::state::ParserState;
@@ -27,25 +27,27 @@ pub fn read_numbers(
     ensures weights_after { weights.new ≡ read_weights tape.now samples.old weights.old flow.old }
     ensures flow_after { flow.new ≡ read_flow tape.now samples.old weights.old flow.old }
 {
-    let weights_at = 15 + 2 * state.samples;
-    let flow_at = weights_at + 3 * state.weights;
-    let beyond = beyond_from(
-        tape,
-        state.terms.weight,
-        weights_at,
-        state.weights,
-        flow_at,
-        state.flows,
-    );
-    if let Some(place) = beyond {
+    let sample_records = Records {
+        start: 15,
+        count: state.samples,
+    };
+    let weight_records = Records {
+        start: 15 + 2 * state.samples,
+        count: state.weights,
+    };
+    let flow_records = Records {
+        start: weight_records.start + 3 * state.weights,
+        count: state.flows,
+    };
+    if let Some(place) = first_beyond(tape, state.terms.weight, weight_records, flow_records) {
         return Err(Refusal {
             reason: Reason::BeyondWeight,
             place,
         });
     }
-    fill::<Samples>(tape, 15, state.samples, samples);
-    fill::<PairWeights>(tape, weights_at, state.weights, weights);
-    fill::<FlowNumbers>(tape, flow_at, state.flows, flow);
+    fill::<Samples>(tape, sample_records, samples);
+    fill::<PairWeights>(tape, weight_records, weights);
+    fill::<FlowNumbers>(tape, flow_records, flow);
     Ok(Job {
         terms: state.terms,
         rounds: state.rounds,
@@ -74,8 +76,6 @@ pub fn read(
         flow: flow.len(),
         followed: false,
     };
-    match scan_tape(tape, 0, ParserState::initial(), lent) {
-        Err(stopped) => Err(stopped.refusal),
-        Ok((state, _)) => read_numbers(tape, state, samples, weights, flow),
-    }
+    let (state, _) = scan_tape(tape, 0, ParserState::initial(), lent)?;
+    read_numbers(tape, state, samples, weights, flow)
 }

@@ -1,6 +1,7 @@
 // A tape, record by record, with nothing written. A scan that stopped where the bytes ended is taken
 // up again from there when more have come.
 
+ghost use Rattle.std.specs.Prelude.{◌≡◌};
 ghost use Rattle.tape_reader.specs.Scan.{Reached, StopsAt};
 
 use crate::reader::Reader;
@@ -14,6 +15,14 @@ pub struct Stopped {
     pub refusal: Refusal,
     pub state: ParserState,
     pub at: usize,
+}
+
+impl From<Stopped> for Refusal {
+    ghost from_gives = { λ stopped refusal. refusal ≡ stopped.refusal };
+
+    fn from(stopped: Stopped) -> Refusal {
+        stopped.refusal
+    }
 }
 
 // One reader, moved on record by record, from the record at an offset: what has been read of a whole job, and where its

@@ -1,9 +1,11 @@
 // The transition of the parser on one record: its terms are judged at the record, and the counts move on.
 
-ghost use Rattle.std.specs.Prelude.{◌≡◌, Ok};
+ghost use Rattle.std.specs.Prelude.{◌≡◌, [], ◌∷◌};
 ghost use Rattle.model.specs.declared.Entry.{Entry};
 ghost use Rattle.model.specs.Verdict.{told};
-ghost use Rattle.tape_reader.specs.Transition.{CountsFit, judged_entry, counted_entry, transition_on};
+ghost use Rattle.model.specs.Calls.{weight_row, box_row, rounds_row};
+ghost use Rattle.model.specs.Tape.{sized, with_box, entry_rows};
+ghost use Rattle.tape_reader.specs.Transition.{CountsFit, advanced, unless_refused, judged_entry, transition_on};
 
 use model::{Entry, Lent, Reason, Refusal, Rounds, Terms};
 use tape_records::parse::Cursor;
@@ -22,7 +24,7 @@ fn on_size(
     at: usize,
     lent: Lent,
 ) -> Result<ParserState, Refusal>
-    ensures { told result ≡ counted_entry state (Entry.Size width height) at lent }
+    ensures { told result ≡ unless_refused (entry_rows at lent (Entry.Size width height)) (advanced state (Entry.Size width height)) }
 {
     require(size_allowed(width, height), Reason::Size, at)?;
     let pixels = pixels(width, height);
@@ -32,9 +34,7 @@ fn on_size(
     let terms = Terms {
         width,
         height,
-        weight: 0,
-        low: 0,
-        high: 0,
+        ..Terms::default()
     };
     Ok(ParserState {
         header: 1,
@@ -53,9 +53,8 @@ fn on_weight_box(
     low: u8,
     high: u8,
     at: usize,
-    lent: Lent,
 ) -> Result<ParserState, Refusal>
-    ensures { told result ≡ counted_entry state (Entry.WeightBox weight low high) at lent }
+    ensures { told result ≡ unless_refused (weight_row weight at ∷ box_row (with_box (sized 0 0) weight low high) at ∷ []) (advanced state (Entry.WeightBox weight low high)) }
 {
     require(weight_allowed(weight), Reason::Weight, at)?;
     require(box_allowed(low, high), Reason::Levels, at)?;
@@ -79,9 +78,8 @@ fn on_rounds(
     quick: u32,
     allowance: u16,
     at: usize,
-    lent: Lent,
 ) -> Result<ParserState, Refusal>
-    ensures { told result ≡ counted_entry state (Entry.RoundLimits quick allowance) at lent }
+    ensures { told result ≡ unless_refused (rounds_row (record { quick = quick; allowance = allowance }) at ∷ []) (advanced state (Entry.RoundLimits quick allowance)) }
 {
     require(quick_allowed(quick), Reason::QuickRounds, at)?;
     Ok(ParserState {
@@ -93,14 +91,9 @@ fn on_rounds(
 
 // 2 weight, at the record of its pair.
 #[tactic(auto, unfolding(model::specs::Verdict::first_refusal))]
-fn on_pair_weight(
-    state: ParserState,
-    own: u32,
-    at: usize,
-    lent: Lent,
-) -> Result<ParserState, Refusal>
+fn on_pair_weight(state: ParserState, own: u32, at: usize) -> Result<ParserState, Refusal>
     requires { CountsFit state }
-    ensures { told result ≡ counted_entry state (Entry.PairWeight own) at lent }
+    ensures { told result ≡ unless_refused (weight_row own at ∷ []) (advanced state (Entry.PairWeight own)) }
 {
     require(weight_allowed(own), Reason::Weight, at)?;
     Ok(ParserState {
@@ -123,10 +116,8 @@ fn on_entry(
     let counted = match entry {
         Entry::End => return Ok(None),
         Entry::Size { width, height } => on_size(state, width, height, at, lent)?,
-        Entry::WeightBox { weight, low, high } => {
-            on_weight_box(state, weight, low, high, at, lent)?
-        }
-        Entry::RoundLimits { quick, allowance } => on_rounds(state, quick, allowance, at, lent)?,
+        Entry::WeightBox { weight, low, high } => { on_weight_box(state, weight, low, high, at)? }
+        Entry::RoundLimits { quick, allowance } => on_rounds(state, quick, allowance, at)?,
         Entry::Sample { .. } => ParserState {
             samples: state.samples + 1,
             ..state
@@ -135,7 +126,7 @@ fn on_entry(
             flows: state.flows + 1,
             ..state
         },
-        Entry::PairWeight { weight } => on_pair_weight(state, weight, at, lent)?,
+        Entry::PairWeight { weight } => on_pair_weight(state, weight, at)?,
     };
     Ok(Some(counted))
 }

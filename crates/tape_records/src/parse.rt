@@ -35,6 +35,7 @@ impl ParserState {
 }
 
 // Order: 1, 2, 3, all samples, then all pair weights or none, then all flow numbers or none, then 0.
+#[tactic(auto, unfolding(model::specs::Tape::kinds))]
 fn layout_of(kind: u8, s: ParserState) -> Option<Layout>
     ensures { result ≡ layout_of kind (may s kind) }
 {
@@ -71,6 +72,7 @@ fn judge_body(
 }
 
 // The numbers of a record of this kind at an offset, whose body is whole.
+#[tactic(auto, unfolding(model::specs::Tape::kinds))]
 fn decode(tape: &[u8], at: usize, kind: u8) -> Entry
     requires { at + 1 + body_length kind ≤ length tape.now }
     ensures { result ≡ decoded kind (λ i. get_or tape.now (at + 1 + i) 0) }
@@ -120,12 +122,8 @@ fn whole_record(
 {
     judge_body(tape.len(), at, kind, layout, followed)?;
     let entry = decode(tape, at, kind);
-    Ok((
-        entry,
-        Cursor {
-            at: at + 1 + layout.body,
-        },
-    ))
+    let next = at + 1 + layout.body;
+    Ok((entry, Cursor { at: next }))
 }
 
 // The record at an offset, with the kind byte that stands there.

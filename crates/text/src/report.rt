@@ -1,7 +1,7 @@
 // The report of a season.
 
 ghost use Rattle.std.specs.Prelude.{◌++◌, ◌+◌, ◌≤◌, length};
-ghost use Rattle.model.specs.declared.Verdict.{Verdict};
+ghost use Rattle.model.specs.Verdict.{Refuse, number_of, verdict_of};
 ghost use Rattle.model.specs.Text.{ascii, decimal};
 ghost use Rattle.model.specs.Program.{field};
 ghost use Rattle.model.specs.Season.{line, mean_line, totals_text, ending_text, report_text};
@@ -9,7 +9,7 @@ ghost use Rattle.output.specs.Put.{Put};
 
 use crate::line::put_refusal;
 use crate::number::{Decimal, put_field};
-use model::{Totals, Verdict};
+use model::{Refusal, Totals};
 use output::{put_byte, put_bytes};
 
 // A word and a number.
@@ -87,25 +87,25 @@ fn put_totals(output: &mut [u8], o: usize, t: Totals) -> usize
 }
 
 // The line of a refused job, behind so many jobs.
-fn put_refused(output: &mut [u8], o: usize, jobs: u32, number: u32, place: usize) -> usize
+fn put_refused(output: &mut [u8], o: usize, jobs: u32, refusal: Refusal) -> usize
     requires { o + 78 ≤ length output.old }
-    ensures put { Put o (ending_text jobs (Verdict.Refuse number place)) output.old result output.new }
+    ensures put { Put o (ending_text jobs (Refuse (number_of refusal.reason) refusal.place)) output.old result output.new }
     ensures upper_bound { result ≤ o + 78 }
 {
     let first = put_bytes(output, o, b"job");
     let second = put_field(output, first, jobs as u64 + 1);
     let third = put_byte(output, second, b' ');
-    put_refusal(output, third, number, place)
+    put_refusal(output, third, refusal.reason.number(), refusal.place)
 }
 
-pub fn put_report(output: &mut [u8], o: usize, t: Totals, ending: Verdict) -> usize
+pub fn put_report(output: &mut [u8], o: usize, t: Totals, ending: Result<(), Refusal>) -> usize
     requires { o + 352 ≤ length output.old }
-    ensures put { Put o (report_text t ending) output.old result output.new }
+    ensures put { Put o (report_text t (verdict_of ending)) output.old result output.new }
     ensures upper_bound { result ≤ o + 352 }
 {
     let next = put_totals(output, o, t);
     match ending {
-        Verdict::Accept => next,
-        Verdict::Refuse { number, place } => put_refused(output, next, t.jobs, number, place),
+        Ok(()) => next,
+        Err(refusal) => put_refused(output, next, t.jobs, refusal),
     }
 }

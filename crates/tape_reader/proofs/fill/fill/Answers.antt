@@ -11,4 +11,4 @@ pub loop-j-preserved : goal.loop-j-preserved
 loop-j-preserved g c =
     let a = c.args in
     filling_more c.loop-j.invariant (omega (arith, c.requires.1))
-    (subst (λ (n : ℕ). c.number.result ≡ g.S.Section.number a.tape.now (a.start + n * c.loop-j.j)) c.LENGTH.ensures c.number.ensures)
+    (subst (λ (n : ℕ). c.number.result ≡ g.S.Section.number a.tape.now (a.records.start + n * c.loop-j.j)) c.LENGTH.ensures c.number.ensures)

@@ -47,24 +47,24 @@ module _ (tape : List ℕ) (f : (i : ℕ) → Fits w8 (get_or tape i 0)) (sample
   far : {place : ℕ} → place ≡ first_on tape t → first_on tape t < t.flows → parse tape (lent_by samples weights flow) ≡ turned 8 place
   far first l = beyond tape (byte tape f) samples weights flow h l ∙ ap (turned 8) (sym first)
 
-pub overflow_mul-weights_at : goal.overflow_mul-weights_at
-overflow_mul-weights_at c =
+pub overflow_mul-weight_records : goal.overflow_mul-weight_records
+overflow_mul-weight_records c =
     let a = c.args in omega (arith, fits a.tape.now c.type_inv.tape a.samples.now a.weights.now a.flow.now c.requires, c.well_formed)
 
-pub overflow_add-weights_at : goal.overflow_add-weights_at
-overflow_add-weights_at c =
+pub overflow_add-weight_records : goal.overflow_add-weight_records
+overflow_add-weight_records c =
     let a = c.args in omega (arith, fits a.tape.now c.type_inv.tape a.samples.now a.weights.now a.flow.now c.requires, c.well_formed)
 
-pub overflow_mul-flow_at : goal.overflow_mul-flow_at
-overflow_mul-flow_at c =
+pub overflow_mul-flow_records : goal.overflow_mul-flow_records
+overflow_mul-flow_records c =
     let a = c.args in omega (arith, fits a.tape.now c.type_inv.tape a.samples.now a.weights.now a.flow.now c.requires, c.well_formed)
 
-pub overflow_add-flow_at : goal.overflow_add-flow_at
-overflow_add-flow_at c =
+pub overflow_add-flow_records : goal.overflow_add-flow_records
+overflow_add-flow_records c =
     let a = c.args in omega (arith, fits a.tape.now c.type_inv.tape a.samples.now a.weights.now a.flow.now c.requires, c.well_formed)
 
-pub beyond_from-beyond-requires : goal.beyond_from-beyond-requires
-beyond_from-beyond-requires c =
+pub first_beyond-requires : goal.first_beyond-requires
+first_beyond-requires c =
     let a = c.args in
     let r = fits a.tape.now c.type_inv.tape a.samples.now a.weights.now a.flow.now c.requires in
     omega (arith, r)
@@ -72,7 +72,7 @@ beyond_from-beyond-requires c =
 pub returns-in-Some : goal.returns-in-Some
 returns-in-Some c =
     let a = c.args in
-    let b = some_below _ _ (sym c.in-Some.is ∙ c.beyond_from-beyond.ensures) in
+    let b = some_below _ _ (sym c.in-Some.is ∙ c.first_beyond.ensures) in
     let r = far a.tape.now c.type_inv.tape a.samples.now a.weights.now a.flow.now c.requires b.0 b.1 in
     record {
       result_value = sym (answer-by a.tape.now a.samples.now a.weights.now a.flow.now r);
@@ -97,7 +97,7 @@ pub returns : goal.returns
 returns c =
     let a = c.args in
     let l = left a.tape.now (byte a.tape.now c.type_inv.tape) a.samples.now a.weights.now a.flow.now c.requires
-    (no_below _ _ (sym c.in_default.is ∙ c.beyond_from-beyond.ensures)) in
+    (no_below _ _ (sym c.in_default.is ∙ c.first_beyond.ensures)) in
     record {
       result_value = sym l.0;
       samples_after = c.fill.ensures ∙ sym l.1;

@@ -1,12 +1,10 @@
 -- The bytes that came stand behind those before them, which are as they were.
 use Rattle.std.proofs.Common.{◌≡◌, List, ℕ, ◌++◌, ◌-◌, ◌≤◌, length, take, arith, length-append}
-use mathlib.Core.List.{[]}
 use mathlib.Core.Path.{sym, ◌∙◌, subst}
 use lib.Seq.{length-take-le, take-append-le}
 use borrow.Author.Tests.{eqb-false, eqb-true}
 use borrow.Rule.Slice.PartMut.{post_of}
 use Rattle.std.specs.Io.KnownBytes.{Consumes}
-use Rattle.std.proofs.KnownBytes.{Consumes-nil, Consumes-kept}
 use Rattle.season.proofs.Buffers.{grown, came}
 use Rattle.season.proofs.window.Window.read_more.Goals as goal
 
@@ -43,6 +41,3 @@ returns-in-Ok-clause-first_bytes g c =
 
 pub returns-in-Ok-clause-all_bytes : goal.returns-in-Ok-clause-all_bytes
 returns-in-Ok-clause-all_bytes g c room ended = c.in-Ok.ensures.bytes.1 (eqb-true c.in-Ok.more 0 ended) (omega (arith, c.read.auto.buf))
-
-pub returns-in-Err-clause-none_read : goal.returns-in-Err-clause-none_read
-returns-in-Err-clause-none_read g c = Consumes-kept _ _ _ [] (Consumes-nil (g.R.Read.remaining c.args.stdin.now)) c.in-Err.ensures.bytes

@@ -5,7 +5,7 @@ use lib.IntN.{ℤ, nat_abs}
 use mir.Syntax.{w32}
 use Rattle.integers.proofs.Machine.{read}
 use Rattle.lists.proofs.Search.{found_below, all_below}
-use Rattle.tape_reader.proofs.fill.beyond_from.Goals as goal
+use Rattle.tape_reader.proofs.fill.first_beyond.Goals as goal
 
 pub returns-then-is_beyond : goal.returns-then-is_beyond
 returns-then-is_beyond c =
