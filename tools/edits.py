@@ -243,7 +243,7 @@ WHERE = re.compile(r"(?:note: )?(?:\./)?(?P<path>[^\s:]+):(?P<line>\d+):\d+: (?P
 
 # The goals in which a function's promise is due: where it returns, and where a loop begins or goes round. What is left over is
 # what functions called ask, and what an index, a length or a cast needs.
-PROMISE = re.compile(r"(returns|loop-.+-(init|preserved))(-.*)?")
+PROMISE = re.compile(r"(returns|.+-(init|preserved))(-.*)?")
 # the same in the words of a note, whose name of the goal may be cut off
 PROMISED = re.compile(r"it is not proved that (what the function ensures|the invariant )")
 # what an error says where a fact does not hold: two types or sides differ, another type is expected, a tactic finds no proof, or
