@@ -28,10 +28,6 @@ use Rattle.passes.proofs.Model.{shape-limits, weight-limits}
 use Rattle.passes.proofs.Elements.{within-below}
 use Rattle.model.proofs.Answers.{held-image}
 
--- the ends of the box
-pub box-ends : (t : Terms) {low high : ℤ} → low ≡ low_end t.low → high ≡ high_end t.high → BoxEnds t low high
-box-ends t e f = record { low_is = e; high_is = f }
-
 module _ (t : Terms) (samples : List ℕ) (weights : List ℤ) where
   pub with_bytes : TermsAllowed t → WeightsAllowed t weights → t.high < 256 → ((i : ℕ) → get_or samples i 0 < 256) → Bounds.Allowed t samples weights
   with_bytes a w high bytes = record { terms = a; pair_weights = w; high_byte = omega arith; bytes = λ i. omega (arith, bytes i) }
