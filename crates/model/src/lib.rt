@@ -92,7 +92,7 @@ pub struct Refusal {
 }
 
 // The figures of an image and its flow: the price, the floor and the slack between them.
-#[derive(Clone, Copy)]
+#[derive(Clone, Copy, Debug, Default, PartialEq, Eq)]
 pub struct Figures {
     pub price: u64,
     pub floor: i64,
@@ -100,7 +100,7 @@ pub struct Figures {
 }
 
 // How an accepted check, price or run ended. specs/Answers.antt has document 01's values for each case.
-#[derive(Clone, Copy)]
+#[derive(Clone, Copy, Debug, PartialEq, Eq)]
 pub enum Ending {
     Checked { figures: Figures },
     Settled { moved: u32, figures: Figures },
@@ -109,7 +109,7 @@ pub enum Ending {
 
 // What read takes from a tape: the job's terms and rounds, and whether weights and whether a flow were there (no, where
 // there are no pairs).
-#[derive(Clone, Copy)]
+#[derive(Clone, Copy, Debug, Default, PartialEq, Eq)]
 pub struct Job {
     pub terms: Terms,
     pub rounds: Rounds,

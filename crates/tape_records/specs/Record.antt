@@ -1,12 +1,18 @@
 -- One record at an offset.
 use Rattle.std.specs.Prelude.{Bool, cond, List, ℕ, ◌+◌, length, get_or, Option, Some, None, Result, Ok}
 use Rattle.model.specs.declared.Entry.{Entry}
-use Rattle.model.specs.Verdict.{first_refusal, decided, refused}
+use Rattle.model.specs.Verdict.{first_refusal, decided, refused, number_of}
 use Rattle.model.specs.Tape.{known, body_length, decoded, body_rows, record_rows}
 use Rattle.tape_records.specs.declared.state.ParserState.{ParserState}
 use Rattle.tape_records.specs.declared.parse.Layout.{Layout}
 use Rattle.tape_records.specs.declared.parse.Cursor.{Cursor}
+use Rattle.tape_records.specs.declared.parse.RecordResult.{RecordResult}
 use Rattle.tape_records.specs.State.{may}
+
+-- what reading a record gives, with number and place in place of the refusal
+abbrev pub told_of : RecordResult → Result (Entry × Cursor) (ℕ × ℕ)
+told_of (RecordResult.Record e next) = Ok (e, next)
+told_of (RecordResult.Refused r) = refused (number_of r.reason) r.place
 
 -- what a kind gives: the length of its body, and whether it is allowed
 abbrev pub layout_of : ℕ → Bool → Option Layout

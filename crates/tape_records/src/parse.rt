@@ -1,10 +1,10 @@
 // One record of the tape, parsed at an offset: its kind's layout, its judgement, its numbers.
 
 ghost use Rattle.std.specs.Prelude.{◌≡◌, ◌+◌, ◌≤◌, ◌<◌, length, get_or};
-ghost use Rattle.model.specs.Verdict.{first_refusal, verdict_of, told};
+ghost use Rattle.model.specs.Verdict.{first_refusal, verdict_of};
 ghost use Rattle.model.specs.Tape.{sampled, weighed, body_length, decoded, body_rows};
 ghost use Rattle.tape_records.specs.State.{counts_in, may};
-ghost use Rattle.tape_records.specs.Record.{layout_of, whole_at, result_at};
+ghost use Rattle.tape_records.specs.Record.{layout_of, whole_at, told_of, result_at};
 
 use crate::bytes::{four_at, two_at};
 use crate::state::ParserState;
@@ -109,36 +109,36 @@ pub struct Cursor {
     pub at: usize,
 }
 
+// What reading a record gives: the record, with the cursor beside it; or a refusal, whose place is the offset.
+// An enum of its own, as document 01 names the form: with a `Result` of the pair reading a tape took half as long again.
+#[derive(Clone, Copy)]
+pub enum RecordResult {
+    Record(Entry, Cursor),
+    Refused(Refusal),
+}
+
 // The record at an offset, whose kind is known.
-fn whole_record(
-    tape: &[u8],
-    at: usize,
-    kind: u8,
-    layout: Layout,
-    followed: bool,
-) -> Result<(Entry, Cursor), Refusal>
+fn whole_record(tape: &[u8], at: usize, kind: u8, layout: Layout, followed: bool) -> RecordResult
     requires { (at < length tape.now) × (kind ≡ get_or tape.now at 0) × (layout.body ≡ body_length kind) }
-    ensures { told result ≡ whole_at followed tape.now at layout.allowed }
+    ensures { told_of result ≡ whole_at followed tape.now at layout.allowed }
 {
-    judge_body(tape.len(), at, kind, layout, followed)?;
-    let entry = decode(tape, at, kind);
-    let next = at + 1 + layout.body;
-    Ok((entry, Cursor { at: next }))
+    match judge_body(tape.len(), at, kind, layout, followed) {
+        Err(refusal) => RecordResult::Refused(refusal),
+        Ok(()) => {
+            let entry = decode(tape, at, kind);
+            let next = at + 1 + layout.body;
+            RecordResult::Record(entry, Cursor { at: next })
+        }
+    }
 }
 
 // The record at an offset, with the kind byte that stands there.
-fn record_of(
-    tape: &[u8],
-    at: usize,
-    kind: u8,
-    state: ParserState,
-    followed: bool,
-) -> Result<(Entry, Cursor), Refusal>
+fn record_of(tape: &[u8], at: usize, kind: u8, state: ParserState, followed: bool) -> RecordResult
     requires { (at < length tape.now) × (kind ≡ get_or tape.now at 0) }
-    ensures { told result ≡ result_at followed tape.now at state }
+    ensures { told_of result ≡ result_at followed tape.now at state }
 {
     let Some(layout) = layout_of(kind, state) else {
-        return Err(Refusal {
+        return RecordResult::Refused(Refusal {
             reason: Reason::UnknownKind,
             place: at,
         });
@@ -146,19 +146,14 @@ fn record_of(
     whole_record(tape, at, kind, layout, followed)
 }
 
-// The record at an offset of the tape, with the cursor beside it; or a refusal with its offset. The end may be followed
-// by more bytes or not. The three kinds that a tape repeats are told apart here, so that the compiler makes a path for
-// each: there the kind, and with it the body's length, is a constant.
-pub fn next_record(
-    tape: &[u8],
-    at: usize,
-    state: ParserState,
-    followed: bool,
-) -> Result<(Entry, Cursor), Refusal>
-    ensures { told result ≡ result_at followed tape.now at state }
+// The record at an offset of the tape, whose end may be followed by more bytes or not. The three kinds
+// that a tape repeats are told apart here, so that the compiler makes a path for each: there the kind,
+// and with it the body's length, is a constant.
+pub fn next_record(tape: &[u8], at: usize, state: ParserState, followed: bool) -> RecordResult
+    ensures { told_of result ≡ result_at followed tape.now at state }
 {
     let Some(&kind) = tape.get(at) else {
-        return Err(Refusal {
+        return RecordResult::Refused(Refusal {
             reason: Reason::MissingRecord,
             place: tape.len(),
         });

@@ -1,8 +1,8 @@
-// The limits of a job's terms, and the test of the length of a buffer that need not be lent.
+// The limits of a job's terms; what comes for all pixels or pairs, or for none.
 
 ghost use Rattle.std.specs.Prelude.{◌≡◌, not, ltb};
 ghost use Rattle.model.specs.Grid.{size_allowed, weight_allowed, box_allowed};
-ghost use Rattle.model.specs.Calls.{all_or_none, wrong_length};
+ghost use Rattle.model.specs.Calls.{all_or_none};
 
 // Width and height are each 1 to 4,096, their product at most 1,048,576.
 #[tactic(auto, unfolding(model::specs::Grid::size_allowed))]
@@ -37,11 +37,4 @@ pub fn all_or_none(count: usize, due: usize) -> bool
     ensures { result ≡ all_or_none count due }
 {
     count == 0 || count == due
-}
-
-// Whether a lent length is neither 0, which is none, nor the one that is due.
-pub fn wrong_length(lent: usize, due: usize) -> bool
-    ensures { result ≡ wrong_length lent due }
-{
-    !all_or_none(lent, due)
 }
