@@ -8,9 +8,10 @@ ghost use Rattle.model.specs.RoundTrip.{WritesBack, weight_count, flow_count};
 ghost use Rattle.tape_reader.specs.Scan.{WholeRecords};
 ghost use Rattle.model.specs.Answers.{read_answer_of};
 
-use crate::fill::{FlowNumbers, PairWeights, Records, Samples, fill, first_beyond};
+use crate::fill::{Records, fill, first_beyond};
 use crate::scan::scan_tape;
 use model::{Job, Lent, Reason, Refusal};
+use tape_records::section::{FlowNumbers, PairWeights, Samples};
 use tape_records::state::ParserState;
 
 // The numbers of a tape whose records have passed: 8 is judged, and the buffers are filled.
