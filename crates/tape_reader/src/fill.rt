@@ -4,8 +4,7 @@ ghost use Rattle.std.specs.Prelude.{◌≡◌, ◌+◌, ◌*◌, ◌≤◌, leng
 ghost use Rattle.lists.specs.Lists.{table, first_where, below, overwritten};
 ghost use Rattle.tape_reader.specs.Places.{own_weight, beyond_own};
 
-use tape_records::bytes::{four_at, two_at};
-use tape_records::section::Section;
+use tape_records::section::{FlowNumbers, PairWeights, Section};
 use validation::is_beyond;
 
 // Records of one kind, one behind the other: where the first begins, and how many there are.
@@ -23,7 +22,7 @@ fn own_weight(tape: &[u8], weight: u32, weights: Records, j: usize) -> u32
     if weights.count == 0 {
         weight
     } else {
-        u32::from(two_at(tape, weights.start + 3 * j + 1))
+        PairWeights::number(tape, weights.start + PairWeights::LENGTH * j).unsigned_abs()
     }
 }
 
@@ -34,7 +33,8 @@ pub fn first_beyond(tape: &[u8], weight: u32, weights: Records, flow: Records) -
 {
     for j in 0..flow.count {
         let limit = own_weight(tape, weight, weights, j);
-        if is_beyond(four_at(tape, flow.start + 5 * j + 1), limit) {
+        let number = FlowNumbers::number(tape, flow.start + FlowNumbers::LENGTH * j);
+        if is_beyond(number, limit) {
             return Some(j);
         }
     }
