@@ -2,6 +2,7 @@
 use Rattle.std.specs.Prelude.{◌≡◌, cond, IfSome, List, [], ◌++◌, ℕ, ◌+◌, ◌-◌, ◌*◌, ◌≤◌, ◌<◌, Option}
 use Rattle.model.specs.declared.Lent.{Lent}
 use Rattle.model.specs.declared.Totals.{Totals}
+use Rattle.model.specs.Verdict.{verdict_of}
 use Rattle.model.specs.Tape.{nothing}
 use Rattle.model.specs.Season.{totals_of}
 use Rattle.tape_records.specs.State.{state_of}
@@ -55,7 +56,7 @@ pub record Continues (lent : Lent) (buffer : List ℕ) (w : Window) (totals : To
 -- follow
 pub record Stops (lent : Lent) (buffer : List ℕ) (w : Window) (totals : Totals) (e : Ended) : Type 0 where
   pub ended : e.ended ≡ w.ended
-  pub report : Reports (at_hand buffer w) e.ended lent totals (record { totals = e.totals; ending = e.ending })
+  pub report : Reports (at_hand buffer w) e.ended lent totals (record { totals = e.totals; ending = verdict_of e.ending })
 
 -- .. or more bytes are wanted
 abbrev pub StepOf : Lent → List ℕ → Window → Totals → Step → Type 0
@@ -66,9 +67,9 @@ StepOf lent buffer w totals (Step.Stop e) = Stops lent buffer w totals e
 -- the report of a season: for some bytes, and for these with any behind them if the input had not ended
 abbrev pub ReportOf : Lent → Ended → Type 0
 ReportOf lent e =
-    (input : List ℕ) × Reports input e.ended lent (totals_of []) (record { totals = e.totals; ending = e.ending })
+    (input : List ℕ) × Reports input e.ended lent (totals_of []) (record { totals = e.totals; ending = verdict_of e.ending })
 
 -- .. and where these bytes are known: the report on them
 abbrev pub KnownReport : Lent → Option (List ℕ) → Ended → Type 0
 KnownReport lent known e =
-    IfSome known (λ input. report_from lent (totals_of []) input ≡ record { totals = e.totals; ending = e.ending })
+    IfSome known (λ input. report_from lent (totals_of []) input ≡ record { totals = e.totals; ending = verdict_of e.ending })

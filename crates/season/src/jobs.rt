@@ -8,11 +8,11 @@ ghost use Rattle.season.specs.Window.{at_hand, WindowIn};
 ghost use Rattle.season.specs.Jobs.{ValidState, StepOf, ReportOf, KnownReport, SeasonTables};
 
 use crate::window::{ReadFailed, Window};
-use model::{Totals, Verdict};
+use model::{Refusal, Totals};
 use std::io::Read;
 use stream::next::{Next, next_job};
 use stream::totals::no_jobs;
-use tape_records::state::{ParserState, initial};
+use tape_records::state::ParserState;
 
 // The bytes at hand, what has been read of the job at their front and where its next record begins,
 // and the totals of the jobs before it.
@@ -28,7 +28,7 @@ pub struct State {
 #[derive(Clone, Copy)]
 pub struct Ended {
     pub totals: Totals,
-    pub ending: Verdict,
+    pub ending: Result<(), Refusal>,
     pub ended: bool,
 }
 
@@ -44,37 +44,37 @@ pub enum Step {
 impl State {
     // The step that follows, once what the bytes at hand come to is known. The last of 65,535 jobs ends the
     // season.
-    fn step_on(self, n: Next) -> Step
+    fn step_on(self, n: Result<Next, Refusal>) -> Step
         requires { (lent : Lent) × (buffer : List ℕ) × WindowIn buffer self.window × NextJob (at_hand buffer self.window) self.window.ended lent self.totals n }
         ensures { (lent : Lent) (buffer : List ℕ) → WindowIn buffer self.window → self.totals.jobs < 65535 → NextJob (at_hand buffer self.window) self.window.ended lent self.totals n → StepOf lent buffer self.window self.totals result }
     {
         let ended = self.window.ended;
         match n {
-            Next::Over => Step::Stop(Ended {
+            Err(refusal) => Step::Stop(Ended {
                 totals: self.totals,
-                ending: Verdict::Accept,
+                ending: Err(refusal),
                 ended,
             }),
-            Next::Refused(number, place) => Step::Stop(Ended {
+            Ok(Next::Over) => Step::Stop(Ended {
                 totals: self.totals,
-                ending: Verdict::Refuse { number, place },
+                ending: Ok(()),
                 ended,
             }),
-            Next::Counted(totals, _) if totals.jobs == 65535 => Step::Stop(Ended {
+            Ok(Next::Counted(totals, _)) if totals.jobs == 65535 => Step::Stop(Ended {
                 totals,
-                ending: Verdict::Accept,
+                ending: Ok(()),
                 ended,
             }),
-            Next::Counted(totals, size) => Step::Continue(State {
+            Ok(Next::Counted(totals, size)) => Step::Continue(State {
                 window: Window {
                     start: self.window.start + size,
                     ..self.window
                 },
                 at: 0,
-                parser: initial(),
+                parser: ParserState::initial(),
                 totals,
             }),
-            Next::More(parser, at) => Step::Read(parser, at),
+            Ok(Next::More(parser, at)) => Step::Read(parser, at),
         }
     }
 
@@ -129,7 +129,7 @@ pub fn read_season<R: Read>(
             ended: false,
         },
         at: 0,
-        parser: initial(),
+        parser: ParserState::initial(),
         totals: no_jobs(),
     };
     loop {

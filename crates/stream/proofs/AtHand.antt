@@ -11,7 +11,9 @@ use Rattle.lists.proofs.Tables.{length_none}
 use Rattle.model.specs.declared.Lent.{Lent}
 use Rattle.model.specs.declared.Terms.{Terms}
 use Rattle.model.specs.declared.Totals.{Totals}
-use Rattle.model.specs.declared.Answer.{Answer}
+use Rattle.std.specs.Prelude.{Result}
+use Rattle.model.specs.declared.Ending.{Ending}
+use Rattle.model.specs.declared.Refusal.{Refusal}
 use Rattle.model.specs.Tape.{turned, parse}
 use Rattle.model.specs.Season.{bytes_of, treated}
 use Rattle.tape_records.specs.declared.state.ParserState.{ParserState}
@@ -32,7 +34,7 @@ module _ (bytes : List ℕ) (lent : Lent) (t : Totals) (few : t.jobs < 65535) wh
   abbrev front : List ℕ
   front = take 65536 bytes
 
-  pub next_counted : {u : Terms} {a : Answer} {after : Totals} {size : ℕ} (c : Whole front lent t u a size) →
+  pub next_counted : {u : Terms} {a : Result Ending Refusal} {after : Totals} {size : ℕ} (c : Whole front lent t u a size) →
       after ≡ with_job t (treated c.job) → CountsJob bytes lent t after size
   unfolding bytes_of
   next_counted {after = after} {size} c is =
