@@ -23,8 +23,8 @@ which rt does not print and nothing holds it to:
     # shape: two calls exchanged
 
 `for:` says why the edit is there: `checklist` (document 01's named wrong answers), `trap`, `form` (a place that takes a named
-form), a request of document 02 (`F-6`), `public` (one of those that show a public promise), `definition` (of a definition in specs/),
-`table` (shows that a table of counterexamples can fail). Of the crates in TABLES, whose edits are all of the last kind, both
+form), a request of document 02 (`F-6`), `public` (one of those that show a public promise), `inner` (of a function that an inner layer
+offers to the crates above), `definition` (of a definition in specs/), `table` (shows that a table of counterexamples can fail). Of the crates in TABLES, whose edits are all of the last kind, both
 lines may be left out.
 """
 
@@ -48,7 +48,7 @@ PUBLIC = {
 }
 # The crates all of whose edits show that a table can fail, and the equation at which each is refused.
 TABLES = {"certificate": "counterexamples in Counterexamples"}
-REASONS = re.compile(r"checklist|trap|form|F-\d+|public|definition|table")
+REASONS = re.compile(r"checklist|trap|form|F-\d+|public|inner|definition|table")
 AT = re.compile(r"(?P<function>[a-z][a-z_0-9]*)(?: \((?P<how>asks|search)\))?|(?P<law>\S+) in (?P<file>[A-Z]\w*)")
 
 Edit = collections.namedtuple("Edit", "crate label rules_out at reasons shape pairs")
@@ -243,7 +243,7 @@ WHERE = re.compile(r"(?:note: )?(?:\./)?(?P<path>[^\s:]+):(?P<line>\d+):\d+: (?P
 
 # The goals in which a function's promise is due: where it returns, and where a loop begins or goes round. What is left over is
 # what functions called ask, and what an index, a length or a cast needs.
-PROMISE = re.compile(r"(returns|loop-.+-(init|preserved))(-.*)?")
+PROMISE = re.compile(r"(returns|.+-(init|preserved))(-.*)?")
 # the same in the words of a note, whose name of the goal may be cut off
 PROMISED = re.compile(r"it is not proved that (what the function ensures|the invariant )")
 # what an error says where a fact does not hold: two types or sides differ, another type is expected, a tactic finds no proof, or

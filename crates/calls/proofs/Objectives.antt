@@ -23,8 +23,9 @@ use Rattle.lists.proofs.Tables.{get_or-inside}
 use Rattle.model.proofs.Weights.{weight_is}
 use Rattle.layout.specs.Runs.{shape_of}
 use Rattle.passes.specs.Pairs.{weight_at, variation_at, first_value, second_value}
+use Rattle.passes.proofs.Model.{misfit-is, variation_is}
 use Rattle.calls.specs.Ready.{scale_of}
-use Rattle.model.specs.Calls.{Outcome, figures, figures_of, pixels_of, pairs_of}
+use Rattle.model.specs.Calls.{Outcome, figures, figures_of, pixels_of, pairs_of, image_of}
 use Rattle.calls.proofs.Bounds as Bounds
 use Rattle.calls.proofs.Bounds.{largest, price-bound, floor-bound}
 
@@ -101,6 +102,16 @@ module _ (t : Terms) (samples : List ℕ) (weights : List ℤ) where
 
         summand : (b c : ℤ) → nat_abs c ≤ nat_abs (b +ℤ c) + nat_abs b
         summand b c = subst (λ (z : ℤ). nat_abs z ≤ nat_abs (b +ℤ c) + nat_abs b) (sym (minus b c)) (nat_abs-difference (b +ℤ c) b)
+
+-- data term and price of a flow's image, by the values that hold it
+module _ (t : Terms) (samples : List ℕ) (weights flow : List ℤ) {values : List ℤ} (e : values ≡ image_of t samples flow) where
+  pub misfit-held : misfit (grid t samples weights) (at values) ≡ misfit (grid t samples weights) (image (grid t samples weights) (at flow))
+  unfolding misfit
+  misfit-held = misfit-is t samples weights flow e
+
+  pub price-held : price (grid t samples weights) (at values) ≡ price (grid t samples weights) (image (grid t samples weights) (at flow))
+  unfolding price fall
+  price-held = ap₂ (λ (b c : ℤ). b +ℤ pos 2 *ℤ c) misfit-held (variation_is t samples weights flow e (λ j. pos (weight_of t weights j)))
 
 -- figures that are those of a flow
 pub figured : (o : Outcome) (moved : ℕ) (t : Terms) (samples : List ℕ) (weights flow : List ℤ) {a b c : ℤ} →

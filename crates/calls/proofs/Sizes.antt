@@ -8,7 +8,7 @@ use lib.IntN.{ℤ, nat_abs}
 use lib.ListN.{get_or}
 use Rattle.model.specs.declared.Terms.{Terms}
 use Rattle.model.specs.declared.Rounds.{Rounds}
-use Rattle.model.specs.declared.Verdict.{Verdict}
+use Rattle.model.specs.Verdict.{Verdict, Accept, Refuse}
 use Rattle.model.specs.Calls.{Answer, pixels_of, figures_of, ending, check_verdict, check_answer, run_verdict, run_answer}
 use Rattle.lists.specs.Lists.{at}
 use Rattle.model.proofs.Accepted.{check_accepted, check_feasible, run-accepted}
@@ -32,19 +32,19 @@ module _ (t : Terms) (samples : List ℕ) (weights : List ℤ) (high : t.high < 
   check_small flow values = go (check_verdict t samples weights flow values) refl
     where
       go : (v : Verdict) → check_verdict t samples weights flow values ≡ v → Small (check_answer t samples weights flow values)
-      go Verdict.Accept e =
+      go Accept e =
           let a = (check_accepted t samples weights flow values).0 e in
           subst Small (sym (check_answer_lem t samples weights flow values e))
           (omega (arith, slack-by-pixels t samples weights (with_bytes t samples weights a.terms a.pair_weights high bytes) (at flow) (check_feasible t samples weights flow values a)))
-      go (Verdict.Refuse n q) e = subst Small (sym (check_answer_lem t samples weights flow values e)) zero-le
+      go (Refuse n q) e = subst Small (sym (check_answer_lem t samples weights flow values e)) zero-le
 
   pub run_small : (r : Rounds) (flow values work : List ℤ) → Small (run_answer t r samples weights flow values work)
   unfolding figures_of
   run_small r flow values work = go (run_verdict t r samples weights flow values work) refl
     where
       go : (v : Verdict) → run_verdict t r samples weights flow values work ≡ v → Small (run_answer t r samples weights flow values work)
-      go Verdict.Accept e =
+      go Accept e =
           let a = (run-accepted t r samples weights flow values work).0 e in
           subst Small (sym (run-answer t r samples weights flow values work e))
           (omega (arith, slack-by-pixels t samples weights (with_bytes t samples weights a.terms a.pair_weights high bytes) (at (ending t r samples weights).flow) (ending-flow t r samples weights a.terms.box).1))
-      go (Verdict.Refuse n q) e = subst Small (sym (run-answer t r samples weights flow values work e)) zero-le
+      go (Refuse n q) e = subst Small (sym (run-answer t r samples weights flow values work e)) zero-le

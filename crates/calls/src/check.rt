@@ -8,23 +8,26 @@ ghost use Rattle.model.specs.Answers.{answer_of};
 
 use crate::figures;
 use image::whole::fill_image;
-use model::{Answer, Terms, Verdict};
-use stencil::pixel;
+use layout::Shape;
+use model::{Ending, Refusal, Terms};
+use stencil::pixel::Ends;
 
-pub fn check(t: Terms, samples: &[u8], weights: &[i32], flow: &[i32], image: &mut [i32]) -> Answer
+pub fn check(
+    t: Terms,
+    samples: &[u8],
+    weights: &[i32],
+    flow: &[i32],
+    image: &mut [i32],
+) -> Result<Ending, Refusal>
     ensures result_value { answer_of result ≡ check_answer t samples.now weights.now flow.now image.old }
     ensures image_after { image.new ≡ check_image t samples.now weights.now flow.now image.old }
     ensures accepted { ((answer_of result).number ≡ 0) ↔ CheckAllowed t samples.now weights.now flow.now image.old }
     ensures check_demand { (answer_of result).number ≡ 0 → CheckDemand t samples.now weights.now flow.now image.new (answer_of result) }
 {
-    let verdict = validation::judge_check(t, samples.len(), weights, flow, image.len());
-    if let Verdict::Refuse { number, place } = verdict {
-        return Answer::Refused { number, place };
-    }
-    let s = layout::shape_of(t);
-    let lower = pixel::low_end(t.low);
-    let upper = pixel::high_end(t.high);
-    fill_image(image, samples, flow, s, lower, upper);
+    validation::judge_check(t, samples.len(), weights, flow, image.len())?;
+    let s = Shape::of(t);
+    let ends = Ends::of(t);
+    fill_image(image, samples, flow, s, ends);
     let figures = figures::of_flow(t, samples, weights, flow, image);
-    Answer::Checked { figures }
+    Ok(Ending::Checked { figures })
 }

@@ -1,6 +1,6 @@
 // Run does a job's rounds and fills its flow and image.
 
-ghost use Rattle.std.specs.Prelude.{◌≡◌, cond, ◌↔◌};
+ghost use Rattle.std.specs.Prelude.{◌≡◌, cond, ◌↔◌, Ok};
 ghost use Rattle.model.specs.Calls as Calls;
 ghost use Rattle.model.specs.Calls.{run_answer, run_flow, run_image, run_work};
 ghost use Rattle.model.specs.Accepted.{RunAllowed};
@@ -8,18 +8,20 @@ ghost use Rattle.model.specs.Demand.{RunDemand};
 ghost use Rattle.model.specs.Answers.{accepted, answer_of};
 
 use crate::figures;
-use model::{Answer, Figures, Rounds, Terms, Verdict};
+use model::{Ending, Figures, Refusal, Rounds, Terms};
+use solver::scan::Scan;
 use solver::solve::solve;
-use stencil::pixel;
+use solver::steady::Steady;
 
-// The answer of a run, from how its rounds ended and the figures of the flow that they ended with.
-fn run_answer(settled: bool, moved: u32, figures: Figures) -> Answer
-    ensures { answer_of result ≡ accepted (cond settled Calls.settled Calls.spent) moved figures }
+// How a run ended, from how its rounds did and the figures of the flow that they ended with.
+fn ending_of(end: Steady, figures: Figures) -> Ending
+    ensures { answer_of (Ok result) ≡ accepted (cond end.settled Calls.settled Calls.spent) end.moved figures }
 {
-    if settled {
-        Answer::Settled { moved, figures }
+    let moved = end.moved;
+    if end.settled {
+        Ending::Settled { moved, figures }
     } else {
-        Answer::Spent { moved, figures }
+        Ending::Spent { moved, figures }
     }
 }
 
@@ -31,7 +33,7 @@ pub fn run(
     flow: &mut [i32],
     image: &mut [i32],
     work: &mut [i32],
-) -> Answer
+) -> Result<Ending, Refusal>
     ensures result_value { answer_of result ≡ run_answer t r samples.now weights.now flow.old image.old work.old }
     ensures flow_after { flow.new ≡ run_flow t r samples.now weights.now flow.old image.old work.old }
     ensures image_after { image.new ≡ run_image t r samples.now weights.now flow.old image.old work.old }
@@ -39,7 +41,7 @@ pub fn run(
     ensures accepted { ((answer_of result).number ≡ 0) ↔ RunAllowed t r samples.now weights.now flow.old image.old work.old }
     ensures run_demand { (answer_of result).number ≡ 0 → RunDemand t r samples.now weights.now flow.new image.new (answer_of result) }
 {
-    let verdict = validation::judge_run(
+    validation::judge_run(
         t,
         r.quick,
         samples.len(),
@@ -47,25 +49,10 @@ pub fn run(
         flow.len(),
         image.len(),
         work.len(),
-    );
-    if let Verdict::Refuse { number, place } = verdict {
-        return Answer::Refused { number, place };
-    }
-    let lower = pixel::low_end(t.low);
-    let upper = pixel::high_end(t.high);
+    )?;
+    let scan = Scan::of(t, samples, weights);
     let quick = r.quick;
-    let end = solve(
-        t,
-        lower,
-        upper,
-        quick,
-        r.allowance,
-        samples,
-        weights,
-        flow,
-        image,
-        work,
-    );
-    let f = figures::of_flow(t, samples, weights, flow, image);
-    run_answer(end.settled, end.moved, f)
+    let end = solve(scan, quick, r.allowance, flow, image, work);
+    let figures = figures::of_flow(t, samples, weights, flow, image);
+    Ok(ending_of(end, figures))
 }

@@ -40,7 +40,7 @@ module _ (t : Terms) (samples : List ℕ) where
       (sym (pull-gathered t samples [] (at flow) (i / t.width) (i % t.width) (placed i l).0 (placed i l).1)
       ∙ ap (pull (grid t samples []) (at flow)) (div-add-mod' i t.width))))
 
-  -- .. and so is what `fill_image` leaves, by whatever shape and ends are this job's
-  pub image-filled : (flow : List ℤ) {s : Shape} {filled : List ℤ} {low high l h : ℤ} → s ≡ shape_of t → l ≡ low → h ≡ high → BoxEnds t low high →
-      filled ≡ table (pixel_count s) (image_value l h samples flow s.width s.height) → filled ≡ image_of t samples flow
-  image-filled flow shape low high ends e = rw (shape, low, high) at e ∙ image-is flow ends
+  -- .. and so is what `fill_image` leaves, by whatever shape is this job's
+  pub image-filled : (flow : List ℤ) {s : Shape} {filled : List ℤ} {low high : ℤ} → s ≡ shape_of t → BoxEnds t low high →
+      filled ≡ table (pixel_count s) (image_value low high samples flow s.width s.height) → filled ≡ image_of t samples flow
+  image-filled flow shape ends e = rw shape at e ∙ image-is flow ends

@@ -9,7 +9,7 @@ ghost use Rattle.image.specs.Limits.{ColumnLimits, RowLimits};
 ghost use Rattle.image.specs.Columns.{column_value, row_value};
 
 use passes::part::number_or;
-use stencil::pixel;
+use stencil::pixel::{self, Ends};
 
 // The pixel at column c, from its sample and the numbers of its pairs to the right and left.
 fn column_value(
@@ -19,11 +19,10 @@ fn column_value(
     c: usize,
     right: i32,
     left: i32,
-    low: i32,
-    high: i32,
+    ends: Ends,
 ) -> i32
     requires { ColumnLimits below.now above.now c right left }
-    ensures { result ≡ column_value low high sample below.now above.now c right left }
+    ensures { result ≡ column_value ends.low ends.high sample below.now above.now c right left }
 {
     pixel::pixel_value(
         pixel::reading(sample),
@@ -31,12 +30,11 @@ fn column_value(
         right,
         number_or(above, c, 0),
         left,
-        low,
-        high,
+        ends,
     )
 }
 
-// One row, clamped to the two ends that it is handed, in sub-units. Each column's number to the right is the next
+// One row, clamped to the two ends that it is handed. Each column's number to the right is the next
 // column's to the left.
 pub fn image_row(
     row: &mut [i32],
@@ -44,20 +42,18 @@ pub fn image_row(
     below: &[i32],
     above: &[i32],
     across: &[i32],
-    low: i32,
-    high: i32,
+    ends: Ends,
 )
     requires { RowLimits row.old samples.now below.now above.now across.now }
-    ensures row_after { row.new ≡ table (length row.old) (row_value low high samples.now below.now above.now across.now) }
-    ensures between { low ≤ℤ high → Between low high row.new }
+    ensures row_after { row.new ≡ table (length row.old) (row_value ends.low ends.high samples.now below.now above.now across.now) }
+    ensures between { ends.low ≤ℤ ends.high → Between ends.low ends.high row.new }
 {
     let mut left = 0;
-    let mut c = 0;
-    while c < across.len() {
+    for c in 0..across.len() {
         let right = across[c];
-        row[c] = column_value(samples[c], below, above, c, right, left, low, high);
+        row[c] = column_value(samples[c], below, above, c, right, left, ends);
         left = right;
-        c += 1;
     }
-    row[c] = column_value(samples[c], below, above, c, 0, left, low, high);
+    let last = across.len();
+    row[last] = column_value(samples[last], below, above, last, 0, left, ends);
 }

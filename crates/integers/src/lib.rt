@@ -1,5 +1,5 @@
 // The integer toolkit: the vocabulary of whole numbers that every definition uses (specs/), its
-// laws (proofs/), and signed machine arithmetic with contracts that are equations of whole numbers.
+// laws (proofs/), and the clamp of a machine's number.
 
 #![tactic(auto)]
 

@@ -8,8 +8,7 @@ use lib.IntN.{ℤ}
 use lib.ListN.{length}
 use Rattle.model.specs.declared.Terms.{Terms}
 use Rattle.model.specs.declared.Rounds.{Rounds}
-use Rattle.model.specs.declared.Verdict.{Verdict}
-use Rattle.model.specs.Verdict.{decided, left}
+use Rattle.model.specs.Verdict.{Verdict, Accept, Refuse, decided, left}
 use Rattle.model.specs.Rounds.{Steady}
 use Rattle.model.specs.Calls.{Answer, checked, settled, spent, refusal, image_of, figures_of, ending, check_verdict, check_answer, check_image, run_verdict, run_answer, run_image}
 
@@ -24,8 +23,8 @@ module _ {X : Type 0} (shown : Answer → List ℤ → X) (s : Shows shown) wher
     by v former = shown (decided v a refusal) (left v values former)
 
     same_by : (v : Verdict) (former other : List ℤ) → by v former ≡ by v other
-    same_by Verdict.Accept former other = refl
-    same_by (Verdict.Refuse number place) former other = s.alike number place former other
+    same_by Accept former other = refl
+    same_by (Refuse number place) former other = s.alike number place former other
 
   module _ (t : Terms) (samples : List ℕ) (weights flow : List ℤ) where
     -- what is shown of a check whose image buffer held these values

@@ -11,14 +11,15 @@ use lib.ListN.{length, get_or, take, drop, length-append, length-drop, length-re
 use lib.Seq.{length-take-le, take_at}
 use borrow.Author.Tests.{eqb-true, eqb-false}
 use Rattle.model.specs.declared.Terms.{Terms}
+use Rattle.std.specs.Prelude.{Result, Ok, Err}
 use Rattle.model.specs.declared.Rounds.{Rounds}
-use Rattle.model.specs.declared.Verdict.{Verdict}
 use Rattle.lists.specs.Lists.{zeros, overwritten}
 use Rattle.model.specs.Grid.{size_allowed}
-use Rattle.model.specs.Verdict.{left}
+use Rattle.model.specs.Verdict.{Verdict, Accept, Refuse, left, number_of}
 use Rattle.model.specs.Calls.{Answer, refusal, pixels_of, pairs_of, image_of, check_verdict, check_answer, check_image, run_verdict, run_answer, run_image}
 use Rattle.model.specs.Tape.{Progress, nothing, Parse, turned, whole, parse, ReadAnswer, read_of, read_answer, read_samples, read_weights, read_flow, lent_by}
-use Rattle.model.specs.declared.ReadResult.{ReadResult}
+use Rattle.model.specs.declared.Job.{Job}
+use Rattle.model.specs.declared.Refusal.{Refusal}
 use Rattle.model.specs.Answers.{read_answer_of}
 use Rattle.model.specs.Program.{job_answer, job_image}
 use Rattle.lists.proofs.Tables.{length-table}
@@ -32,8 +33,8 @@ use Rattle.job.proofs.Shown.{Shows, of_check, same_check, of_run, same-run}
 
 -- the image that a call leaves is as long as the one it was lent, if that has a value for each pixel
 left-length : (n : ℕ) (v : Verdict) (new former : List ℤ) → length new ≡ n → length former ≡ n → length (left v new former) ≡ n
-left-length n Verdict.Accept new former e g = e
-left-length n (Verdict.Refuse number place) new former e g = g
+left-length n Accept new former e g = e
+left-length n (Refuse number place) new former e g = g
 
 module _ (t : Terms) (samples : List ℕ) (weights : List ℤ) where
   image_length : (flow : List ℤ) → length (image_of t samples flow) ≡ pixels_of t
@@ -182,20 +183,19 @@ module _ (input samples : List ℕ) (weights flow : List ℤ) (byte : (i : ℕ) 
   tape = parse input (lent_by samples weights flow)
 
   -- a job: the tape is whole
-  pub record Taken (t : Terms) (r : Rounds) (weighted flowed : Bool) : Type 0 where
+  pub record Taken (j : Job) : Type 0 where
     pub p : Progress
     pub is : tape ≡ whole p
     pub fits : Fits (length samples) (length weights) (length flow) p
-    pub answer : read_answer_of (ReadResult.Job t r weighted flowed) ≡ read_of (whole p)
-    pub terms : t ≡ p.terms
+    pub answer : read_answer_of (Ok j) ≡ read_of (whole p)
+    pub terms : j.terms ≡ p.terms
 
-  pub taken : (t : Terms) (r : Rounds) (weighted flowed : Bool) →
-      read_answer_of (ReadResult.Job t r weighted flowed) ≡ read_answer input samples weights flow → Taken t r weighted flowed
-  taken t r weighted flowed e = go (accepted-parse input samples weights flow (ap (λ (a : ReadAnswer). a.number) (sym e)))
+  pub taken : (j : Job) → read_answer_of (Ok j) ≡ read_answer input samples weights flow → Taken j
+  taken j e = go (accepted-parse input samples weights flow (ap (λ (a : ReadAnswer). a.number) (sym e)))
     where
-      go : (p : Progress) × (tape ≡ whole p) → Taken t r weighted flowed
+      go : (p : Progress) × (tape ≡ whole p) → Taken j
       go (p, h) =
-          let a : read_answer_of (ReadResult.Job t r weighted flowed) ≡ read_of (whole p) =
+          let a : read_answer_of (Ok j) ≡ read_of (whole p) =
           e ∙ answer-by input samples weights flow h in
           record {
             p = p;
@@ -206,17 +206,16 @@ module _ (input samples : List ℕ) (weights flow : List ℤ) (byte : (i : ℕ) 
           }
 
   -- a refusal: the tape is turned back with it
-  pub turned-back : (number place : ℕ) →
-      read_answer_of (ReadResult.Refused number place) ≡ read_answer input samples weights flow → tape ≡ turned number place
-  turned-back number place e = go tape refl
+  pub turned-back : (f : Refusal) → read_answer_of (Err f) ≡ read_answer input samples weights flow → tape ≡ turned (number_of f.reason) f.place
+  turned-back f e = go tape refl
     where
-      go : (r : Parse) → tape ≡ r → tape ≡ turned number place
+      go : (r : Parse) → tape ≡ r → tape ≡ turned (number_of f.reason) f.place
       go (turned n q) h =
-          let a : read_answer_of (ReadResult.Refused number place) ≡ read_of (turned n q) =
+          let a : read_answer_of (Err f) ≡ read_of (turned n q) =
           e ∙ answer-by input samples weights flow h in
           h ∙ ap₂ turned (sym (ap (λ (x : ReadAnswer). x.number) a)) (sym (ap (λ (x : ReadAnswer). x.place) a))
       go (whole p) h =
-          let a : read_answer_of (ReadResult.Refused number place) ≡ read_of (whole p) =
+          let a : read_answer_of (Err f) ≡ read_of (whole p) =
           e ∙ answer-by input samples weights flow h in
           let small =
           subst (λ (t : Terms). size_allowed t.width t.height ≡ true) (sym (ap (λ (x : ReadAnswer). x.terms) a))
@@ -225,8 +224,11 @@ module _ (input samples : List ℕ) (weights flow : List ℤ) (byte : (i : ℕ) 
 
 -- ---- a job in the tables
 
-module _ {input samples : List ℕ} {weights flow : List ℤ} {byte : (i : ℕ) → get_or input i 0 < 256} {t : Terms} {r : Rounds}
-    {weighted flowed : Bool} (k : Taken input samples weights flow byte t r weighted flowed) where
+module _ {input samples : List ℕ} {weights flow : List ℤ} {byte : (i : ℕ) → get_or input i 0 < 256} {j : Job}
+    (k : Taken input samples weights flow byte j) where
+  abbrev t : Terms
+  t = j.terms
+
   pub allowed : size_allowed t.width t.height ≡ true
   allowed = subst (λ (u : Terms). size_allowed u.width u.height ≡ true) (sym k.terms) k.fits.size
 
@@ -252,8 +254,8 @@ module _ {input samples : List ℕ} {weights flow : List ℤ} {byte : (i : ℕ) 
       {S : List ℕ} {W F : List ℤ} (s : S ≡ read_samples input samples weights flow)
       (w : W ≡ read_weights input samples weights flow) (f : F ≡ read_flow input samples weights flow) where
     pub read-shown : {X : Type 0} (shown : Terms → Answer → List ℤ → X) → ((u : Terms) → Shows (shown u)) →
-        {a : Answer} {values : List ℤ} → a ≡ answer_in t r weighted flowed S W F image work →
-        values ≡ image_in t r weighted flowed S W F image work →
+        {a : Answer} {values : List ℤ} → a ≡ answer_in t j.rounds j.weighted j.flowed S W F image work →
+        values ≡ image_in t j.rounds j.weighted j.flowed S W F image work →
         shown t a (take (pixels_of t) values) ≡ shown k.p.terms (job_answer k.p) (job_image k.p)
     read-shown {X} shown shows e g =
         ap₂ (λ (b : Answer) (l : List ℤ). shown t b (take (pixels_of t) l)) e g
@@ -272,7 +274,7 @@ module _ {input samples : List ℕ} {weights flow : List ℤ} {byte : (i : ℕ) 
 -- ---- what was read, a job or a refusal
 
 -- what read gives for a tape
-pub record ReadFrom (input samples : List ℕ) (weights flow : List ℤ) (r : ReadResult) : Type 0 where
+pub record ReadFrom (input samples : List ℕ) (weights flow : List ℤ) (r : Result Job Refusal) : Type 0 where
   pub byte : (i : ℕ) → get_or input i 0 < 256
   pub answer : read_answer_of r ≡ read_answer input samples weights flow
 
@@ -282,35 +284,34 @@ shown_of shown (turned number place) = shown nothing.terms (refusal number place
 shown_of shown (whole p) = shown p.terms (job_answer p) (job_image p)
 
 module _ {input samples : List ℕ} {weights flow : List ℤ} where
-  pub job-taken : {t : Terms} {r : Rounds} {own given : Bool} (k : ReadFrom input samples weights flow (ReadResult.Job t r own given)) →
-      Taken input samples weights flow k.byte t r own given
-  job-taken k = taken input samples weights flow k.byte _ _ _ _ k.answer
+  pub job-taken : {j : Job} (k : ReadFrom input samples weights flow (Ok j)) → Taken input samples weights flow k.byte j
+  job-taken k = taken input samples weights flow k.byte _ k.answer
 
-  pub size-read : (r : ReadResult) → ReadFrom input samples weights flow r → SizeAllowed r
-  size-read (ReadResult.Job _ _ _ _) k = allowed (job-taken k)
-  size-read (ReadResult.Refused _ _) k = tt
+  pub size-read : (r : Result Job Refusal) → ReadFrom input samples weights flow r → SizeAllowed r
+  size-read (Ok _) k = allowed (job-taken k)
+  size-read (Err _) k = tt
 
-  pub tables-read : (r : ReadResult) → ReadFrom input samples weights flow r → {image work : ℕ} →
+  pub tables-read : (r : Result Job Refusal) → ReadFrom input samples weights flow r → {image work : ℕ} →
       Holds (length samples) (length flow) image work → {s w f : ℕ} →
       s ≡ length samples → w ≡ length weights → f ≡ length flow → TablesFor r s w f image work
-  tables-read (ReadResult.Job _ _ _ _) k holds = tables (job-taken k) holds
-  tables-read (ReadResult.Refused _ _) k holds = λ _ _ _. tt
+  tables-read (Ok _) k holds = tables (job-taken k) holds
+  tables-read (Err _) k holds = λ _ _ _. tt
 
   -- the samples hold every pixel
-  pub held-read : (r : ReadResult) → ReadFrom input samples weights flow r → pixels_of (read_answer_of r).terms ≤ length samples
-  held-read (ReadResult.Job _ _ _ _) k = (held (job-taken k)).0
-  held-read (ReadResult.Refused _ _) k = zero-le
+  pub held-read : (r : Result Job Refusal) → ReadFrom input samples weights flow r → pixels_of (read_answer_of r).terms ≤ length samples
+  held-read (Ok _) k = (held (job-taken k)).0
+  held-read (Err _) k = zero-le
 
   module _ (image work : List ℤ) (holds : Holds (length samples) (length flow) (length image) (length work))
       {S : List ℕ} {W F : List ℤ} {X : Type 0} (shown : Terms → Answer → List ℤ → X) (shows : (u : Terms) → Shows (shown u)) where
-    pub answer-shown : (r : ReadResult) → ReadFrom input samples weights flow r → S ≡ read_samples input samples weights flow →
+    pub answer-shown : (r : Result Job Refusal) → ReadFrom input samples weights flow r → S ≡ read_samples input samples weights flow →
         W ≡ read_weights input samples weights flow → F ≡ read_flow input samples weights flow → {a : Answer} {values : List ℤ} →
         a ≡ answer_for r S W F image work → values ≡ image_for r S W F image work →
         shown (read_answer_of r).terms a (take (pixels_of (read_answer_of r).terms) values)
         ≡ shown_of shown (parse input (lent_by samples weights flow))
-    answer-shown (ReadResult.Job _ _ _ _) k s w f a g =
+    answer-shown (Ok _) k s w f a g =
         read-shown (job-taken k) image work holds s w f shown shows a g ∙ ap (shown_of shown) (sym (job-taken k).is)
-    answer-shown (ReadResult.Refused number place) k s w f {a = _} {values} a g =
+    answer-shown (Err r) k s w f {a = _} {values} a g =
         ap (λ (y : Answer). shown nothing.terms y (take 0 values)) a
-        ∙ (shows nothing.terms).alike number place (take 0 values) []
-        ∙ ap (shown_of shown) (sym (turned-back input samples weights flow k.byte number place k.answer))
+        ∙ (shows nothing.terms).alike (number_of r.reason) r.place (take 0 values) []
+        ∙ ap (shown_of shown) (sym (turned-back input samples weights flow k.byte r k.answer))

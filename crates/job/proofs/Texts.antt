@@ -6,8 +6,10 @@ use native.Mathlib.Nat.{mul-le-mul_right}
 use native.Mathlib.Omega.{arith}
 use lib.IntN.{ℤ}
 use lib.ListN.{length, take}
+use Rattle.std.specs.Prelude.{Result, Ok, Err}
 use Rattle.model.specs.declared.Terms.{Terms}
-use Rattle.model.specs.declared.ReadResult.{ReadResult}
+use Rattle.model.specs.declared.Job.{Job}
+use Rattle.model.specs.declared.Refusal.{Refusal}
 use Rattle.model.specs.Calls.{Answer, pixels_of}
 use Rattle.model.specs.Tape.{Parse, turned, whole, lent_by, parse, read_samples, read_weights, read_flow}
 use Rattle.model.specs.Program.{answer_text, read_text}
@@ -30,7 +32,7 @@ unfolding answer_text
 text-shown (turned number place) = refl
 text-shown (whole p) = refl
 
-module _ {input samples : List ℕ} {weights flow : List ℤ} (r : ReadResult) (k : ReadFrom input samples weights flow r)
+module _ {input samples : List ℕ} {weights flow : List ℤ} (r : Result Job Refusal) (k : ReadFrom input samples weights flow r)
     (image work : List ℤ) (holds : Holds (length samples) (length flow) (length image) (length work)) {S : List ℕ} {W F : List ℤ}
     (s : S ≡ read_samples input samples weights flow) (w : W ≡ read_weights input samples weights flow)
     (f : F ≡ read_flow input samples weights flow) where
@@ -43,10 +45,11 @@ module _ {input samples : List ℕ} {weights flow : List ℤ} (r : ReadResult) (
       ∙ text-shown (parse input (lent_by samples weights flow))
 
 -- the room that the text asks
-pub enough : {input samples : List ℕ} {weights flow : List ℤ} (r : ReadResult) → ReadFrom input samples weights flow r →
+pub enough : {input samples : List ℕ} {weights flow : List ℤ} (r : Result Job Refusal) → ReadFrom input samples weights flow r →
     {output : ℕ} → 125 + 23 * length samples ≤ output →
     125 + (read_answer_of r).terms.height * (22 * (read_answer_of r).terms.width + 1) ≤ output
-enough (ReadResult.Job t _ _ _) k room =
+enough (Ok job) k room =
+    let t : Terms = job.terms in
     let low : 1 * t.height ≤ t.width * t.height = mul-le-mul_right t.height (allowed-size (allowed (job-taken k))).broad in
     omega (arith, held (job-taken k))
-enough (ReadResult.Refused _ _) k room = omega arith
+enough (Err _) k room = omega arith

@@ -1,8 +1,10 @@
 -- A job whose numbers stand in the fronts of tables: what it asks of their lengths, its answer, and what it leaves in them.
-use Rattle.std.specs.Prelude.{◌≡◌, Bool, true, cond, List, ◌++◌, ℕ, ◌+◌, ◌*◌, ◌≤◌, ℤ, take, drop}
+use Rattle.std.specs.Prelude.{◌≡◌, Bool, true, cond, List, ◌++◌, ℕ, ◌+◌, ◌*◌, ◌≤◌, ℤ, Result, Ok, Err, take, drop}
 use Rattle.model.specs.declared.Terms.{Terms}
 use Rattle.model.specs.declared.Rounds.{Rounds}
-use Rattle.model.specs.declared.ReadResult.{ReadResult}
+use Rattle.model.specs.declared.Job.{Job}
+use Rattle.model.specs.declared.Refusal.{Refusal}
+use Rattle.model.specs.Verdict.{number_of}
 use Rattle.model.specs.Grid.{size_allowed}
 use Rattle.model.specs.RoundTrip.{all_of}
 use Rattle.model.specs.Calls.{Answer, refusal, pixels_of, pairs_of, check_answer, check_image, run_answer, run_image}
@@ -60,20 +62,20 @@ module _ (t : Terms) (r : Rounds) (weighted flowed : Bool) (samples : List ℕ) 
   image_in = image_front ++ drop (pixels_of t) image
 
 -- the same of what was read: a job, or a refusal, which asks nothing of the tables
-abbrev pub SizeAllowed : ReadResult → Type 0
-SizeAllowed (ReadResult.Job t r weighted flowed) = size_allowed t.width t.height ≡ true
-SizeAllowed (ReadResult.Refused number place) = Unit {0}
+abbrev pub SizeAllowed : Result Job Refusal → Type 0
+SizeAllowed (Ok job) = size_allowed job.terms.width job.terms.height ≡ true
+SizeAllowed (Err r) = Unit {0}
 
-abbrev pub TablesFor : ReadResult → ℕ → ℕ → ℕ → ℕ → ℕ → Type 0
-TablesFor (ReadResult.Job t r weighted flowed) samples weights flow image work = Tables t samples weights flow image work
-TablesFor (ReadResult.Refused number place) samples weights flow image work = Unit {0}
+abbrev pub TablesFor : Result Job Refusal → ℕ → ℕ → ℕ → ℕ → ℕ → Type 0
+TablesFor (Ok job) samples weights flow image work = Tables job.terms samples weights flow image work
+TablesFor (Err r) samples weights flow image work = Unit {0}
 
-abbrev pub answer_for : ReadResult → List ℕ → List ℤ → List ℤ → List ℤ → List ℤ → Answer
-answer_for (ReadResult.Job t r weighted flowed) samples weights flow image work =
-    answer_in t r weighted flowed samples weights flow image work
-answer_for (ReadResult.Refused number place) samples weights flow image work = refusal number place
+abbrev pub answer_for : Result Job Refusal → List ℕ → List ℤ → List ℤ → List ℤ → List ℤ → Answer
+answer_for (Ok job) samples weights flow image work =
+    answer_in job.terms job.rounds job.weighted job.flowed samples weights flow image work
+answer_for (Err r) samples weights flow image work = refusal (number_of r.reason) r.place
 
-abbrev pub image_for : ReadResult → List ℕ → List ℤ → List ℤ → List ℤ → List ℤ → List ℤ
-image_for (ReadResult.Job t r weighted flowed) samples weights flow image work =
-    image_in t r weighted flowed samples weights flow image work
-image_for (ReadResult.Refused number place) samples weights flow image work = image
+abbrev pub image_for : Result Job Refusal → List ℕ → List ℤ → List ℤ → List ℤ → List ℤ → List ℤ
+image_for (Ok job) samples weights flow image work =
+    image_in job.terms job.rounds job.weighted job.flowed samples weights flow image work
+image_for (Err r) samples weights flow image work = image

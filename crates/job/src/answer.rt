@@ -7,74 +7,43 @@ ghost use Rattle.calls.specs.Slack.{most_slack};
 ghost use Rattle.job.specs.Tables.{SizeAllowed, TablesFor, answer_for, image_for};
 
 use crate::call::check_or_run;
-use model::{Answer, ReadResult, Terms};
+use model::{Ending, Job, Refusal, Terms};
 
 // The terms of the job; zeros for a refusal.
-pub fn terms_of(read: ReadResult) -> Terms
+pub fn terms_of(read: Result<Job, Refusal>) -> Terms
     ensures { result ≡ (read_answer_of read).terms }
 {
     match read {
-        ReadResult::Refused {
-            number: _,
-            place: _,
-        } => Terms {
-            width: 0,
-            height: 0,
-            weight: 0,
-            low: 0,
-            high: 0,
-        },
-        ReadResult::Job {
-            terms,
-            rounds: _,
-            weighted: _,
-            flowed: _,
-        } => terms,
+        Ok(job) => job.terms,
+        Err(_) => Terms::default(),
     }
 }
 
 // How many pixels it has; none for a refusal.
-pub fn pixels_of(read: ReadResult) -> usize
+pub fn pixels_of(read: Result<Job, Refusal>) -> usize
     requires { SizeAllowed read }
     ensures { result ≡ pixels_of (read_answer_of read).terms }
 {
     match read {
-        ReadResult::Refused {
-            number: _,
-            place: _,
-        } => 0,
-        ReadResult::Job {
-            terms,
-            rounds: _,
-            weighted: _,
-            flowed: _,
-        } => validation::pixels(terms.width, terms.height),
+        Ok(job) => validation::pixels(job.terms.width, job.terms.height),
+        Err(_) => 0,
     }
 }
 
 // A refusal, or the answer of the job's call.
 pub fn answer_of(
-    read: ReadResult,
+    read: Result<Job, Refusal>,
     samples: &[u8],
     weights: &[i32],
     flow: &mut [i32],
     image: &mut [i32],
     work: &mut [i32],
-) -> Answer
+) -> Result<Ending, Refusal>
     requires { TablesFor read (length samples.now) (length weights.now) (length flow.old) (length image.old) (length work.old) }
     ensures result_value { answer_of result ≡ answer_for read samples.now weights.now flow.old image.old work.old }
     ensures image_after { image.new ≡ image_for read samples.now weights.now flow.old image.old work.old }
     ensures result_bound { nat_abs (answer_of result).slack ≤ most_slack * pixels_of (read_answer_of read).terms }
 {
-    match read {
-        ReadResult::Refused { number, place } => Answer::Refused { number, place },
-        ReadResult::Job {
-            terms,
-            rounds,
-            weighted,
-            flowed,
-        } => check_or_run(
-            terms, rounds, weighted, flowed, samples, weights, flow, image, work,
-        ),
-    }
+    let job = read?;
+    check_or_run(job, samples, weights, flow, image, work)
 }

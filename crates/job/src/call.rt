@@ -7,7 +7,7 @@ ghost use Rattle.job.specs.Tables.{Tables, answer_in, image_in};
 
 use calls::check::check;
 use calls::run::run;
-use model::{Answer, Rounds, Terms};
+use model::{Ending, Job, Refusal};
 
 // How many weights of pairs are lent: all or none.
 fn weight_count(weighted: bool, pairs: usize) -> usize
@@ -16,34 +16,31 @@ fn weight_count(weighted: bool, pairs: usize) -> usize
     if weighted { pairs } else { 0 }
 }
 
-// The front of each table is lent to the call, as long as the job needs it. What run leaves in the flow
-// and the work table is of no use to the programs.
+// The front of each table is lent to the call, as long as the job needs it. What run leaves in the flow and the work table is of no use to the programs.
 pub fn check_or_run(
-    t: Terms,
-    r: Rounds,
-    weighted: bool,
-    flowed: bool,
+    job: Job,
     samples: &[u8],
     weights: &[i32],
     flow: &mut [i32],
     image: &mut [i32],
     work: &mut [i32],
-) -> Answer
-    requires { Tables t (length samples.now) (length weights.now) (length flow.old) (length image.old) (length work.old) }
-    ensures result_value { answer_of result ≡ answer_in t r weighted flowed samples.now weights.now flow.old image.old work.old }
-    ensures image_after { image.new ≡ image_in t r weighted flowed samples.now weights.now flow.old image.old work.old }
+) -> Result<Ending, Refusal>
+    requires { Tables job.terms (length samples.now) (length weights.now) (length flow.old) (length image.old) (length work.old) }
+    ensures result_value { answer_of result ≡ answer_in job.terms job.rounds job.weighted job.flowed samples.now weights.now flow.old image.old work.old }
+    ensures image_after { image.new ≡ image_in job.terms job.rounds job.weighted job.flowed samples.now weights.now flow.old image.old work.old }
 {
+    let t = job.terms;
     let n = validation::pixels(t.width, t.height);
     let m = validation::pairs(t.width, t.height);
     let codes = &samples[..n];
-    let count = weight_count(weighted, m);
+    let count = weight_count(job.weighted, m);
     let own = &weights[..count];
-    if flowed {
+    if job.flowed {
         check(t, codes, own, &flow[..m], &mut image[..n])
     } else {
         run(
             t,
-            r,
+            job.rounds,
             codes,
             own,
             &mut flow[..m],

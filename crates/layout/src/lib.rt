@@ -3,11 +3,14 @@
 
 #![tactic(auto)]
 
-ghost use Rattle.std.specs.Prelude.{◌≡◌, ◌<◌, min};
+ghost use Rattle.std.specs.Prelude.{◌≡◌, ◌<◌};
 ghost use Rattle.layout.specs.Runs.{shape_of, vertical, column_runs, column_run, row_run, run_count, run_at};
 ghost use Rattle.layout.specs.Limits.{ByteLevels, ShapeLimits};
 
 use model::Terms;
+
+// The most pairs of a run.
+const LONGEST: usize = 4096;
 
 // What determines the pairs of a raster: its size.
 #[derive(Clone, Copy)]
@@ -26,86 +29,82 @@ pub struct Run {
     pub second: usize,
 }
 
-// The shape of a job. The levels of its box are bytes, as their type says; the limits of the passes
-// over the shape rest on that.
-pub fn shape_of(t: Terms) -> Shape
-    ensures value { result ≡ shape_of t }
-    ensures byte_levels { ByteLevels t }
-{
-    Shape {
-        width: t.width as usize,
-        height: t.height as usize,
+impl Shape {
+    // The shape of a job. The levels of its box are bytes, as their type says; the limits of the
+    // passes over the shape rest on that.
+    pub fn of(t: Terms) -> Shape
+        ensures value { result ≡ shape_of t }
+        ensures byte_levels { ByteLevels t }
+    {
+        Shape {
+            width: t.width as usize,
+            height: t.height as usize,
+        }
     }
-}
 
-// The lesser of two.
-pub fn least(a: usize, b: usize) -> usize
-    ensures { result ≡ min a b }
-{
-    if a < b { a } else { b }
-}
-
-// How many vertical pairs there are: they come first.
-fn vertical_pairs(s: Shape) -> usize
-    requires { ShapeLimits s }
-    ensures { result ≡ vertical s }
-{
-    s.width * (s.height - 1)
-}
-
-// How many runs they make.
-fn column_runs(s: Shape) -> usize
-    requires { ShapeLimits s }
-    ensures { result ≡ column_runs s }
-{
-    (vertical_pairs(s) + 4095) / 4096
-}
-
-// Run k of the vertical pairs: 4,096 of them, or those that are left.
-fn column_run(s: Shape, k: usize) -> Run
-    requires { ShapeLimits s × (k < column_runs s) }
-    ensures { result ≡ column_run s k }
-{
-    let start = 4096 * k;
-    Run {
-        pair: start,
-        count: least(4096, vertical_pairs(s) - start),
-        first: start,
-        second: start + s.width,
+    // How many vertical pairs there are: they come first.
+    fn vertical(self) -> usize
+        requires { ShapeLimits self }
+        ensures { result ≡ vertical self }
+    {
+        self.width * (self.height - 1)
     }
-}
 
-// The horizontal pairs of row r.
-fn row_run(s: Shape, r: usize) -> Run
-    requires { ShapeLimits s × (r < s.height) }
-    ensures { result ≡ row_run s r }
-{
-    let start = r * s.width;
-    Run {
-        pair: vertical_pairs(s) + r * (s.width - 1),
-        count: s.width - 1,
-        first: start,
-        second: start + 1,
+    // How many runs they make.
+    fn column_runs(self) -> usize
+        requires { ShapeLimits self }
+        ensures { result ≡ column_runs self }
+    {
+        self.vertical().div_ceil(LONGEST)
     }
-}
 
-// How many runs the pairs of a raster make.
-pub fn run_count(s: Shape) -> usize
-    requires { ShapeLimits s }
-    ensures { result ≡ run_count s }
-{
-    column_runs(s) + s.height
-}
+    // Run k of the vertical pairs: 4,096 of them, or those that are left.
+    fn column_run(self, k: usize) -> Run
+        requires { ShapeLimits self × (k < column_runs self) }
+        ensures { result ≡ column_run self k }
+    {
+        let start = LONGEST * k;
+        Run {
+            pair: start,
+            count: LONGEST.min(self.vertical() - start),
+            first: start,
+            second: start + self.width,
+        }
+    }
 
-// Run k of a raster's pairs.
-pub fn run_at(s: Shape, k: usize) -> Run
-    requires { ShapeLimits s × (k < run_count s) }
-    ensures { result ≡ run_at s k }
-{
-    let columns = column_runs(s);
-    if k < columns {
-        column_run(s, k)
-    } else {
-        row_run(s, k - columns)
+    // The horizontal pairs of row r.
+    fn row_run(self, r: usize) -> Run
+        requires { ShapeLimits self × (r < self.height) }
+        ensures { result ≡ row_run self r }
+    {
+        let start = r * self.width;
+        Run {
+            pair: self.vertical() + r * (self.width - 1),
+            count: self.width - 1,
+            first: start,
+            second: start + 1,
+        }
+    }
+
+    // How many runs the pairs of a raster make.
+    pub fn run_count(self) -> usize
+        requires { ShapeLimits self }
+        ensures { result ≡ run_count self }
+    {
+        self.column_runs() + self.height
+    }
+
+    // Run k of a raster's pairs.
+    #[tactic(auto, unfolding(crate::specs::Runs::run_at))]
+    pub fn run(self, k: usize) -> Run
+        requires { ShapeLimits self × (k < run_count self) }
+        ensures { result ≡ run_at self k }
+    {
+        let columns = self.column_runs();
+        if k < columns {
+            self.column_run(k)
+        } else {
+            self.row_run(k - columns)
+        }
     }
 }

@@ -1,14 +1,15 @@
 -- A search from the front for the first index at which a test holds: the invariant of a loop that looks for it, and of
 -- one that only tells whether there is such an index. Assumes nothing.
 use mathlib.Core.Path.{◌≡◌, refl, sym, ap, ◌∙◌}
-use mathlib.Core.Bool.{Bool, true, false, ◌||◌, true≢false}
+use mathlib.Core.Bool.{Bool, true, false, cond, ◌||◌, true≢false}
 use Prim.Native.Nat.{ℕ, ◌+◌, ◌-◌, ◌≤◌, ◌<◌, zero-le}
 use native.Mathlib.Decide.{dec_lt}
 use native.Mathlib.Omega.{arith}
 use borrow.Author.Count.{below_none, below_more}
 use borrow.Author.Tests.{ltb-false, lt-ltb, le-ltb}
 use lib.Dec.{ltb}
-use Rattle.lists.specs.Lists.{first_where}
+use Rattle.std.specs.Prelude.{Option, Some, None}
+use Rattle.lists.specs.Lists.{first_where, below}
 use Rattle.lists.proofs.First.{first_where-first, first_where-is}
 
 -- no index before k passes the test
@@ -70,3 +71,18 @@ met_end n test i false m l =
 -- where no index passes, `first_where` gives n
 pub none_met : (n : ℕ) (test : ℕ → Bool) → ltb (first_where n test) n ≡ false → n ≡ first_where n test
 none_met n test h = omega (arith, ltb-false (first_where n test) n h, (first_where-first n test).within)
+
+-- ---- .. as the index that was found, or none
+
+pub none_below : (n : ℕ) (test : ℕ → Bool) → ltb (first_where n test) n ≡ false → None ≡ below n (first_where n test)
+none_below n test h = sym (ap (λ (b : Bool). cond b (Some (first_where n test)) None) h)
+
+pub found_below : (n : ℕ) (test : ℕ → Bool) (i : ℕ) → Searched n test i → i < n → test i ≡ true → Some i ≡ below n (first_where n test)
+found_below n test i s l t =
+    let at : i ≡ first_where n test = search_found n test i s t in
+    ap Some at ∙ sym (ap (λ (b : Bool). cond b (Some (first_where n test)) None) (lt-ltb (first_where n test) n (omega arith)))
+
+pub all_below : (n : ℕ) (test : ℕ → Bool) (i : ℕ) → Searched n test i → n ≤ i → None ≡ below n (first_where n test)
+all_below n test i s l =
+    let at : i ≡ first_where n test = search_none n test i s l in
+    none_below n test (le-ltb (first_where n test) n (omega arith))

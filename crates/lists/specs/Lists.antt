@@ -1,6 +1,6 @@
 -- Buffers as lists. An image, a flow and the readings are functions from an index to a number; a buffer's list becomes
 -- one by `at`, and a function becomes a buffer's list by `table`.
-use Rattle.std.specs.Prelude.{Bool, cond, List, [], ◌∷◌, ◌++◌, ℕ, zero, suc, ℤ, pos, length, get_or, drop, replicate}
+use Rattle.std.specs.Prelude.{Bool, cond, List, [], ◌∷◌, ◌++◌, ℕ, zero, suc, ltb, ℤ, pos, Option, Some, None, length, get_or, drop, replicate}
 
 -- the number at index i of a buffer
 abbrev pub at : List ℤ → ℕ → ℤ
@@ -29,3 +29,7 @@ module _ {A : Type 0} where
 unfoldable pub first_where : ℕ → (ℕ → Bool) → ℕ
 first_where zero test = 0
 first_where (suc n) test = cond (test 0) 0 (suc (first_where n (λ i. test (suc i))))
+
+-- an index below n, or none
+abbrev pub below : ℕ → ℕ → Option ℕ
+below n k = cond (ltb k n) (Some k) None

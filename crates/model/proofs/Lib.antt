@@ -6,6 +6,7 @@
 --     Decimal     the decimal text of a number is its digits, without a leading zero
 --     Degree      in how many pairs a pixel lies, and how to count
 --     Range       how large readings and the ends of the box are
+--     Shares      how large the share of a fall is, in either kind of round
 --     Weights     each pair's weight is its own or the terms', and within the limit; their sum without a buffer
 --     Limits      what the test of a size says
 --     Answers     what check, price and run give and leave, by their verdict
@@ -17,6 +18,7 @@ pub mod Root
 pub mod Decimal
 pub mod Degree
 pub mod Range
+pub mod Shares
 pub mod Weights
 pub mod Limits
 pub mod Answers

@@ -4,7 +4,9 @@ use mathlib.Core.Bool.{Bool, true, false}
 use mathlib.Core.List.{List, [], ◌∷◌, ◌++◌}
 use Prim.Native.Nat.{ℕ, ◌<◌}
 use native.Mathlib.Omega.{arith}
-use Rattle.model.specs.Verdict.{Verdict, Accept, Refuse, Row, or_else, first_refusal, decided}
+use Rattle.std.specs.Prelude.{Result, Ok, Err}
+use Rattle.model.specs.declared.Refusal.{Refusal}
+use Rattle.model.specs.Verdict.{Verdict, Accept, Refuse, Row, or_else, first_refusal, decided, verdict_of}
 
 pub accepted : first_refusal [] ≡ Accept
 unfolding first_refusal
@@ -59,13 +61,19 @@ module _ (upper lower : List Row) where
   pub joined : {v a b : Verdict} → v ≡ decided a b Refuse → a ≡ first_refusal upper → b ≡ first_refusal lower → v ≡ first_refusal (upper ++ lower)
   joined e f g = e ∙ ap₂ (λ (x y : Verdict). decided x y Refuse) f g ∙ sym (first_refusal-append upper lower)
 
-  -- the upper rows refuse, and those below are not looked at
-  pub stopped : {v : Verdict} {number place : ℕ} → v ≡ first_refusal upper → v ≡ Refuse number place → v ≡ first_refusal (upper ++ lower)
-  stopped {v} f e = joined (e ∙ sym (ap (λ (x : Verdict). decided x (first_refusal lower) Refuse) e)) f refl
+  module _ {A : Type 0} {r : Result A Refusal} (f : verdict_of r ≡ first_refusal upper) where
+    -- the upper rows refuse, and those below are not looked at: what a `?` gives
+    pub stopped : {B : Type 0} {s : Result B Refusal} {e : Refusal} → r ≡ Err e → s ≡ Err e → verdict_of s ≡ first_refusal (upper ++ lower)
+    stopped h k =
+        joined (ap verdict_of k ∙ sym (ap (λ (x : Result A Refusal). decided (verdict_of x) (first_refusal lower) Refuse) h)) f refl
 
-  -- they accept: those below decide
-  pub went_on : {a v : Verdict} → a ≡ first_refusal upper → a ≡ Accept → v ≡ first_refusal lower → v ≡ first_refusal (upper ++ lower)
-  went_on {a} {v} f e g = joined (sym (ap (λ (x : Verdict). decided x v Refuse) e)) f g
+    -- they accept: those below decide
+    pub went_on : {a : A} {v : Verdict} → r ≡ Ok a → v ≡ first_refusal lower → v ≡ first_refusal (upper ++ lower)
+    went_on {v} h g = joined (sym (ap (λ (x : Result A Refusal). decided (verdict_of x) v Refuse) h)) f g
+
+-- the verdict of a result that is known
+pub passes : {A : Type 0} {r s : Result A Refusal} {v : Verdict} → verdict_of r ≡ v → r ≡ s → v ≡ verdict_of s
+passes f h = sym f ∙ ap verdict_of h
 
 -- ---- no row has the number 0, so a refusal is never taken for an acceptance
 

@@ -1,12 +1,16 @@
 // Document 01 as definitions (specs/) and their first laws (proofs/). There is no code here but the
 // types that the definitions and the calls of the crates above share: terms and rounds of a job,
-// a verdict, what the calls give, a record of the tape, what a reading of a tape is lent, and the
+// refusals, what the calls give, a record of the tape, what a reading of a tape is lent, and the
 // numbers of a season.
 
 #![tactic(auto)]
 
+ghost use Rattle.std.specs.Prelude.{◌≡◌};
+ghost use Rattle.model.specs.Verdict.{number_of};
+ghost use Rattle.model.specs.Tape.{too_short};
+
 // Terms of a job without its rounds: size, weight W in sub-units, and the box in levels.
-#[derive(Clone, Copy)]
+#[derive(Clone, Copy, Debug, Default, PartialEq, Eq)]
 pub struct Terms {
     pub width: u32,
     pub height: u32,
@@ -16,62 +20,105 @@ pub struct Terms {
 }
 
 // Rounds of a job: quick rounds, and the allowance of steady rounds.
-#[derive(Clone, Copy)]
+#[derive(Clone, Copy, Debug, Default, PartialEq, Eq)]
 pub struct Rounds {
     pub quick: u32,
     pub allowance: u16,
 }
 
-// What a call's tests of its input come to: accepted, or refused with a number and a place.
-#[derive(Clone, Copy)]
-pub enum Verdict {
-    Accept,
-    Refuse { number: u32, place: usize },
+// Why a call, a record of a tape or a program's input is refused. specs/Verdict.antt has document 01's number for each.
+#[derive(Clone, Copy, Debug, PartialEq, Eq)]
+pub enum Reason {
+    Size,
+    Weight,
+    Levels,
+    SampleCount,
+    FlowCount,
+    ImageCount,
+    WorkCount,
+    BeyondWeight,
+    OutsideBox,
+    QuickRounds,
+    UnknownKind,
+    CutRecord,
+    OutOfOrder,
+    TrailingByte,
+    ShortBuffer,
+    LongInput,
+    MissingRecord,
+    WeightCount,
+}
+
+impl Reason {
+    // Document 01's number.
+    pub fn number(self) -> u32
+        ensures { result ≡ number_of self }
+    {
+        match self {
+            Reason::Size => 1,
+            Reason::Weight => 2,
+            Reason::Levels => 3,
+            Reason::SampleCount => 4,
+            Reason::FlowCount => 5,
+            Reason::ImageCount => 6,
+            Reason::WorkCount => 7,
+            Reason::BeyondWeight => 8,
+            Reason::OutsideBox => 9,
+            Reason::QuickRounds => 10,
+            Reason::UnknownKind => 12,
+            Reason::CutRecord => 13,
+            Reason::OutOfOrder => 14,
+            Reason::TrailingByte => 15,
+            Reason::ShortBuffer => 16,
+            Reason::LongInput => 17,
+            Reason::MissingRecord => 18,
+            Reason::WeightCount => 19,
+        }
+    }
+
+    // Whether it says that the input ends too early.
+    pub fn is_too_short(self) -> bool
+        ensures { result ≡ too_short (number_of self) }
+    {
+        matches!(&self, Reason::CutRecord | Reason::MissingRecord)
+    }
+}
+
+// A refusal: its reason and its place.
+#[derive(Clone, Copy, Debug, PartialEq, Eq)]
+pub struct Refusal {
+    pub reason: Reason,
+    pub place: usize,
 }
 
 // The figures of an image and its flow: the price, the floor and the slack between them.
-#[derive(Clone, Copy)]
+#[derive(Clone, Copy, Debug, Default, PartialEq, Eq)]
 pub struct Figures {
     pub price: u64,
     pub floor: i64,
     pub slack: u64,
 }
 
-// What check, price and run give. specs/Answers.antt has document 01's number and values for each case
-// of this and of the two enums below.
-#[derive(Clone, Copy)]
-pub enum Answer {
-    Refused { number: u32, place: usize },
+// How an accepted check, price or run ended. specs/Answers.antt has document 01's values for each case.
+#[derive(Clone, Copy, Debug, PartialEq, Eq)]
+pub enum Ending {
     Checked { figures: Figures },
     Settled { moved: u32, figures: Figures },
     Spent { moved: u32, figures: Figures },
 }
 
-// What read gives: the job's terms and whether weights and whether a flow were there (no, where there
-// are no pairs), or a refusal.
-#[derive(Clone, Copy)]
-pub enum ReadResult {
-    Job {
-        terms: Terms,
-        rounds: Rounds,
-        weighted: bool,
-        flowed: bool,
-    },
-    Refused {
-        number: u32,
-        place: usize,
-    },
-}
-
-// How many bytes were written, or a refusal.
-#[derive(Clone, Copy)]
-pub enum WriteResult {
-    Written { count: usize },
-    Refused { number: u32, place: usize },
+// What read takes from a tape: the job's terms and rounds, and whether weights and whether a flow were there (no, where
+// there are no pairs).
+#[derive(Clone, Copy, Debug, Default, PartialEq, Eq)]
+pub struct Job {
+    pub terms: Terms,
+    pub rounds: Rounds,
+    pub weighted: bool,
+    pub flowed: bool,
 }
 
 // A record of the job tape: its kind with its numbers.
-#[derive(Clone, Copy)]
+#[derive(Clone, Copy, Debug, PartialEq, Eq)]
 pub enum Entry {
     End,
     Size { width: u32, height: u32 },
@@ -84,7 +131,7 @@ pub enum Entry {
 
 // What a reading of a tape is lent and allowed: the lengths of the sample, the weight and the flow
 // buffer, and whether the end record may be followed by more bytes.
-#[derive(Clone, Copy)]
+#[derive(Clone, Copy, Debug, PartialEq, Eq)]
 pub struct Lent {
     pub samples: usize,
     pub weights: usize,
@@ -94,7 +141,7 @@ pub struct Lent {
 
 // The numbers of a season: jobs, their pixels, how many ended in each way, the sum of their slacks,
 // the largest slack, and the first job that has it, counted from 1.
-#[derive(Clone, Copy)]
+#[derive(Clone, Copy, Debug, Default, PartialEq, Eq)]
 pub struct Totals {
     pub jobs: u32,
     pub pixels: u64,

@@ -1,9 +1,7 @@
 -- Laws of the momentum.
---     Squares     numbers with a small square
 --     Reciprocals multiplying by a reciprocal is dividing
 --     Bounds      the bounds of T and R
---     Ahead       one extrapolated number
-pub mod Squares
+--     Ahead       the share of a change, by its size and its sign
 pub mod Reciprocals
 pub mod Bounds
 pub mod Ahead

@@ -4,37 +4,25 @@
 
 ghost use Rattle.std.specs.Prelude.{◌+◌, ◌*◌, ◌^◌, ◌≤◌, ◌<◌, ◌≡◌, nat_abs};
 ghost use Rattle.model.specs.Grid.{limit};
-ghost use Rattle.model.specs.Root.{root as the_root};
 ghost use Rattle.model.specs.Rounds.{next_momentum};
 ghost use Rattle.momentum.specs.Reciprocal.{Reciprocal, ahead_of};
 
-use integers::signed;
+// A momentum of 1.
+const ONE: u64 = 65536;
 
-// The largest whole number whose square is at most n: the root lies from low on, within reach,
-// and each turn halves the reach.
-fn root(n: u64) -> u64
-    requires { n < 2 ^ 62 }
-    ensures { result ≡ the_root n }
-{
-    let mut low: u64 = 0;
-    let mut reach: u64 = 2147483648;
-    while reach > 1 {
-        let half = (reach + 1) / 2;
-        let middle = low + half;
-        if middle * middle <= n {
-            low = middle;
-        }
-        reach = half;
-    }
-    low
-}
+// The units of a reciprocal: 2^32 from the first step of its division, times 2^14 from the second.
+const HIGH: u64 = 4294967296;
+
+const LOW: u64 = 16384;
+
+const UNITS: u64 = HIGH * LOW;
 
 // T of the next round.
 pub fn next_momentum(t: u64) -> u64
     requires { t < 2 ^ 29 }
     ensures { result ≡ next_momentum t }
 {
-    (65536 + root(4294967296 + 4 * (t * t))) / 2
+    (ONE + (ONE * ONE + 4 * (t * t)).isqrt()) / 2
 }
 
 // A whole number m by which x * a / b, rounded down, is x * m / 2^46, rounded down, for every x with
@@ -43,24 +31,20 @@ pub fn reciprocal(a: u64, b: u64) -> u64
     requires { (0 < b) × (a ≤ b) × (b < 2 ^ 29) }
     ensures { Reciprocal a b result }
 {
-    let high = a * 4294967296 / b;
-    let rest = a * 4294967296 % b;
-    let low = rest * 16384 / b;
-    high * 16384 + low + 1
+    let high = a * HIGH / b;
+    let rest = a * HIGH % b;
+    let low = rest * LOW / b;
+    high * LOW + low + 1
 }
 
 // A flow number ahead of now, by the change since earlier times the fixed-point factor m, rounded
-// toward zero.
+// toward zero. By the size of the change, since one signed division in its place,
+// `i64::from(now - earlier) * m as i64 / UNITS as i64`, takes 1.3 times as long in the pass over pairs.
 pub fn extrapolated(earlier: i32, now: i32, m: u64) -> i32
     requires { (nat_abs earlier ≤ limit.weight) × (nat_abs now ≤ limit.weight) × (m ≤ 2 ^ 46) }
     ensures { result ≡ ahead_of m earlier now }
 {
-    let change = signed::sub(now, earlier);
-    let size = signed::magnitude(change) as u64;
-    let ahead = signed::natural((size * m / 70368744177664) as u32);
-    if signed::less(change, 0) {
-        signed::sub(now, ahead)
-    } else {
-        signed::add(now, ahead)
-    }
+    let change = now - earlier;
+    let ahead = (u64::from(change.unsigned_abs()) * m / UNITS) as i32;
+    if change < 0 { now - ahead } else { now + ahead }
 }

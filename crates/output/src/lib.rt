@@ -1,5 +1,9 @@
 // Bytes written into a lent buffer, one behind the other. Each function gives the offset behind what
 // it wrote.
+//
+// The buffer and the offset stay two parameters: a struct that held the `&mut` would need a clause in
+// each function that its field is still the same borrow, and a function that handed back the rest of
+// the buffer a clause for what the whole ends as. `Put` says both in one equation.
 
 #![tactic(auto)]
 
@@ -18,11 +22,7 @@ pub fn put_bytes(output: &mut [u8], o: usize, bytes: &[u8]) -> usize
     requires { o + length bytes.now ≤ length output.old }
     ensures { Put o bytes.now output.old result output.new }
 {
-    let mut next = o;
-    let mut i = 0;
-    while i < bytes.len() {
-        next = put_byte(output, next, bytes[i]);
-        i += 1;
-    }
-    next
+    let end = o + bytes.len();
+    output[o..end].copy_from_slice(bytes);
+    end
 }

@@ -1,16 +1,16 @@
 -- The numbers of buffers within limits: as the machine reads them back from their bits, and what the limits say of a pair.
 -- Assumes nothing.
-use mathlib.Core.Path.{◌≡◌, sym, subst}
+use mathlib.Core.Path.{◌≡◌, sym, ap, subst, ◌∙◌}
 use mathlib.Core.List.{List}
-use Prim.Native.Nat.{ℕ, ◌≤◌, ◌<◌, zero-le}
+use Prim.Native.Nat.{ℕ, ◌^◌, ◌≤◌, ◌<◌, zero-le}
 use native.Mathlib.Omega.{arith}
 use lib.IntN.{ℤ, pos, nat_abs}
 use lib.ListN.{length, take, drop}
-use lib.Signed.{◌≤ℤ◌}
+use lib.Signed.{mag, ◌≤ℤ◌}
 use mir.Syntax.{w32}
-use mir.Val.{to_z, of_z}
+use mir.Val.{to_z, of_z, hbits}
 use mir.ValLaws.{to_z-of_z}
-use Rattle.integers.proofs.Machine.{fits}
+use Rattle.integers.proofs.Machine.{fits, read}
 use Rattle.lists.specs.Lists.{at, table}
 use Rattle.lists.proofs.Tables.{length-table, get_or-table, get_or-by}
 use Rattle.lists.proofs.Parts.{part_by}
@@ -64,3 +64,33 @@ module _ {n : ℕ} {weight : ℤ} {weights : List ℤ} (w : WeightLimits n weigh
         first_most = l.values.first_most j;
         second_most = l.values.second_most j;
       }
+
+-- ---- pair j of a run, as the machine reads its weight, its number and its pixels' values
+
+pub record ReadPair (weight : ℤ) (weights flow first second : List ℤ) (j : ℕ) (own number : ℤ) : Type 0 where
+  pub weight_is : to_z w32 (of_z w32 own) ≡ weight_at weight weights j
+  pub number_is : to_z w32 (of_z w32 number) ≡ at flow j
+  pub first-is : to_z w32 (of_z w32 (at first j)) ≡ at first j
+  pub second_is : to_z w32 (of_z w32 (at second j)) ≡ at second j
+  pub limits : PairLimits (weight_at weight weights j) (at flow j) (at first j) (at second j)
+
+-- its weight as `Weights::at` gives it, its number not written yet
+pub read-pair : {n : ℕ} {weight : ℤ} {weights flow first second : List ℤ} → RunLimits flow first second → WeightLimits n weight weights → (j : ℕ) →
+    {own number : ℤ} → mag own < 2 ^ hbits w32 → own ≡ weight_at weight weights j → number ≡ at flow j → ReadPair weight weights flow first second j own number
+read-pair {flow = flow} {first = first} {second = second} l w j ok e p =
+    record {
+      weight_is = read w32 ok ∙ e;
+      number_is = ap (λ (z : ℤ). to_z w32 (of_z w32 z)) p ∙ element flow l.flow_most j;
+      first-is = element first l.values.first_most j;
+      second_is = element second l.values.second_most j;
+      limits = pair-limits w l j;
+    }
+
+module _ {weight : ℤ} {weights flow first second : List ℤ} {j : ℕ} {own number : ℤ} (r : ReadPair weight weights flow first second j own number) where
+  pub pair_limits-read : PairLimits (to_z w32 (of_z w32 own)) (to_z w32 (of_z w32 number)) (to_z w32 (of_z w32 (at first j))) (to_z w32 (of_z w32 (at second j)))
+  pair_limits-read = rw (r.weight_is, r.number_is, r.first-is, r.second_is) r.limits
+
+  -- what is computed of it
+  pub pair-read : {A : Type 0} (f : ℤ → ℤ → ℤ → ℤ → A) → f (to_z w32 (of_z w32 own)) (to_z w32 (of_z w32 number)) (to_z w32 (of_z w32 (at first j))) (to_z w32 (of_z w32 (at second j)))
+      ≡ f (weight_at weight weights j) (at flow j) (at first j) (at second j)
+  pair-read f = λ i. f (r.weight_is i) (r.number_is i) (r.first-is i) (r.second_is i)

@@ -9,7 +9,10 @@ use lib.IntN.{ℤ, nat_abs, ◌+ℤ◌, ◌-ℤ◌}
 use lib.ListN.{get_or}
 use Rattle.integers.specs.Whole.{square}
 use Rattle.integers.specs.Sum.{total}
-use Rattle.integers.proofs.Absolute.{nat_abs-difference, nat_abs-product, nat_abs-square}
+use mir.Syntax.{w64}
+use mir.Val.{SFits}
+use Rattle.integers.proofs.Machine.{fits}
+use Rattle.integers.proofs.Absolute.{nat_abs-sum, nat_abs-difference, nat_abs-product, nat_abs-square}
 use Rattle.integers.proofs.Total.{total-suc, total-append, nat_abs-total}
 use Rattle.lists.specs.Lists.{at}
 use Rattle.model.specs.Grid.{reading_of}
@@ -59,3 +62,9 @@ module _ (x y : ℕ → ℤ) (first_most : (j : ℕ) → nat_abs (x j) ≤ most)
 
     pub product_most : (j : ℕ) → nat_abs (product_at number x y j) ≤ 2 ^ 41
     product_most j = rw nat_abs-product (mul-le-mul (number-most j) (fall-most j))
+
+-- ---- a running sum of signed numbers
+
+-- one more term fits 64 bits
+pub sum_fits : (a b : ℤ) → nat_abs a + nat_abs b < 2 ^ 63 → SFits w64 (a +ℤ b)
+sum_fits a b h = fits w64 (omega (arith, nat_abs-sum a b, h))

@@ -15,10 +15,8 @@ pub fn misfit(image: &[i32], samples: &[u8]) -> u64
     ensures { pos result ≡ total (length image.now) (λ i. square (at image.now i -ℤ reading_of (get_or samples.now i 0))) }
 {
     let mut sum = 0;
-    let mut i = 0;
-    while i < image.len() {
+    for i in 0..image.len() {
         sum += pixel::squared_misfit(image[i], samples[i]);
-        i += 1;
     }
     sum
 }

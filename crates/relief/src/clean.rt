@@ -6,6 +6,7 @@ ghost use Rattle.lists.specs.Lists.{overwritten};
 ghost use Rattle.model.specs.Program.{program_text};
 
 use job::tape::put_tape_answer;
+use model::Reason;
 use text::line::put_refusal;
 
 // The text stands at the front of the output; how many bytes it has. The tables hold 4,096 samples,
@@ -16,7 +17,7 @@ pub fn clean(input: &[u8], output: &mut [u8; 98304]) -> usize
     ensures prefix_len { IsPrefixLen result output.new }
 {
     if 65536 < input.len() {
-        return put_refusal(output, 0, 17, 0);
+        return put_refusal(output, 0, Reason::LongInput.number(), 0);
     }
     let mut samples = [0u8; 4096];
     let mut weights = [0i32; 8064];

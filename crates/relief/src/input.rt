@@ -1,38 +1,34 @@
 // Standard input, as far as a buffer holds it.
 
-ghost use Rattle.std.specs.Prelude.{◌≡◌, true, false, ◌≤◌, ◌<◌, length, take};
+ghost use Rattle.std.specs.Prelude.{◌≤◌, ◌<◌, IfOk, IfErr, length, take};
 ghost use Rattle.std.specs.Io.KnownBytes.{Consumes, IsAtEnd};
+ghost use Rattle.relief.specs.Input.{count_of};
 
 use std::io::Read;
 
-// How many bytes were read, and whether a read failed.
-#[derive(Clone, Copy)]
-pub struct Input {
+// A read failed behind so many bytes.
+#[derive(Clone, Copy, Debug, PartialEq, Eq)]
+pub struct Interrupted {
     pub count: usize,
-    pub failed: bool,
 }
 
 // Reads until the buffer is full, the input ends or a read fails, which happens only where there is
-// room. How many bytes come, which they are, and whether a read fails is free: the operating system's
-// call promises nothing of it. Of a reader whose bytes are known they are the first of these, and all
-// where no read failed and the buffer is not full.
-pub fn read_input<R: Read>(stdin: &mut R, buffer: &mut [u8]) -> Input
-    ensures within { result.count ≤ length buffer.new }
-    ensures room_where_failed { result.failed ≡ true → result.count < length buffer.new }
-    ensures first_bytes { Consumes (R.remaining stdin.old) (R.remaining stdin.new) (take result.count buffer.new) }
-    ensures all_bytes { result.failed ≡ false → result.count < length buffer.new → IsAtEnd (R.remaining stdin.new) }
+// room; how many bytes were read. How many bytes come, which they are, and whether a read fails is free:
+// the operating system's call promises nothing of it. Of a reader whose bytes are known they are the first
+// of these, and all where no read failed and the buffer is not full.
+pub fn read_input<R: Read>(stdin: &mut R, buffer: &mut [u8]) -> Result<usize, Interrupted>
+    ensures within { count_of result ≤ length buffer.new }
+    ensures room_where_failed { IfErr result (λ e. e.count < length buffer.new) }
+    ensures first_bytes { Consumes (R.remaining stdin.old) (R.remaining stdin.new) (take (count_of result) buffer.new) }
+    ensures all_bytes { IfOk result (λ count. count < length buffer.new → IsAtEnd (R.remaining stdin.new)) }
 {
     let mut count = 0;
-    let mut failed = false;
     while count < buffer.len() {
         match stdin.read(&mut buffer[count..]) {
             Ok(0) => break,
             Ok(more) => count += more,
-            Err(_) => {
-                failed = true;
-                break;
-            }
+            Err(_) => return Err(Interrupted { count }),
         }
     }
-    Input { count, failed }
+    Ok(count)
 }

@@ -6,7 +6,7 @@ ghost use Rattle.model.specs.Accepted.{CheckAllowed};
 ghost use Rattle.model.specs.Demand.{CheckDemand};
 ghost use Rattle.model.specs.Plain.{terms_of, answer_from, AnswerNumbers};
 
-use crate::numbers::numbers_of;
+use crate::numbers::Numbers;
 use calls::check::check;
 use model::Terms;
 
@@ -40,13 +40,12 @@ pub extern "C" fn relief_call_check(
         low,
         high,
     };
-    let n = numbers_of(check(t, samples, weights, flow, image));
+    let n = Numbers::of(check(t, samples, weights, flow, image));
     *place = n.place;
     *outcome = n.outcome;
     *moved = n.moved;
     *price = n.price;
-    let least = n.floor;
-    *floor = least;
+    *floor = n.floor;
     *slack = n.slack;
     n.number
 }

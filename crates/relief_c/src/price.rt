@@ -5,7 +5,7 @@ ghost use Rattle.model.specs.Calls.{price_answer};
 ghost use Rattle.model.specs.Accepted.{PriceAllowed};
 ghost use Rattle.model.specs.Plain.{terms_of, AnswerNumbers};
 
-use crate::numbers::numbers_of;
+use crate::numbers::Numbers;
 use calls::price::price as price_image;
 use model::Terms;
 
@@ -36,13 +36,12 @@ pub extern "C" fn relief_call_price(
         low,
         high,
     };
-    let n = numbers_of(price_image(t, samples, weights, image));
+    let n = Numbers::of(price_image(t, samples, weights, image));
     *place = n.place;
     *outcome = n.outcome;
     *moved = n.moved;
     *price = n.price;
-    let least = n.floor;
-    *floor = least;
+    *floor = n.floor;
     *slack = n.slack;
     n.number
 }

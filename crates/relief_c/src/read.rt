@@ -8,12 +8,12 @@ ghost use Rattle.model.specs.Tape.{read_answer, read_samples, read_weights, read
 ghost use Rattle.model.specs.Answers.{read_answer_of};
 ghost use Rattle.model.specs.Plain.{terms_of, rounds_of, JobNumbers};
 
-use model::{ReadResult, Rounds, Terms};
+use model::{Job, Refusal, Rounds, Terms};
 use tape_reader::read::read;
 
-// What read gives as plain numbers: a job's terms, or zeros beside a refusal.
-#[derive(Clone, Copy)]
-pub struct Job {
+// What read gives as plain numbers, which C takes: a job, or zeros beside a refusal.
+#[derive(Clone, Copy, Debug, Default, PartialEq, Eq)]
+pub struct ReadNumbers {
     pub number: u32,
     pub place: u64,
     pub terms: Terms,
@@ -22,47 +22,24 @@ pub struct Job {
     pub flowed: u32,
 }
 
-fn job_of(a: ReadResult) -> Job
-    ensures { JobNumbers result.number result.place result.terms result.rounds result.weighted result.flowed (read_answer_of a) }
-{
-    match a {
-        ReadResult::Job {
-            terms,
-            rounds,
-            weighted,
-            flowed,
-        } => {
-            let own = weighted as u32;
-            let seen = flowed as u32;
-            Job {
+impl ReadNumbers {
+    fn of(read: Result<Job, Refusal>) -> ReadNumbers
+        ensures { JobNumbers result.number result.place result.terms result.rounds result.weighted result.flowed (read_answer_of read) }
+    {
+        match read {
+            Ok(job) => ReadNumbers {
                 number: 0,
                 place: 0,
-                terms,
-                rounds,
-                weighted: own,
-                flowed: seen,
-            }
-        }
-        ReadResult::Refused { number, place } => {
-            let terms = Terms {
-                width: 0,
-                height: 0,
-                weight: 0,
-                low: 0,
-                high: 0,
-            };
-            let rounds = Rounds {
-                quick: 0,
-                allowance: 0,
-            };
-            Job {
-                number,
-                place: place as u64,
-                terms,
-                rounds,
-                weighted: 0,
-                flowed: 0,
-            }
+                terms: job.terms,
+                rounds: job.rounds,
+                weighted: u32::from(job.weighted),
+                flowed: u32::from(job.flowed),
+            },
+            Err(refusal) => ReadNumbers {
+                number: refusal.reason.number(),
+                place: refusal.place as u64,
+                ..ReadNumbers::default()
+            },
         }
     }
 }
@@ -91,10 +68,10 @@ pub extern "C" fn relief_call_read(
     ensures accepted { (result ≡ 0) ↔ ReadAllowed tape.now samples.old weights.old flow.old }
     ensures writes_back { result ≡ 0 → WritesBack (terms_of width.new height.new weight.new low.new high.new) (rounds_of quick.new allowance.new) (take (pixels_of (terms_of width.new height.new weight.new low.new high.new)) samples.new) (take (weighted.new * pairs_of (terms_of width.new height.new weight.new low.new high.new)) weights.new) (take (flowed.new * pairs_of (terms_of width.new height.new weight.new low.new high.new)) flow.new) tape.now }
 {
-    let j = job_of(read(tape, samples, weights, flow));
-    let t = j.terms;
-    let r = j.rounds;
-    *place = j.place;
+    let n = ReadNumbers::of(read(tape, samples, weights, flow));
+    let t = n.terms;
+    let r = n.rounds;
+    *place = n.place;
     *width = t.width;
     *height = t.height;
     *weight = t.weight;
@@ -102,7 +79,7 @@ pub extern "C" fn relief_call_read(
     *high = t.high;
     *quick = r.quick;
     *allowance = r.allowance;
-    *weighted = j.weighted;
-    *flowed = j.flowed;
-    j.number
+    *weighted = n.weighted;
+    *flowed = n.flowed;
+    n.number
 }

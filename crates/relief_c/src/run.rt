@@ -6,7 +6,7 @@ ghost use Rattle.model.specs.Accepted.{RunAllowed};
 ghost use Rattle.model.specs.Demand.{RunDemand};
 ghost use Rattle.model.specs.Plain.{terms_of, rounds_of, answer_from, AnswerNumbers};
 
-use crate::numbers::numbers_of;
+use crate::numbers::Numbers;
 use calls::run::run;
 use model::{Rounds, Terms};
 
@@ -46,13 +46,12 @@ pub extern "C" fn relief_call_run(
         high,
     };
     let r = Rounds { quick, allowance };
-    let n = numbers_of(run(t, r, samples, weights, flow, image, work));
+    let n = Numbers::of(run(t, r, samples, weights, flow, image, work));
     *place = n.place;
     *outcome = n.outcome;
     *moved = n.moved;
     *price = n.price;
-    let least = n.floor;
-    *floor = least;
+    *floor = n.floor;
     *slack = n.slack;
     n.number
 }

@@ -7,31 +7,33 @@ ghost use Rattle.model.specs.RoundTrip.{ReadsBack};
 ghost use Rattle.model.specs.Answers.{write_answer_of};
 ghost use Rattle.model.specs.Plain.{terms_of, rounds_of, WriteNumbers};
 
-use model::{Rounds, Terms, WriteResult};
+use model::{Refusal, Rounds, Terms};
 use tape_writer::write::write;
 
-// What write gives as plain numbers.
-#[derive(Clone, Copy)]
-pub struct Written {
+// What write gives as plain numbers, which C takes: a byte count, or zero beside a refusal.
+#[derive(Clone, Copy, Debug, Default, PartialEq, Eq)]
+pub struct WrittenNumbers {
     pub number: u32,
     pub place: u64,
     pub count: u64,
 }
 
-fn written_of(a: WriteResult) -> Written
-    ensures { WriteNumbers result.number result.place result.count (write_answer_of a) }
-{
-    match a {
-        WriteResult::Written { count } => Written {
-            number: 0,
-            place: 0,
-            count: count as u64,
-        },
-        WriteResult::Refused { number, place } => Written {
-            number,
-            place: place as u64,
-            count: 0,
-        },
+impl WrittenNumbers {
+    fn of(written: Result<usize, Refusal>) -> WrittenNumbers
+        ensures { WriteNumbers result.number result.place result.count (write_answer_of written) }
+    {
+        match written {
+            Ok(count) => WrittenNumbers {
+                number: 0,
+                place: 0,
+                count: count as u64,
+            },
+            Err(refusal) => WrittenNumbers {
+                number: refusal.reason.number(),
+                place: refusal.place as u64,
+                count: 0,
+            },
+        }
     }
 }
 
@@ -64,8 +66,8 @@ pub extern "C" fn relief_call_write(
         high,
     };
     let r = Rounds { quick, allowance };
-    let w = written_of(write(t, r, samples, weights, flow, output));
-    *place = w.place;
-    *count = w.count;
-    w.number
+    let n = WrittenNumbers::of(write(t, r, samples, weights, flow, output));
+    *place = n.place;
+    *count = n.count;
+    n.number
 }

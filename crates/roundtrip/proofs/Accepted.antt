@@ -16,12 +16,11 @@ use borrow.Author.Tests.{eqb-true, ltb-true, ltb-false, not-false}
 use Rattle.integers.proofs.Order.{0≤pos, ≤→pos}
 use Rattle.model.specs.declared.Terms.{Terms}
 use Rattle.model.specs.declared.Rounds.{Rounds}
-use Rattle.model.specs.declared.Verdict.{Verdict}
 use Rattle.model.specs.declared.Entry.{Entry}
 use Rattle.model.specs.declared.Entry.TheVariants.{End, Size, WeightBox, RoundLimits, Sample, Flow, PairWeight}
 use Rattle.lists.specs.Lists.{chain}
 use Rattle.model.specs.Grid.{limit, size_allowed, weight_allowed, box_allowed}
-use Rattle.model.specs.Verdict.{first_refusal}
+use Rattle.model.specs.Verdict.{Verdict, Accept, first_refusal}
 use Rattle.model.specs.Calls.{pixels_of, pairs_of}
 use Rattle.model.specs.Tape.{known, decoded, encoded, Progress, nothing, kinds, allowed, absorbed, with_numbers, entry_rows, Parse, whole, parse_from, tape_of}
 use Rattle.model.proofs.Refusals.{accepted-row}
@@ -146,7 +145,7 @@ module _ (lent : Lent) (p : Progress) (s : Sound lent p) (o : ℕ) where
       so_far p ≡ header_bytes h p.terms p.rounds
   header-bytes empty is = no_samples p empty ∙ ap (λ (n : ℕ). header_bytes n p.terms p.rounds) is
 
-  grown-size : (w h : ℕ) → p.header ≡ 0 → first_refusal (entry_rows o lent (Size w h)) ≡ Verdict.Accept → Grown (Size w h)
+  grown-size : (w h : ℕ) → p.header ≡ 0 → first_refusal (entry_rows o lent (Size w h)) ≡ Accept → Grown (Size w h)
   unfolding header_bytes
   grown-size w h z v =
       let empty = s.early (omega arith) in
@@ -172,7 +171,7 @@ module _ (lent : Lent) (p : Progress) (s : Sound lent p) (o : ℕ) where
         grows (Size w h) (no_samples (absorbed p (Size w h)) empty) (header-bytes empty z) refl,
       )
 
-  grown-weight : (weight low high : ℕ) → p.header ≡ 1 → first_refusal (entry_rows o lent (WeightBox weight low high)) ≡ Verdict.Accept →
+  grown-weight : (weight low high : ℕ) → p.header ≡ 1 → first_refusal (entry_rows o lent (WeightBox weight low high)) ≡ Accept →
       Grown (WeightBox weight low high)
   unfolding header_bytes
   grown-weight weight low high z v =
@@ -193,7 +192,7 @@ module _ (lent : Lent) (p : Progress) (s : Sound lent p) (o : ℕ) where
         grows (WeightBox weight low high) (no_samples (absorbed p (WeightBox weight low high)) empty) (header-bytes empty z) refl,
       )
 
-  grown-rounds : (q a : ℕ) → p.header ≡ 2 → first_refusal (entry_rows o lent (RoundLimits q a)) ≡ Verdict.Accept → a < 65536 →
+  grown-rounds : (q a : ℕ) → p.header ≡ 2 → first_refusal (entry_rows o lent (RoundLimits q a)) ≡ Accept → a < 65536 →
       Grown (RoundLimits q a)
   unfolding header_bytes
   grown-rounds q a z v small =
@@ -238,7 +237,7 @@ module _ (lent : Lent) (p : Progress) (s : Sound lent p) (o : ℕ) where
       )
 
   grown-pair-weight : (w : ℕ) → p.header ≡ 3 → length p.samples ≡ pixels_of p.terms → length p.flow ≡ 0 →
-      first_refusal (entry_rows o lent (PairWeight w)) ≡ Verdict.Accept → Grown (PairWeight w)
+      first_refusal (entry_rows o lent (PairWeight w)) ≡ Accept → Grown (PairWeight w)
   grown-pair-weight w z full none v =
       let empty = length_none p.flow none in
       let limits : WeightLimits (pos w) = (0≤pos w, ≤→pos ((weight-passes w o).0 (accepted-row _ _ v).0)) in (
@@ -257,11 +256,11 @@ module _ (lent : Lent) (p : Progress) (s : Sound lent p) (o : ℕ) where
 
   -- any record that is allowed
   grown : (kind : ℕ) (b : ℕ → ℕ) → known kind ≡ true → allowed p kind ≡ true → ¬ (kind ≡ 0) →
-      first_refusal (entry_rows o lent (decoded kind b)) ≡ Verdict.Accept → ((i : ℕ) → b i < 256) → Grown (decoded kind b)
+      first_refusal (entry_rows o lent (decoded kind b)) ≡ Accept → ((i : ℕ) → b i < 256) → Grown (decoded kind b)
   unfolding kinds
   grown kind b k a z v h =
       each_kind
-      (λ n. allowed p n ≡ true → ¬ (n ≡ 0) → first_refusal (entry_rows o lent (decoded n b)) ≡ Verdict.Accept → Grown (decoded n b))
+      (λ n. allowed p n ≡ true → ¬ (n ≡ 0) → first_refusal (entry_rows o lent (decoded n b)) ≡ Accept → Grown (decoded n b))
       (λ a z v. absurd (z refl))
       (λ a z v. grown-size _ _ (eqb-true _ 0 a) v)
       (λ a z v. grown-weight _ _ _ (eqb-true _ 1 a) v)
@@ -288,7 +287,7 @@ module _ (tape : List ℕ) (lent : Lent) (byte : (i : ℕ) → get_or tape i 0 <
     pub bytes : tape ≡ tape_of p.terms p.rounds p.samples p.weights p.flow
 
   module _ (o : ℕ) (p : Progress) (g : Good o p) (h : Passed lent.followed tape o (allowed p)) where
-    growing : terms_verdict tape lent o ≡ Verdict.Accept → ¬ (get_or tape o 0 ≡ 0) → Good (next_at tape o) (absorbed p (entry_at tape o))
+    growing : terms_verdict tape lent o ≡ Accept → ¬ (get_or tape o 0 ≡ 0) → Good (next_at tape o) (absorbed p (entry_at tape o))
     growing v z =
         let more = grown lent p g.sound o (get_or tape o 0) (λ i. get_or tape (o + 1 + i) 0) h.is_known h.is_allowed z v (λ i. byte (o + 1 + i)) in
         record {

@@ -1,7 +1,7 @@
 -- Numbers in bytes: the two's complement is the machine's. Assumes nothing.
 use mathlib.Core.Path.{◌≡◌, refl, sym, ap, ap₂, ◌∙◌, subst⁻¹}
 use mathlib.Core.Bool.{Bool, true, false, cond}
-use mathlib.Core.List.{List, [], ◌∷◌, ◌++◌}
+use mathlib.Core.List.{List, [], ◌∷◌}
 use Prim.Native.Nat.{ℕ, suc, ◌+◌, ◌-◌, ◌*◌, ◌/◌, ◌%◌, ◌^◌, ◌≤◌, ◌<◌}
 use native.Mathlib.Nat.{div-add-mod', div-div-eq-div-mul}
 use native.Mathlib.Omega.{arith}
@@ -92,10 +92,3 @@ module _ {b0 b1 b2 b3 : ℕ} (h0 : b0 < 256) (h1 : b1 < 256) (h2 : b2 < 256) (h3
 
       four : byte_of n 0 ≡ b0 → byte_of n 1 ≡ b1 → byte_of n 2 ≡ b2 → byte_of n 3 ≡ b3 → bytes n ≡ b0 ∷ b1 ∷ b2 ∷ b3 ∷ []
       four e0 e1 e2 e3 = cc
-
--- four bytes are two and two
-pub four_halves : (n : ℕ) → two_bytes (n % 65536) ++ two_bytes (n / 65536) ≡ byte_of n 0 ∷ byte_of n 1 ∷ byte_of n 2 ∷ byte_of n 3 ∷ []
-four_halves n = four (omega arith) (omega arith) (omega arith) (ap (λ (q : ℕ). q % 256) (div-div-eq-div-mul n 65536 256))
-  where
-    four : {a b c d e f g h : ℕ} → a ≡ e → b ≡ f → c ≡ g → d ≡ h → a ∷ b ∷ c ∷ d ∷ [] ≡ e ∷ f ∷ g ∷ h ∷ []
-    four p q r s = cc

@@ -7,8 +7,7 @@ use native.Mathlib.Omega.{arith}
 use lib.IntN.{ℤ}
 use lib.ListN.{length}
 use borrow.Author.Tests.{lt-ltb, le-ltb, ltb-false}
-use Rattle.model.specs.declared.Verdict.{Verdict}
-use Rattle.model.specs.Verdict.{first_refusal}
+use Rattle.model.specs.Verdict.{Verdict, Accept, Refuse, first_refusal}
 use Rattle.model.specs.Grid.{weight_of}
 use Rattle.model.specs.Calls.{first_beyond, flow_row}
 use Rattle.model.specs.Tape.{Progress, nothing, Parse, turned, whole, parse_from, unless, judged, parse, read_of, read_answer, read_samples, read_weights, read_flow, samples_after, weights_after, flow_after, lent_by}
@@ -70,9 +69,9 @@ turned-number tape lent (suc k) o p {n} {q} e = go (turn tape lent k o p) e (λ 
     go (Turn.more h v z) w ih = ih _ _ w
 
 -- a parse that passed: the scan passed, and no number is beyond its pair's weight
-unless-whole : (p : Progress) (v : Verdict) {q : Progress} → unless v (whole p) ≡ whole q → (v ≡ Verdict.Accept) × (p ≡ q)
-unless-whole p Verdict.Accept e = (refl, cc)
-unless-whole p (Verdict.Refuse n o) e = (cc, cc)
+unless-whole : (p : Progress) (v : Verdict) {q : Progress} → unless v (whole p) ≡ whole q → (v ≡ Accept) × (p ≡ q)
+unless-whole p Accept e = (refl, cc)
+unless-whole p (Refuse n o) e = (cc, cc)
 
 module _ (tape samples : List ℕ) (weights flow : List ℤ) where
   pub passed_parse : (p : Progress) → parse tape (lent_by samples weights flow) ≡ whole p →
@@ -96,8 +95,8 @@ module _ (tape samples : List ℕ) (weights flow : List ℤ) where
       decide : (o : Progress) (v : Verdict) → first_refusal (flow_row (weight_of o.terms o.weights) o.flow ∷ []) ≡ v →
           (read_of (unless v (whole o))).number ≡ 0 →
           (p : Progress) × (unless v (whole o) ≡ whole p)
-      decide o Verdict.Accept e z = (o, refl)
-      decide o (Verdict.Refuse n q) e z =
+      decide o Accept e z = (o, refl)
+      decide o (Refuse n q) e z =
           absurd (omega (arith, refused-number (flow_row (weight_of o.terms o.weights) o.flow ∷ []) (omega arith) e))
 
       go : (r : Parse) → all tape samples weights flow ≡ r → (read_of (judged r)).number ≡ 0 → (p : Progress) × (judged r ≡ whole p)

@@ -8,11 +8,10 @@ use native.Mathlib.Omega.{arith}
 use lib.Dec.{eqb, ltb}
 use lib.ListN.{length, get_or}
 use borrow.Author.Tests.{leb-false, ltb-false, eqb-true, eqb-false, not-false, eq-eqb, ne_eqb}
-use Rattle.model.specs.declared.Verdict.{Verdict}
 use Rattle.model.specs.declared.Entry.{Entry}
 use Rattle.model.specs.declared.Entry.TheVariants.{End, Size, WeightBox, RoundLimits, Sample, Flow, PairWeight}
 use Rattle.model.specs.declared.Lent.{Lent}
-use Rattle.model.specs.Verdict.{first_refusal, decided}
+use Rattle.model.specs.Verdict.{Verdict, Accept, Refuse, first_refusal, decided}
 use Rattle.model.specs.Tape.{known, body_length, decoded, Progress, allowed, absorbed, record_rows, entry_rows, Parse, turned, whole, parse_from, ParseLaw}
 use Rattle.model.proofs.Refusals.{accepted-row, first_refusal-append, Numbered, refused-number}
 
@@ -31,7 +30,7 @@ pub record Passed (followed : Bool) (tape : List ℕ) (o : ℕ) (may : ℕ → B
   pub fits : next_at tape o ≤ length tape
   pub last : followed ≡ false → get_or tape o 0 ≡ 0 → length tape ≤ o + 1
 
-pub passed_record : (followed : Bool) (tape : List ℕ) (o : ℕ) (may : ℕ → Bool) → first_refusal (record_rows followed tape o may) ≡ Verdict.Accept → Passed followed tape o may
+pub passed_record : (followed : Bool) (tape : List ℕ) (o : ℕ) (may : ℕ → Bool) → first_refusal (record_rows followed tape o may) ≡ Accept → Passed followed tape o may
 unfolding record_rows
 passed_record followed tape o may h =
     let a = accepted-row _ _ h in
@@ -74,30 +73,30 @@ module _ (tape : List ℕ) (lent : Lent) (o : ℕ) (p : Progress) where
   record_verdict = first_refusal (record_rows lent.followed tape o (allowed p))
 
   abbrev pub verdict : Verdict
-  verdict = decided record_verdict (terms_verdict tape lent o) Verdict.Refuse
+  verdict = decided record_verdict (terms_verdict tape lent o) Refuse
 
 module _ (tape : List ℕ) (lent : Lent) (k o : ℕ) (p : Progress) where
   -- by the verdict, and by whether the record is the end: what is still to be read
   pub data Turn : Verdict → Bool → Parse → Type 0 where
-    refuse : {end : Bool} (number place : ℕ) → 0 < number → Turn (Verdict.Refuse number place) end (turned number place)
-    done : Passed lent.followed tape o (allowed p) → get_or tape o 0 ≡ 0 → Turn Verdict.Accept true (whole p)
-    more : Passed lent.followed tape o (allowed p) → terms_verdict tape lent o ≡ Verdict.Accept → ¬ (get_or tape o 0 ≡ 0) →
-        Turn Verdict.Accept false (parse_from k tape lent (next_at tape o) (absorbed p (entry_at tape o)))
+    refuse : {end : Bool} (number place : ℕ) → 0 < number → Turn (Refuse number place) end (turned number place)
+    done : Passed lent.followed tape o (allowed p) → get_or tape o 0 ≡ 0 → Turn Accept true (whole p)
+    more : Passed lent.followed tape o (allowed p) → terms_verdict tape lent o ≡ Accept → ¬ (get_or tape o 0 ≡ 0) →
+        Turn Accept false (parse_from k tape lent (next_at tape o) (absorbed p (entry_at tape o)))
 
   after : Bool → Parse
   after true = whole p
   after false = parse_from k tape lent (next_at tape o) (absorbed p (entry_at tape o))
 
   upon : Verdict → Parse
-  upon Verdict.Accept = after (eqb (get_or tape o 0) 0)
-  upon (Verdict.Refuse number place) = turned number place
+  upon Accept = after (eqb (get_or tape o 0) 0)
+  upon (Refuse number place) = turned number place
 
   unrolled : upon (verdict tape lent o p) ≡ parse_from (suc k) tape lent o p
   unfolding parse_from after upon
   unrolled = ap upon (sym (first_refusal-append (record_rows lent.followed tape o (allowed p)) (entry_rows o lent (entry_at tape o))))
 
   ends : (end : Bool) → eqb (get_or tape o 0) 0 ≡ end → Passed lent.followed tape o (allowed p) →
-      terms_verdict tape lent o ≡ Verdict.Accept → Turn Verdict.Accept end (after end)
+      terms_verdict tape lent o ≡ Accept → Turn Accept end (after end)
   unfolding after
   ends true e h v = done h (eqb-true _ _ e)
   ends false e h v = more h v (eqb-false _ _ e)
@@ -105,35 +104,35 @@ module _ (tape : List ℕ) (lent : Lent) (k o : ℕ) (p : Progress) where
   judged : (v : Verdict) → terms_verdict tape lent o ≡ v → Passed lent.followed tape o (allowed p) →
       Turn v (eqb (get_or tape o 0) 0) (upon v)
   unfolding upon
-  judged (Verdict.Refuse number place) e h = refuse number place (refused-number _ (entry-numbered o lent (entry_at tape o)) e)
-  judged Verdict.Accept e h = ends (eqb (get_or tape o 0) 0) refl h e
+  judged (Refuse number place) e h = refuse number place (refused-number _ (entry-numbered o lent (entry_at tape o)) e)
+  judged Accept e h = ends (eqb (get_or tape o 0) 0) refl h e
 
   read_one : (v : Verdict) → record_verdict tape lent o p ≡ v →
-      let w : Verdict = decided v (terms_verdict tape lent o) Verdict.Refuse in Turn w (eqb (get_or tape o 0) 0) (upon w)
+      let w : Verdict = decided v (terms_verdict tape lent o) Refuse in Turn w (eqb (get_or tape o 0) 0) (upon w)
   unfolding upon
-  read_one (Verdict.Refuse number place) e = refuse number place (refused-number _ (record-numbered lent.followed tape o (allowed p)) e)
-  read_one Verdict.Accept e = judged (terms_verdict tape lent o) refl (passed_record lent.followed tape o (allowed p) e)
+  read_one (Refuse number place) e = refuse number place (refused-number _ (record-numbered lent.followed tape o (allowed p)) e)
+  read_one Accept e = judged (terms_verdict tape lent o) refl (passed_record lent.followed tape o (allowed p) e)
 
   pub turn : Turn (verdict tape lent o p) (eqb (get_or tape o 0) 0) (parse_from (suc k) tape lent o p)
   turn = subst (Turn (verdict tape lent o p) (eqb (get_or tape o 0) 0)) unrolled (read_one (record_verdict tape lent o p) refl)
 
   -- reading goes on over a record that its rows and the rows of its terms accept, and ends at the end
-  pub unrolled_on : record_verdict tape lent o p ≡ Verdict.Accept → terms_verdict tape lent o ≡ Verdict.Accept →
+  pub unrolled_on : record_verdict tape lent o p ≡ Accept → terms_verdict tape lent o ≡ Accept →
       ¬ (get_or tape o 0 ≡ 0) →
       parse_from (suc k) tape lent o p
       ≡ parse_from k tape lent (next_at tape o) (absorbed p (entry_at tape o))
   unfolding after upon
   unrolled_on a b z =
       sym unrolled
-      ∙ ap₂ (λ (v w : Verdict). upon (decided v w Verdict.Refuse)) a b
+      ∙ ap₂ (λ (v w : Verdict). upon (decided v w Refuse)) a b
       ∙ ap after (ne_eqb (get_or tape o 0) 0 z)
 
-  pub unrolled_end : record_verdict tape lent o p ≡ Verdict.Accept → terms_verdict tape lent o ≡ Verdict.Accept →
+  pub unrolled_end : record_verdict tape lent o p ≡ Accept → terms_verdict tape lent o ≡ Accept →
       get_or tape o 0 ≡ 0 → parse_from (suc k) tape lent o p ≡ whole p
   unfolding after upon
   unrolled_end a b z =
       sym unrolled
-      ∙ ap₂ (λ (v w : Verdict). upon (decided v w Verdict.Refuse)) a b
+      ∙ ap₂ (λ (v w : Verdict). upon (decided v w Refuse)) a b
       ∙ ap after (eq-eqb (get_or tape o 0) 0 z)
 
 -- as many records as there are bytes left are enough, and more change nothing

@@ -8,9 +8,8 @@ use lib.Dec.{eqb, ltb}
 use lib.ListN.{length, get_or, take, drop, length-append, length-drop}
 use lib.Seq.{take-suc, take-length}
 use borrow.Author.Tests.{lt-leb, le-ltb, ne_eqb}
-use Rattle.model.specs.declared.Verdict.{Verdict}
 use Rattle.model.specs.declared.Entry.{Entry}
-use Rattle.model.specs.Verdict.{first_refusal}
+use Rattle.model.specs.Verdict.{Accept, first_refusal}
 use Rattle.model.specs.Tape.{kinds, known, body_length, encoded, Progress, allowed, absorbed, record_rows, entry_rows, Parse, whole, parse_from}
 use Rattle.model.proofs.Refusals.{accepted, passed}
 use Rattle.model.specs.declared.Lent.{Lent}
@@ -18,7 +17,7 @@ use Rattle.roundtrip.proofs.Turns.{next_at, terms_verdict, Passed, unrolled_on, 
 use Rattle.roundtrip.proofs.Entries.{Ranged, kind_of, kind_size, kind_here, entry_here}
 
 -- the rows of a record accept it
-pub record-passes : (followed : Bool) (tape : List ℕ) (o : ℕ) (may : ℕ → Bool) → Passed followed tape o may → first_refusal (record_rows followed tape o may) ≡ Verdict.Accept
+pub record-passes : (followed : Bool) (tape : List ℕ) (o : ℕ) (may : ℕ → Bool) → Passed followed tape o may → first_refusal (record_rows followed tape o may) ≡ Accept
 unfolding record_rows
 record-passes followed tape o may h =
     passed _ _ (lt-leb (length tape) o h.inside)
@@ -34,7 +33,7 @@ record-passes followed tape o may h =
     after false (suc k) l = ap (λ (t : Bool). t && ltb (o + 1) (length tape)) (ne_eqb (suc k) 0 (λ z. absurd (omega arith)))
 
 module _ (tape : List ℕ) (lent : Lent) (k o : ℕ) (p : Progress) (e : Entry) (rest : List ℕ) (here : drop o tape ≡ encoded e ++ rest)
-    (may : allowed p (kind_of e) ≡ true) (v : first_refusal (entry_rows o lent e) ≡ Verdict.Accept) where
+    (may : allowed p (kind_of e) ≡ true) (v : first_refusal (entry_rows o lent e) ≡ Accept) where
   kind : get_or tape o 0 ≡ kind_of e
   kind = kind_here tape o e rest here
 
@@ -63,7 +62,7 @@ module _ (tape : List ℕ) (lent : Lent) (k o : ℕ) (p : Progress) (e : Entry) 
           omega (arith, fills, last z, (kind_size e).1, body)
 
   module _ (r : Ranged e) where
-    judged : terms_verdict tape lent o ≡ Verdict.Accept
+    judged : terms_verdict tape lent o ≡ Accept
     judged =
         ap (λ (x : Entry). first_refusal (entry_rows o lent x)) (entry_here tape o e rest here r) ∙ v
 
@@ -83,7 +82,7 @@ module _ (tape : List ℕ) (lent : Lent) {A : Type 0} (entry : A → Entry) (siz
   pub record Passes (place : ℕ) (former : List A) (x : A) : Type 0 where
     pub here : (rest : List ℕ) × (drop place tape ≡ encoded (entry x) ++ rest)
     pub may : allowed (read former) (kind_of (entry x)) ≡ true
-    pub accepts : first_refusal (entry_rows place lent (entry x)) ≡ Verdict.Accept
+    pub accepts : first_refusal (entry_rows place lent (entry x)) ≡ Accept
     pub ranged : Ranged (entry x)
     pub inner : ¬ (kind_of (entry x) ≡ 0)
     pub sized : length (encoded (entry x)) ≡ size

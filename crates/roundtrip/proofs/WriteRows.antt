@@ -8,8 +8,7 @@ use lib.ListN.{length}
 use Rattle.lists.specs.Lists.{overwritten}
 use Rattle.model.specs.declared.Terms.{Terms}
 use Rattle.model.specs.declared.Rounds.{Rounds}
-use Rattle.model.specs.declared.Verdict.{Verdict}
-use Rattle.model.specs.Verdict.{first_refusal, left}
+use Rattle.model.specs.Verdict.{Verdict, Accept, Refuse, first_refusal, left}
 use Rattle.model.specs.Accepted.{WriteAllowed}
 use Rattle.model.proofs.Accepted.{write_accepted}
 use mathlib.Core.Logic.{◌↔◌}
@@ -31,15 +30,15 @@ module _ (t : Terms) (r : Rounds) (samples : List ℕ) (weights numbers : List �
 -- an answer with number 0 is an acceptance
 pub accepted-answer : (t : Terms) (r : Rounds) (samples : List ℕ) (weights numbers : List ℤ) (output : List ℕ) →
     (write_answer t r samples weights numbers output).number ≡ 0 →
-    first_refusal (write_rows t r samples weights numbers (length output)) ≡ Verdict.Accept
+    first_refusal (write_rows t r samples weights numbers (length output)) ≡ Accept
 unfolding write_answer write_verdict
 accepted-answer t r samples weights numbers output h =
     go (first_refusal (write_rows t r samples weights numbers (length output))) refl h
   where
     go : (v : Verdict) → first_refusal (write_rows t r samples weights numbers (length output)) ≡ v →
-        (write_of v (length (tape_of t r samples weights numbers))).number ≡ 0 → v ≡ Verdict.Accept
-    go Verdict.Accept e z = refl
-    go (Verdict.Refuse n p) e z =
+        (write_of v (length (tape_of t r samples weights numbers))).number ≡ 0 → v ≡ Accept
+    go Accept e z = refl
+    go (Refuse n p) e z =
         absurd (omega (arith, refused-number (write_rows t r samples weights numbers (length output)) (omega arith) e))
 
 -- .. so write accepts exactly the jobs that are allowed

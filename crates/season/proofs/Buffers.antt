@@ -1,21 +1,11 @@
--- A window's bytes when bytes are moved and when more come. Assumes nothing.
-use mathlib.Core.Path.{◌≡◌, sym, ap, ◌∙◌}
+-- A window's bytes when more come. Assumes nothing.
+use mathlib.Core.Path.{◌≡◌, ap, ◌∙◌}
 use mathlib.Core.List.{List, ◌++◌}
 use Prim.Native.Nat.{ℕ, ◌+◌, ◌-◌, ◌≤◌}
 use native.Mathlib.Omega.{arith}
-use lib.ListN.{length, get_or, take, drop}
+use lib.ListN.{length, take, drop}
 use lib.Seq.{drop-append-le, drop_at, length-take-le, take-append-add}
-use Rattle.lists.specs.Lists.{table, overwritten}
-use Rattle.lists.proofs.Tables.{length-table}
-use Rattle.lists.proofs.Parts.{part_table, drop-take, part_length}
-use Rattle.lists.proofs.Placed.{take-overwritten}
-
--- bytes that were moved to the front
-pub moved : (buffer : List ℕ) (start count : ℕ) → start + count ≤ length buffer →
-    take count (drop 0 (overwritten (table count (λ i. get_or buffer (start + i) 0)) buffer)) ≡ take count (drop start buffer)
-moved buffer start count h =
-    take-overwritten buffer (table count (λ i. get_or buffer (start + i) 0)) (length-table count _)
-    ∙ sym (part_table buffer start count 0 h)
+use Rattle.lists.proofs.Parts.{drop-take, part_length}
 
 -- bytes that came behind a window
 pub grown : (buffer part : List ℕ) (start end more : ℕ) → start ≤ end → end ≤ length buffer →

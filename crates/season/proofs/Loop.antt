@@ -51,7 +51,7 @@ same-lent k i = lent_in (k.samples_length i) (k.weights_length i) (k.flow_length
 -- of a reader whose bytes are known these are the first; all, where the input has ended
 pub record Taken (known now : Option (List ℕ)) (input : List ℕ) (w : Window) : Type 0 where
   pub first_bytes : Consumes known now input
-  pub all_bytes : w.ended ≡ true → w.failed ≡ false → IsAtEnd now
+  pub all_bytes : w.ended ≡ true → IsAtEnd now
 
 -- so the report on them, whatever follows, is the report on all
 reported : (lent : Lent) (t : Totals) (input : List ℕ) {r : Report} {ended : Bool} (known now : Option (List ℕ)) → Consumes known now input →
@@ -69,7 +69,7 @@ pub record Invariant (lent : Lent) (buffer : List ℕ) (s : State) : Type 0 wher
 
 module _ (lent : Lent) where
   abbrev unread : ParserState → Totals → State
-  unread t n = record { window = record { start = 0; end = 0; ended = false; failed = false }; at = 0; parser = t; totals = n }
+  unread t n = record { window = record { start = 0; end = 0; ended = false }; at = 0; parser = t; totals = n }
 
   abbrev pub begins : (buffer : List ℕ) {t : ParserState} {n : Totals} → t ≡ state_of nothing → n ≡ totals_of [] → Invariant lent buffer (unread t n)
   begins buffer {t} {n} e f =
@@ -120,7 +120,7 @@ module _ (lent : Lent) where
         }
 
     pub stopped : {e : Ended} → Stops lent buffer s.window s.totals e → ReportOf lent e
-    stopped g ok = (k.input, λ rest f. k.report rest ∙ g.report ok rest f)
+    stopped g = (k.input, λ rest f. k.report rest ∙ g.report rest f)
 
     -- what came is what was read next
     pub came : {later : List ℕ} {i : Window} (g : Grown buffer s.window later i) → new_bytes s.window later i ≡ g.more
@@ -131,11 +131,11 @@ module _ (lent : Lent) where
     -- where the bytes are known
     module _ {known now : Option (List ℕ)} (h : Taken known now k.input s.window) where
       pub taken-on : {r : State} (g : Continues lent buffer s.window s.totals r) → Taken known now (continued g).input r.window
-      taken-on g = record { first_bytes = h.first_bytes; all_bytes = λ e f. h.all_bytes (sym g.ended ∙ e) (sym g.failed ∙ f) }
+      taken-on g = record { first_bytes = h.first_bytes; all_bytes = λ e. h.all_bytes (sym g.ended ∙ e) }
 
       pub taken_more : {t : ParserState} {at : ℕ} {later : List ℕ} {i : Window} (n : NeedsMore (at_hand buffer s.window) s.window.ended lent t at)
           (g : Grown buffer s.window later i) {next : Option (List ℕ)} → Consumes now next (new_bytes s.window later i) →
-          (i.ended ≡ true → i.failed ≡ false → IsAtEnd next) → Taken known next (grown n g).input i
+          (i.ended ≡ true → IsAtEnd next) → Taken known next (grown n g).input i
       taken_more n g {next} first all =
           record {
             first_bytes = Consumes-trans known now next k.input g.more h.first_bytes (subst (Consumes now next) (came g) first);
@@ -143,5 +143,5 @@ module _ (lent : Lent) where
           }
 
       pub known_report : {e : Ended} → Stops lent buffer s.window s.totals e → KnownReport lent known e
-      known_report {e} g ok =
-          reported lent (totals_of []) k.input known now h.first_bytes (λ z. h.all_bytes (sym g.ended ∙ z) (sym g.failed ∙ ok)) (λ rest f. k.report rest ∙ g.report ok rest f)
+      known_report {e} g =
+          reported lent (totals_of []) k.input known now h.first_bytes (λ z. h.all_bytes (sym g.ended ∙ z)) (λ rest f. k.report rest ∙ g.report rest f)

@@ -6,9 +6,9 @@ use Prim.Native.Nat.{ℕ, ◌+◌, ◌-◌, ◌*◌, ◌≤◌, ◌<◌}
 use native.Mathlib.Omega.{arith}
 use lib.ListN.{length, take, drop, length-drop, length-append}
 use lib.Seq.{take-append-le, drop-drop}
+use Rattle.model.specs.Verdict.{Accept}
 use Rattle.model.specs.declared.Lent.{Lent}
 use Rattle.model.specs.declared.Totals.{Totals}
-use Rattle.model.specs.declared.Verdict.{Verdict}
 use Rattle.model.specs.Tape.{nothing}
 use Rattle.tape_records.specs.declared.state.ParserState.{ParserState}
 use Rattle.tape_records.specs.State.{state_of}
@@ -30,7 +30,7 @@ size_of buffer w l = part_length w.start (w.end - w.start) buffer (omega (arith,
 module _ (lent : Lent) (buffer : List ℕ) (w : Window) (within : WindowIn buffer w) {totals after : Totals} {n : ℕ}
     (g : CountsJob (at_hand buffer w) lent totals after n) where
   abbrev behind : Window
-  behind = record { start = w.start + n; end = w.end; ended = w.ended; failed = w.failed }
+  behind = record { start = w.start + n; end = w.end; ended = w.ended }
 
   size : length (at_hand buffer w) ≡ w.end - w.start
   size = size_of buffer w within
@@ -47,7 +47,6 @@ module _ (lent : Lent) (buffer : List ℕ) (w : Window) (within : WindowIn buffe
       record {
         within = record { ordered = omega (arith, size, g.inside, within.ordered); inside = within.inside };
         ended = refl;
-        failed = refl;
         first = refl;
         unread = refl;
         bounded = g.bounded;
@@ -58,7 +57,7 @@ module _ (lent : Lent) (buffer : List ℕ) (w : Window) (within : WindowIn buffe
 
   -- the last job
   pub last_counted : totals.jobs < 65535 → 65535 ≤ after.jobs →
-      Reports (at_hand buffer w) w.ended lent totals (record { totals = after; ending = Verdict.Accept })
+      Reports (at_hand buffer w) w.ended lent totals (record { totals = after; ending = Accept })
   last_counted few l rest _ = g.report rest ∙ full_report lent after (drop n (at_hand buffer w) ++ rest) (omega (arith, g.one))
 
 -- less is left to do behind a job

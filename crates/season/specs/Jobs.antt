@@ -1,7 +1,8 @@
 -- How far a season has been read, and what its report still depends on.
-use Rattle.std.specs.Prelude.{◌≡◌, false, cond, IfSome, List, [], ◌++◌, ℕ, ◌+◌, ◌-◌, ◌*◌, ◌≤◌, ◌<◌, Option}
+use Rattle.std.specs.Prelude.{◌≡◌, cond, IfSome, List, [], ◌++◌, ℕ, ◌+◌, ◌-◌, ◌*◌, ◌≤◌, ◌<◌, Option}
 use Rattle.model.specs.declared.Lent.{Lent}
 use Rattle.model.specs.declared.Totals.{Totals}
+use Rattle.model.specs.Verdict.{verdict_of}
 use Rattle.model.specs.Tape.{nothing}
 use Rattle.model.specs.Season.{totals_of}
 use Rattle.tape_records.specs.State.{state_of}
@@ -42,7 +43,6 @@ left s =
 pub record Continues (lent : Lent) (buffer : List ℕ) (w : Window) (totals : Totals) (r : State) : Type 0 where
   pub within : WindowIn buffer r.window
   pub ended : r.window.ended ≡ w.ended
-  pub failed : r.window.failed ≡ w.failed
   pub first : r.at ≡ 0
   pub unread : r.parser ≡ state_of nothing
   pub bounded : Bounded r.totals
@@ -52,13 +52,11 @@ pub record Continues (lent : Lent) (buffer : List ℕ) (w : Window) (totals : To
       (rest : List ℕ) →
       report_from lent totals (at_hand buffer w ++ rest) ≡ report_from lent r.totals (at_hand buffer r.window ++ rest)
 
--- .. or the season's end, with whether the input ended or a read failed as the window has it: where none failed, the report on
--- all that is at hand and may follow
+-- .. or the season's end, with whether the input ended as the window has it, and the report on all that is at hand and may
+-- follow
 pub record Stops (lent : Lent) (buffer : List ℕ) (w : Window) (totals : Totals) (e : Ended) : Type 0 where
   pub ended : e.ended ≡ w.ended
-  pub failed : e.failed ≡ w.failed
-  pub report :
-      e.failed ≡ false → Reports (at_hand buffer w) e.ended lent totals (record { totals = e.totals; ending = e.ending })
+  pub report : Reports (at_hand buffer w) e.ended lent totals (record { totals = e.totals; ending = verdict_of e.ending })
 
 -- .. or more bytes are wanted
 abbrev pub StepOf : Lent → List ℕ → Window → Totals → Step → Type 0
@@ -69,11 +67,9 @@ StepOf lent buffer w totals (Step.Stop e) = Stops lent buffer w totals e
 -- the report of a season: for some bytes, and for these with any behind them if the input had not ended
 abbrev pub ReportOf : Lent → Ended → Type 0
 ReportOf lent e =
-    e.failed ≡ false →
-    (input : List ℕ) × Reports input e.ended lent (totals_of []) (record { totals = e.totals; ending = e.ending })
+    (input : List ℕ) × Reports input e.ended lent (totals_of []) (record { totals = e.totals; ending = verdict_of e.ending })
 
 -- .. and where these bytes are known: the report on them
 abbrev pub KnownReport : Lent → Option (List ℕ) → Ended → Type 0
 KnownReport lent known e =
-    e.failed ≡ false →
-    IfSome known (λ input. report_from lent (totals_of []) input ≡ record { totals = e.totals; ending = e.ending })
+    IfSome known (λ input. report_from lent (totals_of []) input ≡ record { totals = e.totals; ending = verdict_of e.ending })

@@ -26,7 +26,7 @@ pub record WithRoom (before : List ℕ) (w : Window) (after : List ℕ) (r : Win
   pub room : r.end < length after
   pub same : at_hand after r ≡ at_hand before w
 
--- the same bytes, and more behind them; none if the input has ended or the read failed
+-- the same bytes, and more behind them; none if the input has ended
 pub record Grown (before : List ℕ) (w : Window) (after : List ℕ) (r : Window) : Type 0 where
   pub more : List ℕ
   pub within : WindowIn after r

@@ -1,18 +1,18 @@
 // The jobs of standard input, one behind the other.
 
-ghost use Rattle.std.specs.Prelude.{List, ℕ, ◌<◌, length};
+ghost use Rattle.std.specs.Prelude.{List, ℕ, ◌<◌, IfOk, length};
 ghost use Rattle.model.specs.declared.Lent.{Lent};
 ghost use Rattle.stream.specs.Jobs.{lent_in};
 ghost use Rattle.stream.specs.AtHand.{NextJob};
 ghost use Rattle.season.specs.Window.{at_hand, WindowIn};
 ghost use Rattle.season.specs.Jobs.{ValidState, StepOf, ReportOf, KnownReport, SeasonTables};
 
-use crate::window::{Window, more_bytes};
-use model::{Totals, Verdict};
+use crate::window::{ReadFailed, Window};
+use model::{Refusal, Totals};
 use std::io::Read;
 use stream::next::{Next, next_job};
 use stream::totals::no_jobs;
-use tape_records::state::{ParserState, initial};
+use tape_records::state::ParserState;
 
 // The bytes at hand, what has been read of the job at their front and where its next record begins,
 // and the totals of the jobs before it.
@@ -24,14 +24,12 @@ pub struct State {
     pub totals: Totals,
 }
 
-// How a season ended: its totals, whether a job was refused, whether the input has ended, and
-// whether a read failed.
+// How a season ended: its totals, whether a job was refused, and whether the input has ended.
 #[derive(Clone, Copy)]
 pub struct Ended {
     pub totals: Totals,
-    pub ending: Verdict,
+    pub ending: Result<(), Refusal>,
     pub ended: bool,
-    pub failed: bool,
 }
 
 // One step: on to the next state, more bytes for the job, of which so much has been read, or the
@@ -43,81 +41,71 @@ pub enum Step {
     Stop(Ended),
 }
 
-// The step that follows, once what the bytes at hand come to is known. The last of 65,535 jobs ends the
-// season.
-fn step_on(w: Window, totals: Totals, n: Next) -> Step
-    requires { (lent : Lent) × (buffer : List ℕ) × WindowIn buffer w × NextJob (at_hand buffer w) w.ended lent totals n }
-    ensures { (lent : Lent) (buffer : List ℕ) → WindowIn buffer w → totals.jobs < 65535 → NextJob (at_hand buffer w) w.ended lent totals n → StepOf lent buffer w totals result }
-{
-    match n {
-        Next::Over => Step::Stop(Ended {
-            totals,
-            ending: Verdict::Accept,
-            ended: w.ended,
-            failed: w.failed,
-        }),
-        Next::Refused(number, place) => Step::Stop(Ended {
-            totals,
-            ending: Verdict::Refuse { number, place },
-            ended: w.ended,
-            failed: w.failed,
-        }),
-        Next::Counted(after, size) => {
-            if after.jobs < 65535 {
-                let window = Window {
-                    start: w.start + size,
-                    end: w.end,
-                    ended: w.ended,
-                    failed: w.failed,
-                };
-                let parser = initial();
-                return Step::Continue(State {
-                    window,
-                    at: 0,
-                    parser,
-                    totals: after,
-                });
-            }
-            Step::Stop(Ended {
-                totals: after,
-                ending: Verdict::Accept,
-                ended: w.ended,
-                failed: w.failed,
-            })
+impl State {
+    // The step that follows, once what the bytes at hand come to is known. The last of 65,535 jobs ends the
+    // season.
+    fn step_on(self, n: Result<Next, Refusal>) -> Step
+        requires { (lent : Lent) × (buffer : List ℕ) × WindowIn buffer self.window × NextJob (at_hand buffer self.window) self.window.ended lent self.totals n }
+        ensures { (lent : Lent) (buffer : List ℕ) → WindowIn buffer self.window → self.totals.jobs < 65535 → NextJob (at_hand buffer self.window) self.window.ended lent self.totals n → StepOf lent buffer self.window self.totals result }
+    {
+        let ended = self.window.ended;
+        match n {
+            Err(refusal) => Step::Stop(Ended {
+                totals: self.totals,
+                ending: Err(refusal),
+                ended,
+            }),
+            Ok(Next::Over) => Step::Stop(Ended {
+                totals: self.totals,
+                ending: Ok(()),
+                ended,
+            }),
+            Ok(Next::Counted(totals, _)) if totals.jobs == 65535 => Step::Stop(Ended {
+                totals,
+                ending: Ok(()),
+                ended,
+            }),
+            Ok(Next::Counted(totals, size)) => Step::Continue(State {
+                window: Window {
+                    start: self.window.start + size,
+                    ..self.window
+                },
+                at: 0,
+                parser: ParserState::initial(),
+                totals,
+            }),
+            Ok(Next::More(parser, at)) => Step::Read(parser, at),
         }
-        Next::More(parser, at) => Step::Read(parser, at),
     }
-}
 
-// A job is counted, or more bytes are wanted.
-fn advance(
-    buffer: &[u8],
-    s: State,
-    samples: &mut [u8],
-    weights: &mut [i32],
-    flow: &mut [i32],
-    image: &mut [i32],
-    work: &mut [i32],
-) -> Step
-    requires { ValidState (lent_in (length samples.old) (length weights.old) (length flow.old)) buffer.now s × SeasonTables (length buffer.now) (length samples.old) (length flow.old) (length image.old) (length work.old) }
-    ensures { StepOf (lent_in (length samples.old) (length weights.old) (length flow.old)) buffer.now s.window s.totals result }
-{
-    let w = s.window;
-    let start = w.start;
-    let end = w.end;
-    let n = next_job(
-        &buffer[start..end],
-        w.ended,
-        s.at,
-        s.parser,
-        s.totals,
-        samples,
-        weights,
-        flow,
-        image,
-        work,
-    );
-    step_on(w, s.totals, n)
+    // A job is counted, or more bytes are wanted.
+    fn advance(
+        self,
+        buffer: &[u8],
+        samples: &mut [u8],
+        weights: &mut [i32],
+        flow: &mut [i32],
+        image: &mut [i32],
+        work: &mut [i32],
+    ) -> Step
+        requires { ValidState (lent_in (length samples.old) (length weights.old) (length flow.old)) buffer.now self × SeasonTables (length buffer.now) (length samples.old) (length flow.old) (length image.old) (length work.old) }
+        ensures { StepOf (lent_in (length samples.old) (length weights.old) (length flow.old)) buffer.now self.window self.totals result }
+    {
+        let w = self.window;
+        let n = next_job(
+            &buffer[w.start..w.end],
+            w.ended,
+            self.at,
+            self.parser,
+            self.totals,
+            samples,
+            weights,
+            flow,
+            image,
+            work,
+        );
+        self.step_on(n)
+    }
 }
 
 // The jobs of standard input, to its end, a refusal, or the last of 65,535.
@@ -129,43 +117,34 @@ pub fn read_season<R: Read>(
     flow: &mut [i32],
     image: &mut [i32],
     work: &mut [i32],
-) -> Ended
+) -> Result<Ended, ReadFailed>
     requires { SeasonTables (length buffer.old) (length samples.old) (length flow.old) (length image.old) (length work.old) }
-    ensures report { ReportOf (lent_in (length samples.old) (length weights.old) (length flow.old)) result }
-    ensures known_report { KnownReport (lent_in (length samples.old) (length weights.old) (length flow.old)) (R.remaining stdin.old) result }
+    ensures report { IfOk result (ReportOf (lent_in (length samples.old) (length weights.old) (length flow.old))) }
+    ensures known_report { IfOk result (KnownReport (lent_in (length samples.old) (length weights.old) (length flow.old)) (R.remaining stdin.old)) }
 {
-    let window = Window {
-        start: 0,
-        end: 0,
-        ended: false,
-        failed: false,
-    };
     let mut s = State {
-        window,
+        window: Window {
+            start: 0,
+            end: 0,
+            ended: false,
+        },
         at: 0,
-        parser: initial(),
+        parser: ParserState::initial(),
         totals: no_jobs(),
     };
     loop {
-        let step = advance(buffer, s, samples, weights, flow, image, work);
-        match step {
-            Step::Continue(r) => {
-                s = r;
-            }
+        match s.advance(buffer, samples, weights, flow, image, work) {
+            Step::Continue(next) => s = next,
             Step::Read(parser, at) => {
-                let w = s.window;
-                let totals = s.totals;
-                let window = more_bytes(stdin, buffer, w);
+                let window = s.window.more_bytes(stdin, buffer)?;
                 s = State {
                     window,
                     at,
                     parser,
-                    totals,
+                    ..s
                 };
             }
-            Step::Stop(e) => {
-                return e;
-            }
+            Step::Stop(e) => return Ok(e),
         }
     }
 }

@@ -14,12 +14,10 @@ use std::io::ErrorKind;
 
 fn main(rt: HostRuntime) {
     let mut output = [0u8; 512];
-    let r = season_text(&mut rt.stdin(), &mut output);
-    if r.failed {
+    let Ok(count) = season_text(&mut rt.stdin(), &mut output) else {
         let _ = rt.eprintln("season: standard input cannot be read");
         return;
-    }
-    let count = r.count;
+    };
     if let Err(e) = rt.write_all(&output[..count]) {
         // A pipe that nobody reads ends it without a word.
         if e.kind() != ErrorKind::BrokenPipe {

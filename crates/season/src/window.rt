@@ -1,84 +1,78 @@
 // The bytes at hand: a part of a buffer that is filled from standard input.
 
-ghost use Rattle.std.specs.Prelude.{◌≡◌, true, false, ◌+◌, ◌≤◌, ◌<◌, length, get_or};
-ghost use Rattle.std.specs.Io.KnownBytes.{Consumes, IsAtEnd};
-ghost use Rattle.lists.specs.Lists.{table, overwritten};
+ghost use Rattle.std.specs.Prelude.{◌≡◌, true, ◌<◌, IfOk, IfErr, length};
+ghost use Rattle.std.specs.Io.KnownBytes.{Consumes, IsAtEnd, Keeps};
 ghost use Rattle.season.specs.Window.{new_bytes, WindowIn, CanGrow, WithRoom, Grown};
 
 use std::io::Read;
 
-// Where they begin and end, whether the input has ended behind them, and whether it did by a read that
-// failed.
-#[derive(Clone, Copy)]
+// Where they begin and end, and whether the input has ended behind them.
+#[derive(Clone, Copy, Debug, PartialEq, Eq)]
 pub struct Window {
     pub start: usize,
     pub end: usize,
     pub ended: bool,
-    pub failed: bool,
 }
 
-// So many bytes from an offset on, moved to the buffer's front.
-fn move_to_front(buffer: &mut [u8], start: usize, count: usize)
-    requires { start + count ≤ length buffer.old }
-    ensures { buffer.new ≡ overwritten (table count (λ i. get_or buffer.old (start + i) 0)) buffer.old }
-{
-    let mut i = 0;
-    while i < count {
-        buffer[i] = buffer[start + i];
-        i += 1;
-    }
+// Standard input cannot be read; the bytes at hand are still there.
+#[derive(Clone, Copy, Debug, PartialEq, Eq)]
+pub struct ReadFailed {
+    pub window: Window,
 }
 
-// A window with room behind it. The bytes at hand are moved only when they reach the buffer's end.
-fn make_room(buffer: &mut [u8], w: Window) -> Window
-    requires { CanGrow buffer.old w }
-    ensures { WithRoom buffer.old w buffer.new result }
-{
-    if w.end < buffer.len() {
-        return w;
+impl Window {
+    // A window with room behind it. The bytes at hand are moved only when they reach the buffer's end.
+    fn with_room(self, buffer: &mut [u8]) -> Window
+        requires { CanGrow buffer.old self }
+        ensures { WithRoom buffer.old self buffer.new result }
+    {
+        if self.end < buffer.len() {
+            return self;
+        }
+        buffer.copy_within(self.start..self.end, 0);
+        Window {
+            start: 0,
+            end: self.end - self.start,
+            ..self
+        }
     }
-    let count = w.end - w.start;
-    move_to_front(buffer, w.start, count);
-    Window {
-        start: 0,
-        end: count,
-        ended: w.ended,
-        failed: w.failed,
-    }
-}
 
-// One read, behind the bytes at hand. Of a reader whose bytes are known it gives the first of these; it
-// ends only where there is none, if there is room.
-fn read_more<R: Read>(stdin: &mut R, buffer: &mut [u8], w: Window) -> Window
-    requires { WindowIn buffer.old w }
-    ensures grown { Grown buffer.old w buffer.new result }
-    ensures first_bytes { Consumes (R.remaining stdin.old) (R.remaining stdin.new) (new_bytes w buffer.new result) }
-    ensures all_bytes { w.end < length buffer.old → result.ended ≡ true → result.failed ≡ false → IsAtEnd (R.remaining stdin.new) }
-{
-    let end = w.end;
-    match stdin.read(&mut buffer[end..]) {
-        Ok(more) => Window {
-            start: w.start,
-            end: end + more,
-            ended: more == 0,
-            failed: false,
-        },
-        Err(_) => Window {
-            start: w.start,
-            end,
-            ended: true,
-            failed: true,
-        },
+    // One read, behind the bytes at hand. Of a reader whose bytes are known it gives the first of these; it
+    // ends only where there is none, if there is room.
+    fn read_more<R: Read>(self, stdin: &mut R, buffer: &mut [u8]) -> Result<Window, ReadFailed>
+        requires { WindowIn buffer.old self }
+        ensures grown { IfOk result (Grown buffer.old self buffer.new) }
+        ensures first_bytes { IfOk result (λ r. Consumes (R.remaining stdin.old) (R.remaining stdin.new) (new_bytes self buffer.new r)) }
+        ensures all_bytes { IfOk result (λ r. self.end < length buffer.old → r.ended ≡ true → IsAtEnd (R.remaining stdin.new)) }
+        ensures kept { IfErr result (λ e. Grown buffer.old self buffer.new e.window) }
+        ensures none_read { IfErr result (λ _. Keeps (R.remaining stdin.old) (R.remaining stdin.new)) }
+    {
+        match stdin.read(&mut buffer[self.end..]) {
+            Ok(more) => Ok(Window {
+                end: self.end + more,
+                ended: more == 0,
+                ..self
+            }),
+            Err(_) => {
+                let window = Window {
+                    ended: true,
+                    ..self
+                };
+                Err(ReadFailed { window })
+            }
+        }
     }
-}
 
-// More bytes behind those at hand, if the input has more.
-pub fn more_bytes<R: Read>(stdin: &mut R, buffer: &mut [u8], w: Window) -> Window
-    requires { CanGrow buffer.old w }
-    ensures grown { Grown buffer.old w buffer.new result }
-    ensures first_bytes { Consumes (R.remaining stdin.old) (R.remaining stdin.new) (new_bytes w buffer.new result) }
-    ensures all_bytes { result.ended ≡ true → result.failed ≡ false → IsAtEnd (R.remaining stdin.new) }
-{
-    let moved = make_room(buffer, w);
-    read_more(stdin, buffer, moved)
+    // More bytes behind those at hand, if the input has more.
+    pub fn more_bytes<R: Read>(self, stdin: &mut R, buffer: &mut [u8]) -> Result<Window, ReadFailed>
+        requires { CanGrow buffer.old self }
+        ensures grown { IfOk result (Grown buffer.old self buffer.new) }
+        ensures first_bytes { IfOk result (λ r. Consumes (R.remaining stdin.old) (R.remaining stdin.new) (new_bytes self buffer.new r)) }
+        ensures all_bytes { IfOk result (λ r. r.ended ≡ true → IsAtEnd (R.remaining stdin.new)) }
+        ensures kept { IfErr result (λ e. Grown buffer.old self buffer.new e.window) }
+        ensures none_read { IfErr result (λ _. Keeps (R.remaining stdin.old) (R.remaining stdin.new)) }
+    {
+        let moved = self.with_room(buffer);
+        moved.read_more(stdin, buffer)
+    }
 }

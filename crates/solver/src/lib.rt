@@ -2,7 +2,7 @@
 
 #![tactic(auto)]
 
-pub mod buffers;
 pub mod quick;
+pub mod scan;
 pub mod solve;
 pub mod steady;

@@ -2,14 +2,6 @@
 -- the step of crate `model` is proved in passes/proofs/Model.antt.
 use Rattle.std.specs.Prelude.{Bool, not, ℤ, neg_ℤ, ◌+ℤ◌, ◌-ℤ◌}
 use Rattle.integers.specs.Whole.{clamp, same_z}
-use Rattle.model.specs.Rounds.{eighth, nearest_eighth}
-use Rattle.stencil.specs.declared.pair.Round.{Round}
-use Rattle.stencil.specs.declared.pair.Round.TheVariants.{Quick, Steady}
-
--- The share of a fall in each kind of round
-abbrev pub share_of : Round → ℤ → ℤ
-share_of Quick = eighth
-share_of Steady = nearest_eighth
 
 -- The number of a pair after a step, from its number f and its pixels' values x and y
 unfoldable pub step_value : (ℤ → ℤ) → ℤ → ℤ → ℤ → ℤ → ℤ

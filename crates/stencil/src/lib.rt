@@ -4,3 +4,4 @@
 
 pub mod pair;
 pub mod pixel;
+pub mod rounding;

@@ -6,12 +6,14 @@ use Prim.Native.Nat.{ℕ, ◌≤◌, ◌<◌}
 use native.Mathlib.Omega.{arith}
 use lib.ListN.{length, take, drop, length-append, length-take}
 use lib.Seq.{take_all, drop-append-le}
+use Rattle.model.specs.Verdict.{Accept, Refuse}
 use Rattle.lists.proofs.Tables.{length_none}
 use Rattle.model.specs.declared.Lent.{Lent}
 use Rattle.model.specs.declared.Terms.{Terms}
 use Rattle.model.specs.declared.Totals.{Totals}
-use Rattle.model.specs.declared.Answer.{Answer}
-use Rattle.model.specs.declared.Verdict.{Verdict}
+use Rattle.std.specs.Prelude.{Result}
+use Rattle.model.specs.declared.Ending.{Ending}
+use Rattle.model.specs.declared.Refusal.{Refusal}
 use Rattle.model.specs.Tape.{turned, parse}
 use Rattle.model.specs.Season.{bytes_of, treated}
 use Rattle.tape_records.specs.declared.state.ParserState.{ParserState}
@@ -26,13 +28,13 @@ use Rattle.stream.proofs.First.{no_bytes, first-whole, first-faulty, first_past,
 use Rattle.stream.proofs.Reports.{over_report, refused-report, counted-report}
 
 abbrev ends : Totals → ℕ → ℕ → Report
-ends t number place = record { totals = t; ending = Verdict.Refuse number place }
+ends t number place = record { totals = t; ending = Refuse number place }
 
 module _ (bytes : List ℕ) (lent : Lent) (t : Totals) (few : t.jobs < 65535) where
   abbrev front : List ℕ
   front = take 65536 bytes
 
-  pub next_counted : {u : Terms} {a : Answer} {after : Totals} {size : ℕ} (c : Whole front lent t u a size) →
+  pub next_counted : {u : Terms} {a : Result Ending Refusal} {after : Totals} {size : ℕ} (c : Whole front lent t u a size) →
       after ≡ with_job t (treated c.job) → CountsJob bytes lent t after size
   unfolding bytes_of
   next_counted {after = after} {size} c is =
@@ -80,5 +82,5 @@ module _ (bytes : List ℕ) (lent : Lent) (t : Totals) (few : t.jobs < 65535) wh
           ∙ refused-report lent t few bytes some
           (first_ended lent bytes l (ap (λ (x : List ℕ). parse x lent) (sym (take_all 65536 bytes l)) ∙ s.refused))
 
-  pub next_over : {ended : Bool} → ended ≡ true → length bytes ≡ 0 → Reports bytes ended lent t (record { totals = t; ending = Verdict.Accept })
+  pub next_over : {ended : Bool} → ended ≡ true → length bytes ≡ 0 → Reports bytes ended lent t (record { totals = t; ending = Accept })
   next_over e z rest follows = ap₂ (λ (x y : List ℕ). report_from lent t (x ++ y)) (length_none bytes z) (follows e) ∙ over_report lent t

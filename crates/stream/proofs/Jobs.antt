@@ -11,10 +11,11 @@ use lib.Seq.{length-take-le, take-take, take-append-le}
 use Rattle.model.specs.declared.Lent.{Lent}
 use Rattle.model.specs.declared.Terms.{Terms}
 use Rattle.model.specs.declared.Totals.{Totals}
-use Rattle.model.specs.declared.Answer.{Answer}
-use Rattle.model.specs.declared.ReadResult.{ReadResult}
-use Rattle.model.specs.declared.Verdict.{Verdict}
-use Rattle.model.specs.Verdict.{or_else, first_refusal}
+use Rattle.std.specs.Prelude.{Result, Ok, Err, None}
+use Rattle.model.specs.declared.Ending.{Ending}
+use Rattle.model.specs.declared.Job.{Job}
+use Rattle.model.specs.declared.Refusal.{Refusal}
+use Rattle.model.specs.Verdict.{Verdict, Accept, Refuse, or_else, first_refusal, refused as turned_back}
 use Rattle.model.specs.Grid.{weight_of}
 use Rattle.model.specs.Calls as Calls
 use Rattle.model.specs.Calls.{pixels_of, first_beyond, flow_row}
@@ -22,7 +23,6 @@ use Rattle.model.specs.Answers.{answer_of, read_answer_of}
 use Rattle.model.specs.Tape.{Progress, turned, whole, judged, unless, parse, too_short, lent_by, read_answer, read_samples, read_weights, read_flow}
 use Rattle.model.specs.Season.{bytes_of}
 use Rattle.tape_records.specs.declared.state.ParserState.{ParserState}
-use Rattle.tape_reader.specs.declared.transition.Transition.{Transition}
 use Rattle.tape_reader.specs.Transition.{transition_at}
 use Rattle.tape_reader.specs.Scan.{records_of, WholeRecords, Reached}
 use Rattle.tape_reader.proofs.Reached as scan
@@ -37,7 +37,7 @@ use Rattle.stream.specs.Jobs.{Ready, lent_in, Short, Refused, Stopped, Answered}
 
 module _ (bytes : List ℕ) (lent : Lent) {t : ParserState} {o : ℕ} (r : Reached bytes lent t o) where
   -- the scan stops at a record that is refused
-  module _ {n q : ℕ} (e : Transition.Refused n q ≡ transition_at bytes o t lent) where
+  module _ {n q : ℕ} (e : turned_back n q ≡ transition_at bytes o t lent) where
     stopped_short : too_short n ≡ true → Short bytes lent n q t o
     unfolding parse
     stopped_short s = record { reached = r; refused = ap judged (scan.refused bytes lent r e); short = s }
@@ -49,7 +49,7 @@ module _ (bytes : List ℕ) (lent : Lent) {t : ParserState} {o : ℕ} (r : Reach
 -- .. or at the end record
 module _ (bytes samples : List ℕ) (weights flow : List ℤ) {t : ParserState} {o : ℕ}
     (r : Reached bytes (lent_in (length samples) (length weights) (length flow)) t o)
-    (e : Transition.Done ≡ transition_at bytes o t (lent_in (length samples) (length weights) (length flow))) where
+    (e : Ok None ≡ transition_at bytes o t (lent_in (length samples) (length weights) (length flow))) where
   abbrev lent : Lent
   lent = lent_in (length samples) (length weights) (length flow)
 
@@ -89,14 +89,14 @@ module _ (bytes samples : List ℕ) (weights flow : List ℤ) {t : ParserState} 
   unfolding parse first_refusal
   faulty {n} {q} h = go (first_refusal (flow_row weight r.progress.flow ∷ [])) refl (sym (ap judged alone) ∙ h)
     where
-      eight : (b : Bool) (x : ℕ) {m l : ℕ} → or_else b (Verdict.Refuse 8 x) Verdict.Accept ≡ Verdict.Refuse m l → m ≡ 8
+      eight : (b : Bool) (x : ℕ) {m l : ℕ} → or_else b (Refuse 8 x) Accept ≡ Refuse m l → m ≡ 8
       eight true x e = cc
       eight false x e = cc
 
       go : (v : Verdict) → first_refusal (flow_row weight r.progress.flow ∷ []) ≡ v →
           unless v (whole r.progress) ≡ turned n q → too_short n ≡ false
-      go Verdict.Accept e h = cc
-      go (Verdict.Refuse m l) e h =
+      go Accept e h = cc
+      go (Refuse m l) e h =
           let is : n ≡ m = cc in
           let flow : List ℤ = r.progress.flow in
           let first : ℕ = first_beyond weight flow in
@@ -117,32 +117,32 @@ answer-shows = record { alike = λ _ _ _ _. refl }
 module _ (bytes samples : List ℕ) (weights flow : List ℤ) {t : ParserState} {o : ℕ}
     (r : Reached bytes (lent_in (length samples) (length weights) (length flow)) t o) where
   -- at a record that is refused
-  pub stopped : {n q : ℕ} → Transition.Refused n q ≡ transition_at bytes o t (lent_in (length samples) (length weights) (length flow)) →
+  pub stopped : {n q : ℕ} → turned_back n q ≡ transition_at bytes o t (lent_in (length samples) (length weights) (length flow)) →
       Stopped bytes (lent_in (length samples) (length weights) (length flow)) n q t o
   stopped e = (stopped_short bytes _ r e, stopped_refused bytes _ r e refl)
 
   -- at the end record
-  module _ (e : Transition.Done ≡ transition_at bytes o t (lent_in (length samples) (length weights) (length flow)))
-      (byte : (i : ℕ) → get_or bytes i 0 < 256) {v : ReadResult}
+  module _ (e : Ok None ≡ transition_at bytes o t (lent_in (length samples) (length weights) (length flow)))
+      (byte : (i : ℕ) → get_or bytes i 0 < 256) {v : Result Job Refusal}
       (read : read_answer_of v ≡ read_answer (take (o + 1) bytes) samples weights flow) where
     pub read-from : ReadFrom (take (o + 1) bytes) samples weights flow v
     read-from = record { byte = front_bytes (o + 1) bytes byte; answer = read }
 
-  pub answered : (e : Transition.Done ≡ transition_at bytes o t (lent_in (length samples) (length weights) (length flow))) →
+  pub answered : (e : Ok None ≡ transition_at bytes o t (lent_in (length samples) (length weights) (length flow))) →
       (byte : (i : ℕ) → get_or bytes i 0 < 256) → {totals : Totals} (image work : List ℤ) →
       Ready totals (length samples) (length flow) (length image) (length work) → {S : List ℕ} {W F : List ℤ} →
       S ≡ read_samples (take (o + 1) bytes) samples weights flow → W ≡ read_weights (take (o + 1) bytes) samples weights flow →
-      F ≡ read_flow (take (o + 1) bytes) samples weights flow → (v : ReadResult) (a : Answer) →
+      F ≡ read_flow (take (o + 1) bytes) samples weights flow → (v : Result Job Refusal) (a : Result Ending Refusal) →
       read_answer_of v ≡ read_answer (take (o + 1) bytes) samples weights flow → answer_of a ≡ answer_for v S W F image work →
       nat_abs (answer_of a).slack ≤ most_slack * pixels_of (read_answer_of v).terms →
       Answered bytes (lent_in (length samples) (length weights) (length flow)) totals v a (o + 1)
-  answered e byte image work ready s w f (ReadResult.Refused n q) a read _ _ =
-      let is = turned-back (take (o + 1) bytes) samples weights flow (front_bytes (o + 1) bytes byte) n q read in
+  answered e byte image work ready s w f (Err x) a read _ _ =
+      let is = turned-back (take (o + 1) bytes) samples weights flow (front_bytes (o + 1) bytes byte) x read in
       record {
         refused = λ behind. same bytes samples weights flow r e behind ∙ is;
         faulty = faulty bytes samples weights flow r e is;
       }
-  answered e byte image work ready s w f (ReadResult.Job u v own given) a read answer small =
+  answered e byte image work ready s w f (Ok job) a read answer small =
       let k = job-taken (read-from e byte read) in
       let pixels = ap (λ (x : Terms). pixels_of x) k.terms in
       let shown = read-shown k image work ready.holds s w f (λ (_ : Terms) (x : Calls.Answer) (_ : List ℤ). x) (λ _. answer-shows) answer refl in

@@ -6,9 +6,9 @@ use Prim.Native.Nat.{ℕ, zero, suc, ◌-◌, ◌<◌}
 use native.Mathlib.Omega.{arith}
 use lib.ListN.{length, drop}
 use borrow.Author.Tests.{ne_eqb}
+use Rattle.model.specs.Verdict.{Verdict, Accept, Refuse}
 use Rattle.model.specs.declared.Lent.{Lent}
 use Rattle.model.specs.declared.Totals.{Totals}
-use Rattle.model.specs.declared.Verdict.{Verdict}
 use Rattle.model.specs.Tape.{Progress, turned, whole}
 use Rattle.model.specs.Season.{first_job, bytes_of, Treated, treated, Season, ended, followed_by, season_from, totals_of, report_text, season_text}
 use Rattle.model.specs.Program.{tables}
@@ -29,26 +29,26 @@ module _ (lent : Lent) (t : Totals) where
   here input v e = ap after e
 
   -- no bytes are left
-  none : (n : ℕ) → season_from lent n [] ≡ ended Verdict.Accept
+  none : (n : ℕ) → season_from lent n [] ≡ ended Accept
   unfolding season_from
   none zero = refl
   none (suc n) = refl
 
-  pub over_report : report_from lent t [] ≡ ends t Verdict.Accept
-  over_report = here [] Verdict.Accept (none (65535 - t.jobs))
+  pub over_report : report_from lent t [] ≡ ends t Accept
+  over_report = here [] Accept (none (65535 - t.jobs))
 
   -- all jobs are counted
-  pub full_report : (input : List ℕ) → t.jobs ≡ 65535 → report_from lent t input ≡ ends t Verdict.Accept
+  pub full_report : (input : List ℕ) → t.jobs ≡ 65535 → report_from lent t input ≡ ends t Accept
   unfolding season_from
   full_report input e =
       let none_left : 65535 - t.jobs ≡ 0 = omega arith in
-      here input Verdict.Accept (ap (λ (n : ℕ). season_from lent n input) none_left)
+      here input Accept (ap (λ (n : ℕ). season_from lent n input) none_left)
 
   module _ (few : t.jobs < 65535) (input : List ℕ) (some : ¬ (length input ≡ 0)) where
     left : 65535 - t.jobs ≡ suc (65534 - t.jobs)
     left = omega arith
 
-    season_turned : (m : ℕ) {n q : ℕ} → first_job lent input ≡ turned n q → season_from lent (suc m) input ≡ ended (Verdict.Refuse n q)
+    season_turned : (m : ℕ) {n q : ℕ} → first_job lent input ≡ turned n q → season_from lent (suc m) input ≡ ended (Refuse n q)
     unfolding season_from
     season_turned m e = rw (ne_eqb (length input) 0 some, e, season_from) refl
 
@@ -56,8 +56,8 @@ module _ (lent : Lent) (t : Totals) where
     unfolding season_from
     season_on m e = rw (ne_eqb (length input) 0 some, e, season_from) refl
 
-    pub refused-report : {n q : ℕ} → first_job lent input ≡ turned n q → report_from lent t input ≡ ends t (Verdict.Refuse n q)
-    refused-report {n} {q} e = here input (Verdict.Refuse n q) (ap (λ (m : ℕ). season_from lent m input) left ∙ season_turned (65534 - t.jobs) e)
+    pub refused-report : {n q : ℕ} → first_job lent input ≡ turned n q → report_from lent t input ≡ ends t (Refuse n q)
+    refused-report {n} {q} e = here input (Refuse n q) (ap (λ (m : ℕ). season_from lent m input) left ∙ season_turned (65534 - t.jobs) e)
 
     pub counted-report : {p : Progress} → first_job lent input ≡ whole p →
         report_from lent t input ≡ report_from lent (with_job t (treated p)) (drop (bytes_of p) input)

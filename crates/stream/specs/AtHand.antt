@@ -1,8 +1,9 @@
 -- What the bytes at hand come to, whatever follows them.
-use Rattle.std.specs.Prelude.{◌≡◌, Bool, false, List, ◌++◌, ℕ, ◌+◌, ◌≤◌, length, drop}
+use Rattle.model.specs.Verdict.{Accept, Refuse, number_of}
+use Rattle.std.specs.Prelude.{◌≡◌, Bool, false, List, ◌++◌, ℕ, ◌+◌, ◌≤◌, Result, Ok, Err, length, drop}
 use Rattle.model.specs.declared.Lent.{Lent}
+use Rattle.model.specs.declared.Refusal.{Refusal}
 use Rattle.model.specs.declared.Totals.{Totals}
-use Rattle.model.specs.declared.Verdict.{Verdict}
 use Rattle.model.specs.Season.{Follows}
 use Rattle.tape_records.specs.declared.state.ParserState.{ParserState}
 use Rattle.tape_reader.specs.Scan.{Reached}
@@ -27,9 +28,9 @@ pub record NeedsMore (bytes : List ℕ) (ended : Bool) (lent : Lent) (t : Parser
   pub few : length bytes ≤ 65536
   pub not_ended : ended ≡ false
 
-abbrev pub NextJob : List ℕ → Bool → Lent → Totals → Next → Type 0
-NextJob bytes ended lent totals (Next.More t at) = NeedsMore bytes ended lent t at
-NextJob bytes ended lent totals Next.Over = Reports bytes ended lent totals (record { totals = totals; ending = Verdict.Accept })
-NextJob bytes ended lent totals (Next.Refused number place) =
-    Reports bytes ended lent totals (record { totals = totals; ending = Verdict.Refuse number place })
-NextJob bytes ended lent totals (Next.Counted after size) = CountsJob bytes lent totals after size
+abbrev pub NextJob : List ℕ → Bool → Lent → Totals → Result Next Refusal → Type 0
+NextJob bytes ended lent totals (Ok (Next.More t at)) = NeedsMore bytes ended lent t at
+NextJob bytes ended lent totals (Ok Next.Over) = Reports bytes ended lent totals (record { totals = totals; ending = Accept })
+NextJob bytes ended lent totals (Ok (Next.Counted after size)) = CountsJob bytes lent totals after size
+NextJob bytes ended lent totals (Err r) =
+    Reports bytes ended lent totals (record { totals = totals; ending = Refuse (number_of r.reason) r.place })

@@ -1,10 +1,12 @@
 -- The job at the front of some bytes, scanned, read and answered, whatever follows them.
-use Rattle.std.specs.Prelude.{◌≡◌, true, false, List, ◌++◌, ℕ, ◌≤◌, ◌<◌, length}
+use Rattle.std.specs.Prelude.{◌≡◌, true, false, List, ◌++◌, ℕ, ◌≤◌, ◌<◌, Result, Ok, Err, length}
 use Rattle.model.specs.declared.Lent.{Lent}
 use Rattle.model.specs.declared.Terms.{Terms}
 use Rattle.model.specs.declared.Totals.{Totals}
-use Rattle.model.specs.declared.Answer.{Answer}
-use Rattle.model.specs.declared.ReadResult.{ReadResult}
+use Rattle.model.specs.declared.Ending.{Ending}
+use Rattle.model.specs.declared.Job.{Job}
+use Rattle.model.specs.declared.Refusal.{Refusal}
+use Rattle.model.specs.Verdict.{number_of}
 use Rattle.model.specs.Grid.{size_allowed}
 use Rattle.model.specs.Calls.{pixels_of}
 use Rattle.model.specs.Answers.{answer_of}
@@ -40,7 +42,7 @@ module _ (bytes : List ℕ) (lent : Lent) where
     pub faulty : too_short number ≡ false
 
   -- the job is read and answered; it can be counted, and has so many bytes
-  pub record Whole (totals : Totals) (t : Terms) (a : Answer) (size : ℕ) : Type 0 where
+  pub record Whole (totals : Totals) (t : Terms) (a : Result Ending Refusal) (size : ℕ) : Type 0 where
     pub job : Progress
     pub read : (behind : List ℕ) → parse (bytes ++ behind) lent ≡ whole job
     pub length_in_bytes : size ≡ bytes_of job
@@ -56,6 +58,6 @@ module _ (bytes : List ℕ) (lent : Lent) where
       (too_short number ≡ true → Short number place t at) × (too_short number ≡ false → Refused number place)
 
   -- .. or at the end record: what was read of the tape that ends there
-  abbrev pub Answered : Totals → ReadResult → Answer → ℕ → Type 0
-  Answered totals (ReadResult.Refused number place) a size = Refused number place
-  Answered totals (ReadResult.Job t r weighted flowed) a size = Whole totals t a size
+  abbrev pub Answered : Totals → Result Job Refusal → Result Ending Refusal → ℕ → Type 0
+  Answered totals (Ok job) a size = Whole totals job.terms a size
+  Answered totals (Err r) a size = Refused (number_of r.reason) r.place

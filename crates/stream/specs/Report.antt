@@ -1,8 +1,8 @@
 -- The report of a season of which some jobs have been counted already.
+use Rattle.model.specs.Verdict.{Verdict}
 use Rattle.std.specs.Prelude.{List, [], ◌∷◌, ℕ, ◌-◌}
 use Rattle.model.specs.declared.Lent.{Lent}
 use Rattle.model.specs.declared.Totals.{Totals}
-use Rattle.model.specs.declared.Verdict.{Verdict}
 use Rattle.model.specs.Season.{Treated, Season, season_from}
 use Rattle.stream.specs.Totals.{with_job}
 

@@ -5,10 +5,10 @@ ghost use Rattle.model.specs.Season.{totals_of};
 ghost use Rattle.model.specs.Answers.{answer_of};
 ghost use Rattle.stream.specs.Totals.{addend_of, peak_of, with_job, Countable};
 
-use model::{Answer, Totals};
+use model::{Ending, Refusal, Totals};
 
 // What a job adds: 1 for the way it ended, and its slack.
-#[derive(Clone, Copy)]
+#[derive(Clone, Copy, Default)]
 struct Addend {
     settled: u32,
     spent: u32,
@@ -26,73 +26,58 @@ struct Peak {
 pub fn no_jobs() -> Totals
     ensures { result ≡ totals_of [] }
 {
-    Totals {
-        jobs: 0,
-        pixels: 0,
-        settled: 0,
-        spent: 0,
-        checked: 0,
-        total: 0,
-        largest: 0,
-        first: 0,
-    }
+    Totals::default()
 }
 
-fn addend_of(answer: Answer) -> Addend
+fn addend_of(answer: Result<Ending, Refusal>) -> Addend
     ensures { result ≡ addend_of (answer_of answer) }
 {
-    let mut s = Addend {
-        settled: 0,
-        spent: 0,
-        checked: 0,
-        slack: 0,
-    };
     match answer {
-        Answer::Refused {
-            number: _,
-            place: _,
-        } => s,
-        Answer::Checked { figures } => {
-            s.checked = 1;
-            s.slack = figures.slack;
-            s
-        }
-        Answer::Settled { moved: _, figures } => {
-            s.settled = 1;
-            s.slack = figures.slack;
-            s
-        }
-        Answer::Spent { moved: _, figures } => {
-            s.spent = 1;
-            s.slack = figures.slack;
-            s
-        }
+        Err(_) => Addend::default(),
+        Ok(Ending::Checked { figures }) => Addend {
+            checked: 1,
+            slack: figures.slack,
+            ..Addend::default()
+        },
+        Ok(Ending::Settled { moved: _, figures }) => Addend {
+            settled: 1,
+            slack: figures.slack,
+            ..Addend::default()
+        },
+        Ok(Ending::Spent { moved: _, figures }) => Addend {
+            spent: 1,
+            slack: figures.slack,
+            ..Addend::default()
+        },
     }
 }
 
 // The job behind these takes the peak where its slack is above the largest of theirs.
-fn peak_with(jobs: u32, largest: u64, first: u32, slack: u64) -> Peak
-    requires { jobs < 65535 }
-    ensures { result ≡ peak_of jobs largest first slack }
+fn peak_with(t: Totals, slack: u64) -> Peak
+    requires { t.jobs < 65535 }
+    ensures { result ≡ peak_of t.jobs t.largest t.first slack }
 {
-    let leads = (jobs == 0) | (largest < slack);
-    if leads {
+    // `|` has no branch, so the proof has one path.
+    if (t.jobs == 0) | (t.largest < slack) {
         Peak {
             largest: slack,
-            first: jobs + 1,
+            first: t.jobs + 1,
         }
     } else {
-        Peak { largest, first }
+        Peak {
+            largest: t.largest,
+            first: t.first,
+        }
     }
 }
 
 // The totals with a job more.
-pub fn with_job(t: Totals, pixels: usize, answer: Answer) -> Totals
+pub fn with_job(t: Totals, pixels: usize, answer: Result<Ending, Refusal>) -> Totals
     requires { Countable t (record { pixels = pixels; answer = answer_of answer }) }
     ensures { result ≡ with_job t (record { pixels = pixels; answer = answer_of answer }) }
 {
     let s = addend_of(answer);
-    let p = peak_with(t.jobs, t.largest, t.first, s.slack);
+    let p = peak_with(t, s.slack);
     Totals {
         jobs: t.jobs + 1,
         pixels: t.pixels + pixels as u64,

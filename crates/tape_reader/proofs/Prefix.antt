@@ -9,15 +9,14 @@ use lib.Dec.{leb, ltb}
 use lib.ListN.{length, get_or, take, length-append, get_or-append}
 use lib.Seq.{get_or-take, take-append-le}
 use borrow.Author.Tests.{leb-false, lt-leb}
-use Rattle.model.specs.declared.Verdict.{Verdict}
 use Rattle.model.specs.declared.Entry.{Entry}
 use Rattle.model.specs.declared.Entry.TheVariants.{End, Size, WeightBox, RoundLimits, Sample, Flow, PairWeight}
-use Rattle.model.specs.Verdict.{first_refusal, decided}
+use Rattle.std.specs.Prelude.{Ok}
+use Rattle.model.specs.Verdict.{Verdict, first_refusal, decided, refused as turned_back}
 use Rattle.model.specs.declared.Lent.{Lent}
 use Rattle.model.specs.Tape.{kinds, known, body_length, decoded, body_rows, record_rows, entry_rows, too_short}
 use Rattle.model.proofs.Refusals.{accepted, refused, passed}
 use Rattle.tape_records.specs.declared.state.ParserState.{ParserState}
-use Rattle.tape_records.specs.declared.parse.RecordResult.{RecordResult}
 use Rattle.tape_records.specs.State.{may}
 use Rattle.tape_records.specs.Record.{record_at, result_at}
 use Rattle.tape_records.proofs.RecordRows.{known-kind}
@@ -155,26 +154,26 @@ module _ (tape behind : List ℕ) (o : ℕ) (may : ℕ → Bool) where
             let h : o < length tape = leb-false (length tape) o l in by_kind h (known (get_or tape o 0)) refl
 
 -- what reading a record gives, the record or a refusal
-pub result_alike : (tape behind : List ℕ) (o : ℕ) (t : ParserState) → ((n q : ℕ) → result_at true tape o t ≡ RecordResult.Refused n q → too_short n ≡ false) →
+pub result_alike : (tape behind : List ℕ) (o : ℕ) (t : ParserState) → ((n q : ℕ) → result_at true tape o t ≡ turned_back n q → too_short n ≡ false) →
     result_at true (tape ++ behind) o t ≡ result_at true tape o t
 unfolding result_at
 result_alike tape behind o t enough = go (first_refusal (record_rows true tape o (may t))) refl
   where
     by : {v : Verdict} → first_refusal (record_rows true (tape ++ behind) o (may t)) ≡ v → first_refusal (record_rows true tape o (may t)) ≡ v →
-        decided v (record_at (tape ++ behind) o) RecordResult.Refused ≡ decided v (record_at tape o) RecordResult.Refused →
-        decided (first_refusal (record_rows true (tape ++ behind) o (may t))) (record_at (tape ++ behind) o) RecordResult.Refused
-        ≡ decided (first_refusal (record_rows true tape o (may t))) (record_at tape o) RecordResult.Refused
+        decided v (Ok (record_at (tape ++ behind) o)) turned_back ≡ decided v (Ok (record_at tape o)) turned_back →
+        decided (first_refusal (record_rows true (tape ++ behind) o (may t))) (Ok (record_at (tape ++ behind) o)) turned_back
+        ≡ decided (first_refusal (record_rows true tape o (may t))) (Ok (record_at tape o)) turned_back
     by a b c =
-        ap (λ (v : Verdict). decided v (record_at (tape ++ behind) o) RecordResult.Refused) a
+        ap (λ (v : Verdict). decided v (Ok (record_at (tape ++ behind) o)) turned_back) a
         ∙ c
-        ∙ sym (ap (λ (v : Verdict). decided v (record_at tape o) RecordResult.Refused) b)
+        ∙ sym (ap (λ (v : Verdict). decided v (Ok (record_at tape o)) turned_back) b)
 
     go : (v : Verdict) → first_refusal (record_rows true tape o (may t)) ≡ v →
-        decided (first_refusal (record_rows true (tape ++ behind) o (may t))) (record_at (tape ++ behind) o) RecordResult.Refused
-        ≡ decided (first_refusal (record_rows true tape o (may t))) (record_at tape o) RecordResult.Refused
+        decided (first_refusal (record_rows true (tape ++ behind) o (may t))) (Ok (record_at (tape ++ behind) o)) turned_back
+        ≡ decided (first_refusal (record_rows true tape o (may t))) (Ok (record_at tape o)) turned_back
     go (Verdict.Refuse n q) e =
         by
-        (rows_alike tape behind o (may t) e (enough n q (ap (λ (v : Verdict). decided v (record_at tape o) RecordResult.Refused) e)))
+        (rows_alike tape behind o (may t) e (enough n q (ap (λ (v : Verdict). decided v (Ok (record_at tape o)) turned_back) e)))
         e refl
     go Verdict.Accept e =
         let h = passed_record true tape o (may t) e in
@@ -183,4 +182,4 @@ result_alike tape behind o t enough = go (first_refusal (record_rows true tape o
         by
         (record-passes true (tape ++ behind) o (may t) (passed_alike tape (tape ++ behind) o same h long (λ z k. absurd (true≢false z))))
         e
-        (ap₂ (λ (x : Entry) (i : ℕ). RecordResult.Record x (record { at = i })) (entry-alike tape (tape ++ behind) o same h.is_known) (next_alike tape (tape ++ behind) o same))
+        (ap₂ (λ (x : Entry) (i : ℕ). Ok (x, record { at = i })) (entry-alike tape (tape ++ behind) o same h.is_known) (next_alike tape (tape ++ behind) o same))

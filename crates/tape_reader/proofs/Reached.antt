@@ -8,20 +8,18 @@ use native.Mathlib.Omega.{arith}
 use lib.Dec.{eqb}
 use lib.ListN.{length, get_or, take, length-append}
 use lib.Seq.{take-take, take-append-le}
-use Rattle.model.specs.declared.Verdict.{Verdict}
 use Rattle.model.specs.declared.Entry.{Entry}
 use Rattle.model.specs.declared.Entry.TheVariants.{End, Size, WeightBox, RoundLimits, Sample, Flow, PairWeight}
-use Rattle.model.specs.Verdict.{first_refusal}
+use Rattle.std.specs.Prelude.{Some, None, Result, Ok}
+use Rattle.model.specs.Verdict.{Verdict, first_refusal, refused as turned_back}
 use Rattle.model.specs.declared.Lent.{Lent}
 use Rattle.model.specs.Tape.{kinds, Progress, nothing, allowed, absorbed, body_length, decoded, entry_rows, Parse, turned, whole, parse_from, too_short}
 use Rattle.model.proofs.Refusals.{accepted}
 use Rattle.tape_records.specs.declared.state.ParserState.{ParserState}
 use Rattle.tape_records.specs.declared.parse.Cursor.{Cursor}
-use Rattle.tape_records.specs.declared.parse.RecordResult.{RecordResult}
-use Rattle.tape_reader.specs.declared.transition.Transition.{Transition}
 use Rattle.tape_records.specs.State.{state_of}
 use Rattle.tape_records.specs.Record.{result_at}
-use Rattle.tape_reader.specs.Transition.{numbers_read, advanced, transition_on, transition_at}
+use Rattle.tape_reader.specs.Transition.{Transition, numbers_read, advanced, transition_on, transition_at}
 use Rattle.tape_reader.specs.Scan.{records_of, WholeRecords, lent_for, Reached}
 use Rattle.roundtrip.proofs.Turns.{entry_at, next_at, terms_verdict, verdict, Passed, Turn, turn, unrolled_on, unrolled_end, enough}
 use Rattle.tape_reader.proofs.Transitions.{advanced-absorbed, transition_by, transition_is}
@@ -101,17 +99,18 @@ module _ (tape : List ℕ) (lent : Lent) {t : ParserState} {o : ℕ} (r : Reache
         (kind_alike tape other o same ∙ z)
 
   -- the next record
-  pub onward : {u : ParserState} {next : Cursor} → Transition.More u next ≡ transition_at tape o t lent → Reached tape lent u next.at × (o < next.at)
+  pub onward : {u : ParserState} {next : Cursor} → Ok (Some (u, next)) ≡ transition_at tape o t lent → Reached tape lent u next.at × (o < next.at)
   onward {u} {next} e = go (turn tape lent 0 o p) (by-verdict e)
     where
-      go : {v : Verdict} {end : Bool} {all : Parse} → Turn tape lent 0 o p v end all → transition_by tape lent o p v end ≡ Transition.More u next → Reached tape lent u next.at × (o < next.at)
+      go : {v : Verdict} {end : Bool} {all : Parse} → Turn tape lent 0 o p v end all → transition_by tape lent o p v end ≡ Ok (Some (u, next)) → Reached tape lent u next.at × (o < next.at)
       go (Turn.refuse n q _) h = let z : ◌≡◌ {A = ℕ} 0 1 = cc in absurd (omega arith)
       go (Turn.done a z) h = let z : ◌≡◌ {A = ℕ} 0 1 = cc in absurd (omega arith)
       go (Turn.more a v z) h =
-          let same-state : u ≡ state_of (absorbed p (entry_at tape o)) = cc in
+          let both : ◌≡◌ {A = ParserState × Cursor} (u, next) (state_of (absorbed p (entry_at tape o)), record { at = next_at tape o }) = cc in
+          let same-state : u ≡ state_of (absorbed p (entry_at tape o)) = ap (λ (x : ParserState × Cursor). x.0) both in
           let one_more : u ≡ advanced t (entry_at tape o) =
           same-state ∙ sym (advanced-absorbed p (entry_at tape o)) ∙ ap (λ (x : ParserState). advanced x (entry_at tape o)) (sym r.counted) in
-          let same_place : next_at tape o ≡ next.at = cc in (
+          let same_place : next_at tape o ≡ next.at = sym (ap (λ (x : ParserState × Cursor). x.1.at) both) in (
             subst (Reached tape lent u) same_place
                 (record {
                   progress = absorbed p (entry_at tape o);
@@ -131,14 +130,14 @@ module _ (tape : List ℕ) (lent : Lent) {t : ParserState} {o : ℕ} (r : Reache
     pub job : (other : List ℕ) → o + 1 ≤ length other → take (o + 1) other ≡ take (o + 1) tape → (f : Bool) → (f ≡ false → length other ≤ o + 1) →
         records_of other (lent_for lent f) ≡ whole p
 
-  pub finished : Transition.Done ≡ transition_at tape o t lent → Ended
+  pub finished : Ok None ≡ transition_at tape o t lent → Ended
   unfolding kinds
   finished e = go (turn tape lent 0 o p) (by-verdict e)
     where
       no_terms : get_or tape o 0 ≡ 0 → terms_verdict tape lent o ≡ Verdict.Accept
       no_terms z = ap (λ (kind : ℕ). first_refusal (entry_rows o lent (decoded kind (λ i. get_or tape (o + 1 + i) 0)))) z ∙ accepted
 
-      go : {v : Verdict} {end : Bool} {all : Parse} → Turn tape lent 0 o p v end all → transition_by tape lent o p v end ≡ Transition.Done → Ended
+      go : {v : Verdict} {end : Bool} {all : Parse} → Turn tape lent 0 o p v end all → transition_by tape lent o p v end ≡ Ok None → Ended
       go (Turn.refuse n q _) h = let z : ◌≡◌ {A = ℕ} 0 1 = cc in absurd (omega arith)
       go (Turn.more a v z) h = let z : ◌≡◌ {A = ℕ} 0 1 = cc in absurd (omega arith)
       go (Turn.done a z) h =
@@ -152,27 +151,29 @@ module _ (tape : List ℕ) (lent : Lent) {t : ParserState} {o : ℕ} (r : Reache
           }
 
   -- a refusal: the tape is turned back with it ..
-  pub refused : {n q : ℕ} → Transition.Refused n q ≡ transition_at tape o t lent → records_of tape lent ≡ turned n q
+  pub refused : {n q : ℕ} → turned_back n q ≡ transition_at tape o t lent → records_of tape lent ≡ turned n q
   refused {n} {q} e = r.goes_on tape r.inside refl lent.followed (suc (length tape)) (omega arith) ∙ go (turn tape lent (length tape) o p) (by-verdict e)
     where
-      go : {v : Verdict} {end : Bool} {all : Parse} → Turn tape lent (length tape) o p v end all → transition_by tape lent o p v end ≡ Transition.Refused n q → all ≡ turned n q
-      go (Turn.refuse m l _) h = cc
+      go : {v : Verdict} {end : Bool} {all : Parse} → Turn tape lent (length tape) o p v end all → transition_by tape lent o p v end ≡ turned_back n q → all ≡ turned n q
+      go (Turn.refuse m l _) h =
+          let both : ◌≡◌ {A = ℕ × ℕ} (m, l) (n, q) = cc in ap (λ (x : ℕ × ℕ). turned x.0 x.1) both
       go (Turn.done a z) h = cc
       go (Turn.more a v z) h = cc
 
 -- .. and so it is with more bytes behind, unless it says that the input ends too early
 module _ (tape : List ℕ) (lent : Lent) {t : ParserState} {o : ℕ} (r : Reached tape lent t o) (f : lent.followed ≡ true) {n q : ℕ}
-    (e : Transition.Refused n q ≡ transition_at tape o t lent) (s : too_short n ≡ false) (behind : List ℕ) where
+    (e : turned_back n q ≡ transition_at tape o t lent) (s : too_short n ≡ false) (behind : List ℕ) where
   step-alike : transition_at (tape ++ behind) o t lent ≡ transition_at tape o t lent
   unfolding transition_at
   step-alike =
-      ap (λ (g : RecordResult). transition_on g o t lent)
+      ap (λ (g : Result (Entry × Cursor) (ℕ × ℕ)). transition_on g o t lent)
       (subst (λ (b : Bool). result_at b (tape ++ behind) o t ≡ result_at b tape o t) (sym f) (result_alike tape behind o t long))
     where
-      long : (m l : ℕ) → result_at true tape o t ≡ RecordResult.Refused m l → too_short m ≡ false
+      long : (m l : ℕ) → result_at true tape o t ≡ turned_back m l → too_short m ≡ false
       long m l h =
-          let x : Transition.Refused n q ≡ Transition.Refused m l = e ∙ ap (λ (g : RecordResult). transition_on g o t lent) (ap (λ (b : Bool). result_at b tape o t) f ∙ h) in
-          let y : n ≡ m = cc in
+          let x : turned_back n q ≡ turned_back m l = e ∙ ap (λ (g : Result (Entry × Cursor) (ℕ × ℕ)). transition_on g o t lent) (ap (λ (b : Bool). result_at b tape o t) f ∙ h) in
+          let both : ◌≡◌ {A = ℕ × ℕ} (n, q) (m, l) = cc in
+          let y : n ≡ m = ap (λ (x : ℕ × ℕ). x.0) both in
           subst (λ (i : ℕ). too_short i ≡ false) y s
 
   pub refused-longer : records_of (tape ++ behind) lent ≡ turned n q
@@ -182,7 +183,7 @@ module _ (tape : List ℕ) (lent : Lent) {t : ParserState} {o : ℕ} (r : Reache
       (e ∙ sym step-alike)
 
 -- the end record of a tape that nothing may follow
-pub whole-tape : (tape : List ℕ) (lent : Lent) {t : ParserState} {o : ℕ} → Reached tape lent t o → lent.followed ≡ false → Transition.Done ≡ transition_at tape o t lent →
+pub whole-tape : (tape : List ℕ) (lent : Lent) {t : ParserState} {o : ℕ} → Reached tape lent t o → lent.followed ≡ false → Ok None ≡ transition_at tape o t lent →
     WholeRecords tape lent t
 whole-tape tape lent r f e =
     let d = finished tape lent r e in

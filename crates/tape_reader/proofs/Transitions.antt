@@ -7,19 +7,17 @@ use Prim.Native.Nat.{ℕ, ◌+◌}
 use lib.Dec.{eqb}
 use lib.IntN.{pos}
 use lib.ListN.{get_or, length-append}
-use Rattle.model.specs.declared.Verdict.{Verdict}
 use Rattle.model.specs.declared.Entry.{Entry}
 use Rattle.model.specs.declared.Entry.TheVariants.{End, Size, WeightBox, RoundLimits, Sample, Flow, PairWeight}
 use Rattle.model.specs.declared.Lent.{Lent}
-use Rattle.model.specs.Verdict.{decided}
+use Rattle.std.specs.Prelude.{Some, None, Ok}
+use Rattle.model.specs.Verdict.{Verdict, decided, refused}
 use Rattle.model.specs.Tape.{kinds, known, decoded, Progress, allowed, absorbed}
 use Rattle.tape_records.specs.declared.state.ParserState.{ParserState}
 use Rattle.tape_records.specs.declared.parse.Cursor.{Cursor}
-use Rattle.tape_records.specs.declared.parse.RecordResult.{RecordResult}
-use Rattle.tape_reader.specs.declared.transition.Transition.{Transition}
 use Rattle.tape_records.specs.State.{state_of}
 use Rattle.tape_records.specs.Record.{record_at, result_at}
-use Rattle.tape_reader.specs.Transition.{advanced, continued, transition_on, transition_at}
+use Rattle.tape_reader.specs.Transition.{Transition, advanced, continued, with_next, transition_on, transition_at}
 use Rattle.roundtrip.proofs.EachKind.{each_kind}
 use Rattle.roundtrip.proofs.Turns.{entry_at, next_at, terms_verdict, record_verdict, verdict, passed_record}
 
@@ -34,13 +32,11 @@ advanced-absorbed p (Flow f) = rw (length-append p.flow (f ∷ []))
 advanced-absorbed p (PairWeight w) = rw (length-append p.weights (pos w ∷ []))
 
 -- only the end ends
-continued-kind : (t : ParserState) (next : Cursor) (kind : ℕ) (b : ℕ → ℕ) → known kind ≡ true →
-    continued t (decoded kind b) next ≡ cond (eqb kind 0) Transition.Done (Transition.More (advanced t (decoded kind b)) next)
+continued-kind : (t : ParserState) (kind : ℕ) (b : ℕ → ℕ) → known kind ≡ true →
+    continued t (decoded kind b) ≡ Ok (cond (eqb kind 0) None (Some (advanced t (decoded kind b))))
 unfolding kinds
-continued-kind t next kind b h =
-    each_kind
-    (λ n. continued t (decoded n b) next ≡ cond (eqb n 0) Transition.Done (Transition.More (advanced t (decoded n b)) next))
-    refl refl refl refl refl refl refl kind h
+continued-kind t kind b h =
+    each_kind (λ n. continued t (decoded n b) ≡ Ok (cond (eqb n 0) None (Some (advanced t (decoded n b))))) refl refl refl refl refl refl refl kind h
 
 module _ (tape : List ℕ) (lent : Lent) (o : ℕ) (p : Progress) where
   abbrev behind : Cursor
@@ -48,23 +44,24 @@ module _ (tape : List ℕ) (lent : Lent) (o : ℕ) (p : Progress) where
 
   -- by the verdict, and by whether the record is the end
   abbrev pub transition_by : Verdict → Bool → Transition
-  transition_by (Verdict.Refuse number place) end = Transition.Refused number place
-  transition_by Verdict.Accept true = Transition.Done
-  transition_by Verdict.Accept false = Transition.More (state_of (absorbed p (entry_at tape o))) behind
+  transition_by (Verdict.Refuse number place) end = refused number place
+  transition_by Verdict.Accept true = Ok None
+  transition_by Verdict.Accept false = Ok (Some (state_of (absorbed p (entry_at tape o)), behind))
 
   ends : (end : Bool) →
-      cond end Transition.Done (Transition.More (advanced (state_of p) (entry_at tape o)) behind) ≡ transition_by Verdict.Accept end
+      with_next behind (Ok (cond end None (Some (advanced (state_of p) (entry_at tape o))))) ≡ transition_by Verdict.Accept end
   ends true = refl
-  ends false = ap (λ (t : ParserState). Transition.More t behind) (advanced-absorbed p (entry_at tape o))
+  ends false = ap (λ (t : ParserState). Ok (Some (t, behind))) (advanced-absorbed p (entry_at tape o))
 
   judged : (v : Verdict) → known (get_or tape o 0) ≡ true →
-      decided v (continued (state_of p) (entry_at tape o) behind) Transition.Refused ≡ transition_by v (eqb (get_or tape o 0) 0)
+      with_next behind (decided v (continued (state_of p) (entry_at tape o)) refused) ≡ transition_by v (eqb (get_or tape o 0) 0)
   judged (Verdict.Refuse number place) h = refl
   judged Verdict.Accept h =
-      continued-kind (state_of p) behind (get_or tape o 0) (λ i. get_or tape (o + 1 + i) 0) h ∙ ends (eqb (get_or tape o 0) 0)
+      ap (with_next behind) (continued-kind (state_of p) (get_or tape o 0) (λ i. get_or tape (o + 1 + i) 0) h)
+      ∙ ends (eqb (get_or tape o 0) 0)
 
   read_one : (v : Verdict) → record_verdict tape lent o p ≡ v →
-      transition_on (decided v (record_at tape o) RecordResult.Refused) o (state_of p) lent
+      transition_on (decided v (Ok (record_at tape o)) refused) o (state_of p) lent
       ≡ transition_by (decided v (terms_verdict tape lent o) Verdict.Refuse) (eqb (get_or tape o 0) 0)
   read_one (Verdict.Refuse number place) e = refl
   read_one Verdict.Accept e =

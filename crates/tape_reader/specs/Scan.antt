@@ -1,10 +1,10 @@
 -- A scan of a tape: what its counts stand for, and where it stops.
-use Rattle.std.specs.Prelude.{Bool, ◌≡◌, List, ℕ, suc, ◌+◌, ◌≤◌, ◌<◌, length, take}
+use Rattle.std.specs.Prelude.{Bool, ◌≡◌, List, ℕ, suc, ◌+◌, ◌≤◌, ◌<◌, length, take, Result, Ok, Err, None}
 use Rattle.model.specs.declared.Lent.{Lent}
+use Rattle.model.specs.Verdict.{number_of, refused}
 use Rattle.model.specs.Tape.{Progress, nothing, Parse, whole, parse_from}
 use Rattle.tape_records.specs.declared.state.ParserState.{ParserState}
-use Rattle.tape_reader.specs.declared.transition.Transition.{Transition}
-use Rattle.tape_reader.specs.declared.scan.Scanned.{Scanned}
+use Rattle.tape_reader.specs.declared.scan.Stopped.{Stopped}
 use Rattle.tape_records.specs.State.{state_of}
 use Rattle.tape_reader.specs.Transition.{numbers_read, transition_at}
 
@@ -32,7 +32,7 @@ pub record Reached (tape : List ℕ) (lent : Lent) (t : ParserState) (o : ℕ) :
       records_of other (lent_for lent followed) ≡ parse_from k other (lent_for lent followed) o progress
 
 -- A scan stops where the record that it has reached is refused, or ends the job
-abbrev pub StopsAt : List ℕ → Lent → Scanned → Type 0
-StopsAt tape lent (Scanned.Refused number place t at) =
-    Reached tape lent t at × (Transition.Refused number place ≡ transition_at tape at t lent)
-StopsAt tape lent (Scanned.Whole t at) = Reached tape lent t at × (Transition.Done ≡ transition_at tape at t lent)
+abbrev pub StopsAt : List ℕ → Lent → Result (ParserState × ℕ) Stopped → Type 0
+StopsAt tape lent (Err s) =
+    Reached tape lent s.state s.at × (refused (number_of s.refusal.reason) s.refusal.place ≡ transition_at tape s.at s.state lent)
+StopsAt tape lent (Ok (t, at)) = Reached tape lent t at × (Ok None ≡ transition_at tape at t lent)

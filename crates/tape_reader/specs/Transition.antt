@@ -1,17 +1,15 @@
 -- The transition of the parser on one record.
-use Rattle.std.specs.Prelude.{List, ℕ, ◌+◌, ◌^◌, ◌<◌}
+use Rattle.std.specs.Prelude.{List, ℕ, ◌+◌, ◌^◌, ◌<◌, Option, Some, None, Result, Ok, Err}
 use Rattle.model.specs.declared.Entry.{Entry}
 use Rattle.model.specs.declared.Entry.TheVariants.{End, Size, WeightBox, RoundLimits, Sample, Flow, PairWeight}
 use Rattle.model.specs.declared.Terms.{Terms}
 use Rattle.model.specs.declared.Rounds.{Rounds}
-use Rattle.model.specs.Verdict.{first_refusal, decided}
+use Rattle.model.specs.Verdict.{Row, first_refusal, decided, refused}
 use Rattle.model.specs.Calls.{pixels_of, pairs_of}
 use Rattle.model.specs.Tape.{sized, with_box, entry_rows}
 use Rattle.tape_records.specs.declared.state.ParserState.{ParserState}
 use Rattle.tape_records.specs.declared.parse.Cursor.{Cursor}
-use Rattle.tape_records.specs.declared.parse.RecordResult.{RecordResult}
 use Rattle.model.specs.declared.Lent.{Lent}
-use Rattle.tape_reader.specs.declared.transition.Transition.{Transition}
 use Rattle.tape_records.specs.Record.{result_at}
 
 -- how many samples, pair weights and flow numbers have been read, and that one more can be counted
@@ -60,22 +58,36 @@ advanced t (Flow f) = with_counts t t.samples t.weights (t.flows + 1)
 advanced t (PairWeight w) = with_counts t t.samples (t.weights + 1) t.flows
 
 -- the end ends the job; after any other record there is another
-abbrev pub continued : ParserState → Entry → Cursor → Transition
-continued t End next = Transition.Done
-continued t (Size w h) next = Transition.More (advanced t (Size w h)) next
-continued t (WeightBox weight low high) next = Transition.More (advanced t (WeightBox weight low high)) next
-continued t (RoundLimits q a) next = Transition.More (advanced t (RoundLimits q a)) next
-continued t (Sample s) next = Transition.More (advanced t (Sample s)) next
-continued t (Flow f) next = Transition.More (advanced t (Flow f)) next
-continued t (PairWeight w) next = Transition.More (advanced t (PairWeight w)) next
+abbrev pub continued : ParserState → Entry → Result (Option ParserState) (ℕ × ℕ)
+continued t End = Ok None
+continued t (Size w h) = Ok (Some (advanced t (Size w h)))
+continued t (WeightBox weight low high) = Ok (Some (advanced t (WeightBox weight low high)))
+continued t (RoundLimits q a) = Ok (Some (advanced t (RoundLimits q a)))
+continued t (Sample s) = Ok (Some (advanced t (Sample s)))
+continued t (Flow f) = Ok (Some (advanced t (Flow f)))
+continued t (PairWeight w) = Ok (Some (advanced t (PairWeight w)))
+
+-- what has been read, where none of these rows refuses it
+abbrev pub unless_refused : List Row → ParserState → Result ParserState (ℕ × ℕ)
+unless_refused rows t = decided (first_refusal rows) (Ok t) refused
 
 -- the record's terms judged, at offset o
-abbrev pub judged_entry : ParserState → Entry → Cursor → ℕ → Lent → Transition
-judged_entry t e next o lent = decided (first_refusal (entry_rows o lent e)) (continued t e next) Transition.Refused
+abbrev pub judged_entry : ParserState → Entry → ℕ → Lent → Result (Option ParserState) (ℕ × ℕ)
+judged_entry t e o lent = decided (first_refusal (entry_rows o lent e)) (continued t e) refused
 
-abbrev pub transition_on : RecordResult → ℕ → ParserState → Lent → Transition
-transition_on (RecordResult.Refused number place) o t lent = Transition.Refused number place
-transition_on (RecordResult.Record e next) o t lent = judged_entry t e next o lent
+-- What a record leads to: a refusal with its place, none at the job's end, or what has been read now with the place of the
+-- next record
+abbrev pub Transition : Type 0
+Transition = Result (Option (ParserState × Cursor)) (ℕ × ℕ)
+
+abbrev pub with_next : Cursor → Result (Option ParserState) (ℕ × ℕ) → Transition
+with_next next (Err r) = Err r
+with_next next (Ok None) = Ok None
+with_next next (Ok (Some t)) = Ok (Some (t, next))
+
+abbrev pub transition_on : Result (Entry × Cursor) (ℕ × ℕ) → ℕ → ParserState → Lent → Transition
+transition_on (Err r) o t lent = Err r
+transition_on (Ok (e, next)) o t lent = with_next next (judged_entry t e o lent)
 
 -- the record at offset o
 unfoldable pub transition_at : List ℕ → ℕ → ParserState → Lent → Transition

@@ -8,10 +8,11 @@ ghost use Rattle.model.specs.RoundTrip.{WritesBack, weight_count, flow_count};
 ghost use Rattle.tape_reader.specs.Scan.{WholeRecords};
 ghost use Rattle.model.specs.Answers.{read_answer_of};
 
-use crate::fill::{beyond_from, fill_flow, fill_samples, fill_weights};
-use crate::scan::{Scanned, scan_tape};
-use model::{Lent, ReadResult};
-use tape_records::state::{ParserState, initial};
+use crate::fill::{Records, fill, first_beyond};
+use crate::scan::scan_tape;
+use model::{Job, Lent, Reason, Refusal};
+use tape_records::section::{FlowNumbers, PairWeights, Samples, Section};
+use tape_records::state::ParserState;
 
 // The numbers of a tape whose records have passed: 8 is judged, and the buffers are filled.
 pub fn read_numbers(
@@ -20,41 +21,49 @@ pub fn read_numbers(
     samples: &mut [u8],
     weights: &mut [i32],
     flow: &mut [i32],
-) -> ReadResult
+) -> Result<Job, Refusal>
     requires { WholeRecords tape.now (lent_by samples.old weights.old flow.old) state }
     ensures result_value { read_answer_of result ≡ read_answer tape.now samples.old weights.old flow.old }
     ensures samples_after { samples.new ≡ read_samples tape.now samples.old weights.old flow.old }
     ensures weights_after { weights.new ≡ read_weights tape.now samples.old weights.old flow.old }
     ensures flow_after { flow.new ≡ read_flow tape.now samples.old weights.old flow.old }
 {
-    let terms = state.terms;
-    let rounds = state.rounds;
-    let weights_at = 15 + 2 * state.samples;
-    let flow_at = weights_at + 3 * state.weights;
-    let place = beyond_from(
-        tape,
-        terms.weight,
-        weights_at,
-        state.weights,
-        flow_at,
-        state.flows,
-    );
-    if place < state.flows {
-        return ReadResult::Refused { number: 8, place };
+    let sample_records = Records {
+        start: 15,
+        count: state.samples,
+    };
+    let weight_records = Records {
+        start: 15 + Samples::LENGTH * state.samples,
+        count: state.weights,
+    };
+    let flow_records = Records {
+        start: weight_records.start + PairWeights::LENGTH * state.weights,
+        count: state.flows,
+    };
+    if let Some(place) = first_beyond(tape, state.terms.weight, weight_records, flow_records) {
+        return Err(Refusal {
+            reason: Reason::BeyondWeight,
+            place,
+        });
     }
-    fill_samples(tape, 15, state.samples, samples);
-    fill_weights(tape, weights_at, state.weights, weights);
-    fill_flow(tape, flow_at, state.flows, flow);
-    ReadResult::Job {
-        terms,
-        rounds,
+    fill::<Samples>(tape, sample_records, samples);
+    fill::<PairWeights>(tape, weight_records, weights);
+    fill::<FlowNumbers>(tape, flow_records, flow);
+    Ok(Job {
+        terms: state.terms,
+        rounds: state.rounds,
         weighted: state.weights != 0,
         flowed: state.flows != 0,
-    }
+    })
 }
 
 // A tape is read into the front of the buffers. A refused one leaves them all as they were.
-pub fn read(tape: &[u8], samples: &mut [u8], weights: &mut [i32], flow: &mut [i32]) -> ReadResult
+pub fn read(
+    tape: &[u8],
+    samples: &mut [u8],
+    weights: &mut [i32],
+    flow: &mut [i32],
+) -> Result<Job, Refusal>
     ensures result_value { read_answer_of result ≡ read_answer tape.now samples.old weights.old flow.old }
     ensures samples_after { samples.new ≡ read_samples tape.now samples.old weights.old flow.old }
     ensures weights_after { weights.new ≡ read_weights tape.now samples.old weights.old flow.old }
@@ -68,9 +77,6 @@ pub fn read(tape: &[u8], samples: &mut [u8], weights: &mut [i32], flow: &mut [i3
         flow: flow.len(),
         followed: false,
     };
-    let scanned = scan_tape(tape, 0, initial(), lent);
-    match scanned {
-        Scanned::Refused(number, place, _, _) => ReadResult::Refused { number, place },
-        Scanned::Whole(state, _) => read_numbers(tape, state, samples, weights, flow),
-    }
+    let (state, _) = scan_tape(tape, 0, ParserState::initial(), lent)?;
+    read_numbers(tape, state, samples, weights, flow)
 }

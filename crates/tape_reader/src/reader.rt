@@ -2,7 +2,7 @@
 // thin: the work is done by `next_record`, on the slice and the number.
 
 ghost use Rattle.std.specs.Prelude.{◌≡◌};
-ghost use Rattle.tape_records.specs.Record.{result_at};
+ghost use Rattle.tape_records.specs.Record.{told_of, result_at};
 
 use tape_records::parse::{Cursor, RecordResult, next_record};
 use tape_records::state::ParserState;
@@ -13,28 +13,30 @@ pub struct Reader<'a> {
     pub at: usize,
 }
 
-// A reader at the record that begins at an offset.
-pub fn new<'a>(tape: &'a [u8], at: usize) -> Reader<'a>
-    ensures { (result.tape ≡ tape.entry) × (result.at ≡ at) }
-{
-    Reader { tape, at }
-}
+impl<'a> Reader<'a> {
+    // A reader at the record that begins at an offset.
+    pub fn new(tape: &'a [u8], at: usize) -> Reader<'a>
+        ensures { (result.tape ≡ tape.entry) × (result.at ≡ at) }
+    {
+        Reader { tape, at }
+    }
 
-// The next record: its kind with its numbers, and beside it the cursor that the reader is moved on to;
-// or a refusal with its offset. What has been read says which kinds may come, and `followed` whether
-// more bytes may follow the end record.
-pub fn next<'a>(r: Reader<'a>, state: ParserState, followed: bool) -> RecordResult
-    ensures { result ≡ result_at followed r.entry.tape.now r.entry.at state }
-{
-    next_record(r.tape, r.at, state, followed)
-}
+    // The next record: its kind with its numbers, and beside it the cursor that the reader is moved on to;
+    // or a refusal with its offset. What has been read says which kinds may come, and `followed` whether
+    // more bytes may follow the end record.
+    pub fn next(self, state: ParserState, followed: bool) -> RecordResult
+        ensures { told_of result ≡ result_at followed self.entry.tape.now self.entry.at state }
+    {
+        next_record(self.tape, self.at, state, followed)
+    }
 
-// The reader moved on to the record at a cursor.
-pub fn forward<'a>(r: Reader<'a>, cursor: Cursor) -> Reader<'a>
-    ensures { (result.tape ≡ r.entry.tape) × (result.at ≡ cursor.at) }
-{
-    Reader {
-        tape: r.tape,
-        at: cursor.at,
+    // The reader moved on to the record at a cursor.
+    pub fn forward(self, cursor: Cursor) -> Reader<'a>
+        ensures { (result.tape ≡ self.entry.tape) × (result.at ≡ cursor.at) }
+    {
+        Reader {
+            at: cursor.at,
+            ..self
+        }
     }
 }

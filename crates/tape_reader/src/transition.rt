@@ -1,159 +1,153 @@
 // The transition of the parser on one record: its terms are judged at the record, and the counts move on.
 
-ghost use Rattle.std.specs.Prelude.{◌≡◌};
+ghost use Rattle.std.specs.Prelude.{◌≡◌, [], ◌∷◌};
 ghost use Rattle.model.specs.declared.Entry.{Entry};
-ghost use Rattle.tape_reader.specs.Transition.{CountsFit, judged_entry, transition_on};
+ghost use Rattle.model.specs.Verdict.{told};
+ghost use Rattle.tape_records.specs.Record.{told_of};
+ghost use Rattle.model.specs.Calls.{weight_row, box_row, rounds_row};
+ghost use Rattle.model.specs.Tape.{sized, with_box, entry_rows};
+ghost use Rattle.tape_reader.specs.Transition.{CountsFit, advanced, unless_refused, judged_entry, transition_on};
 
-use model::{Entry, Lent, Rounds, Terms};
+use model::{Entry, Lent, Reason, Refusal, Rounds, Terms};
 use tape_records::parse::{Cursor, RecordResult};
 use tape_records::state::ParserState;
-use validation::{box_allowed, pairs, pixels, quick_allowed, size_allowed, weight_allowed};
-
-// What a record leads to: a refusal with its place, the job's end, or what has been read now with the
-// place of the next record.
-#[derive(Clone, Copy)]
-pub enum Transition {
-    Refused(u32, usize),
-    Done,
-    More(ParserState, Cursor),
-}
+use validation::{
+    box_allowed, pairs, pixels, quick_allowed, require, size_allowed, weight_allowed,
+};
 
 // 1 size, at the record; 16 right after it, for all samples, and for all pairs in the weight and in
 // the flow buffer.
+#[tactic(auto, unfolding(model::specs::Verdict::first_refusal))]
 fn on_size(
     state: ParserState,
     width: u32,
     height: u32,
-    next: Cursor,
     at: usize,
     lent: Lent,
-) -> Transition
-    ensures { result ≡ judged_entry state (Entry.Size width height) next at lent }
+) -> Result<ParserState, Refusal>
+    ensures { told result ≡ unless_refused (entry_rows at lent (Entry.Size width height)) (advanced state (Entry.Size width height)) }
 {
-    if !size_allowed(width, height) {
-        return Transition::Refused(1, at);
-    }
-    let samples = pixels(width, height);
-    let count = pairs(width, height);
-    let short = (lent.samples < samples) | (lent.weights < count) | (lent.flow < count);
-    if short {
-        return Transition::Refused(16, 0);
-    }
-    let sized = Terms {
+    require(size_allowed(width, height), Reason::Size, at)?;
+    let pixels = pixels(width, height);
+    let pairs = pairs(width, height);
+    let short = (lent.samples < pixels) | (lent.weights < pairs) | (lent.flow < pairs);
+    require(!short, Reason::ShortBuffer, 0)?;
+    let terms = Terms {
         width,
         height,
-        weight: 0,
-        low: 0,
-        high: 0,
+        ..Terms::default()
     };
-    let mut now = state;
-    now.header = 1;
-    now.terms = sized;
-    now.pixels = samples;
-    now.pairs = count;
-    Transition::More(now, next)
+    Ok(ParserState {
+        header: 1,
+        terms,
+        pixels,
+        pairs,
+        ..state
+    })
 }
 
 // 2 weight; 3 low above high.
+#[tactic(auto, unfolding(model::specs::Verdict::first_refusal))]
 fn on_weight_box(
     state: ParserState,
     weight: u32,
     low: u8,
     high: u8,
-    next: Cursor,
     at: usize,
-    lent: Lent,
-) -> Transition
-    ensures { result ≡ judged_entry state (Entry.WeightBox weight low high) next at lent }
+) -> Result<ParserState, Refusal>
+    ensures { told result ≡ unless_refused (weight_row weight at ∷ box_row (with_box (sized 0 0) weight low high) at ∷ []) (advanced state (Entry.WeightBox weight low high)) }
 {
-    if !weight_allowed(weight) {
-        return Transition::Refused(2, at);
-    }
-    if !box_allowed(low, high) {
-        return Transition::Refused(3, at);
-    }
-    let sized = state.terms;
-    let weighted = Terms {
-        width: sized.width,
-        height: sized.height,
+    require(weight_allowed(weight), Reason::Weight, at)?;
+    require(box_allowed(low, high), Reason::Levels, at)?;
+    let terms = Terms {
         weight,
         low,
         high,
+        ..state.terms
     };
-    let mut now = state;
-    now.header = 2;
-    now.terms = weighted;
-    Transition::More(now, next)
+    Ok(ParserState {
+        header: 2,
+        terms,
+        ..state
+    })
 }
 
 // 10 quick rounds over 4,096.
+#[tactic(auto, unfolding(model::specs::Verdict::first_refusal))]
 fn on_rounds(
     state: ParserState,
     quick: u32,
     allowance: u16,
-    next: Cursor,
     at: usize,
-    lent: Lent,
-) -> Transition
-    ensures { result ≡ judged_entry state (Entry.RoundLimits quick allowance) next at lent }
+) -> Result<ParserState, Refusal>
+    ensures { told result ≡ unless_refused (rounds_row (record { quick = quick; allowance = allowance }) at ∷ []) (advanced state (Entry.RoundLimits quick allowance)) }
 {
-    if !quick_allowed(quick) {
-        return Transition::Refused(10, at);
-    }
-    let rounds = Rounds { quick, allowance };
-    let mut now = state;
-    now.header = 3;
-    now.rounds = rounds;
-    Transition::More(now, next)
+    require(quick_allowed(quick), Reason::QuickRounds, at)?;
+    Ok(ParserState {
+        header: 3,
+        rounds: Rounds { quick, allowance },
+        ..state
+    })
 }
 
 // 2 weight, at the record of its pair.
-fn on_pair_weight(state: ParserState, own: u32, next: Cursor, at: usize, lent: Lent) -> Transition
+#[tactic(auto, unfolding(model::specs::Verdict::first_refusal))]
+fn on_pair_weight(state: ParserState, own: u32, at: usize) -> Result<ParserState, Refusal>
     requires { CountsFit state }
-    ensures { result ≡ judged_entry state (Entry.PairWeight own) next at lent }
+    ensures { told result ≡ unless_refused (weight_row own at ∷ []) (advanced state (Entry.PairWeight own)) }
 {
-    if !weight_allowed(own) {
-        return Transition::Refused(2, at);
-    }
-    let mut now = state;
-    now.weights = state.weights + 1;
-    Transition::More(now, next)
+    require(weight_allowed(own), Reason::Weight, at)?;
+    Ok(ParserState {
+        weights: state.weights + 1,
+        ..state
+    })
 }
 
-// A record that has been read: its terms are judged, and it is counted.
-fn on_entry(state: ParserState, entry: Entry, next: Cursor, at: usize, lent: Lent) -> Transition
+// A record that has been read: its terms are judged, and it is counted. None is the end record.
+#[tactic(auto, unfolding(model::specs::Verdict::first_refusal))]
+fn on_entry(
+    state: ParserState,
+    entry: Entry,
+    at: usize,
+    lent: Lent,
+) -> Result<Option<ParserState>, Refusal>
     requires { CountsFit state }
-    ensures { result ≡ judged_entry state entry next at lent }
+    ensures { told result ≡ judged_entry state entry at lent }
 {
-    let mut now = state;
-    match entry {
-        Entry::End => Transition::Done,
-        Entry::Size { width, height } => on_size(state, width, height, next, at, lent),
-        Entry::WeightBox { weight, low, high } => on_weight_box(
-            state, weight, low, high, next, at, lent,
-        ),
-        Entry::RoundLimits { quick, allowance } => on_rounds(
-            state, quick, allowance, next, at, lent,
-        ),
-        Entry::Sample { code: _ } => {
-            now.samples = state.samples + 1;
-            Transition::More(now, next)
-        }
-        Entry::Flow { value: _ } => {
-            now.flows = state.flows + 1;
-            Transition::More(now, next)
-        }
-        Entry::PairWeight { weight } => on_pair_weight(state, weight, next, at, lent),
-    }
+    let counted = match entry {
+        Entry::End => return Ok(None),
+        Entry::Size { width, height } => on_size(state, width, height, at, lent)?,
+        Entry::WeightBox { weight, low, high } => { on_weight_box(state, weight, low, high, at)? }
+        Entry::RoundLimits { quick, allowance } => on_rounds(state, quick, allowance, at)?,
+        Entry::Sample { .. } => ParserState {
+            samples: state.samples + 1,
+            ..state
+        },
+        Entry::Flow { .. } => ParserState {
+            flows: state.flows + 1,
+            ..state
+        },
+        Entry::PairWeight { weight } => on_pair_weight(state, weight, at)?,
+    };
+    Ok(Some(counted))
 }
 
-// The transition on what reading a record gave: a refusal stays one.
-pub fn on_result(state: ParserState, res: RecordResult, at: usize, lent: Lent) -> Transition
+// The transition on what reading a record gave: a refusal, none at the job's end, or what has been read now with the
+// place of the next record.
+pub fn on_result(
+    state: ParserState,
+    read: RecordResult,
+    at: usize,
+    lent: Lent,
+) -> Result<Option<(ParserState, Cursor)>, Refusal>
     requires { CountsFit state }
-    ensures { result ≡ transition_on res at state lent }
+    ensures { told result ≡ transition_on (told_of read) at state lent }
 {
-    match res {
-        RecordResult::Refused(number, place) => Transition::Refused(number, place),
-        RecordResult::Record(entry, next) => on_entry(state, entry, next, at, lent),
+    match read {
+        RecordResult::Refused(refusal) => Err(refusal),
+        RecordResult::Record(entry, next) => match on_entry(state, entry, at, lent)? {
+            None => Ok(None),
+            Some(counted) => Ok(Some((counted, next))),
+        },
     }
 }

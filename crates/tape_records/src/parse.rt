@@ -1,110 +1,78 @@
 // One record of the tape, parsed at an offset: its kind's layout, its judgement, its numbers.
 
 ghost use Rattle.std.specs.Prelude.{◌≡◌, ◌+◌, ◌≤◌, ◌<◌, length, get_or};
-ghost use Rattle.model.specs.Verdict.{first_refusal};
-ghost use Rattle.model.specs.Tape.{sampled, body_length, decoded, body_rows, too_short};
+ghost use Rattle.model.specs.Verdict.{first_refusal, verdict_of};
+ghost use Rattle.model.specs.Tape.{sampled, weighed, body_length, decoded, body_rows};
 ghost use Rattle.tape_records.specs.State.{counts_in, may};
-ghost use Rattle.tape_records.specs.Record.{layout_of, whole_at, result_at};
+ghost use Rattle.tape_records.specs.Record.{layout_of, whole_at, told_of, result_at};
 
 use crate::bytes::{four_at, two_at};
 use crate::state::ParserState;
-use model::{Entry, Verdict};
-use validation::all_or_none;
+use model::{Entry, Reason, Refusal};
+use validation::{all_or_none, require};
 
-// What a kind byte gives: the length of the body, and whether the record is allowed here.
+// What the kind of a record fixes: the length of its body, and whether it is allowed here.
 #[derive(Clone, Copy)]
-enum Layout {
-    Unknown,
-    Body { body: usize, allowed: bool },
+struct Layout {
+    body: usize,
+    allowed: bool,
 }
 
-// Whether the header and all samples have been read.
-fn sampled(s: ParserState) -> bool
-    ensures { result ≡ sampled (counts_in s) }
-{
-    (s.header == 3) & (s.samples == s.pixels)
-}
+impl ParserState {
+    // Whether the header and all samples have been read.
+    fn sampled(self) -> bool
+        ensures { result ≡ sampled (counts_in self) }
+    {
+        (self.header == 3) & (self.samples == self.pixels)
+    }
 
-// Order: 1, 2, 3, all samples, then all pair weights or none, then all flow numbers or none, then 0.
-fn layout_of(kind: u8, s: ParserState) -> Layout
-    ensures { result ≡ layout_of kind (may s kind) }
-{
-    match kind {
-        0 => Layout::Body {
-            body: 0,
-            allowed: sampled(s) & all_or_none(s.weights, s.pairs) & all_or_none(s.flows, s.pairs),
-        },
-        1 => Layout::Body {
-            body: 4,
-            allowed: s.header == 0,
-        },
-        2 => Layout::Body {
-            body: 4,
-            allowed: s.header == 1,
-        },
-        3 => Layout::Body {
-            body: 4,
-            allowed: s.header == 2,
-        },
-        4 => Layout::Body {
-            body: 1,
-            allowed: (s.header == 3) & (s.samples < s.pixels),
-        },
-        5 => Layout::Body {
-            body: 4,
-            allowed: sampled(s) & all_or_none(s.weights, s.pairs) & (s.flows < s.pairs),
-        },
-        6 => Layout::Body {
-            body: 2,
-            allowed: sampled(s) & (s.weights < s.pairs) & (s.flows == 0),
-        },
-        _ => Layout::Unknown,
+    // Whether these have been, and all pair weights or none.
+    fn weighed(self) -> bool
+        ensures { result ≡ weighed (counts_in self) }
+    {
+        self.sampled() & all_or_none(self.weights, self.pairs)
     }
 }
 
+// Order: 1, 2, 3, all samples, then all pair weights or none, then all flow numbers or none, then 0.
+#[tactic(auto, unfolding(model::specs::Tape::kinds))]
+fn layout_of(kind: u8, s: ParserState) -> Option<Layout>
+    ensures { result ≡ layout_of kind (may s kind) }
+{
+    let (body, allowed) = match kind {
+        0 => (0, s.weighed() & all_or_none(s.flows, s.pairs)),
+        1 => (4, s.header == 0),
+        2 => (4, s.header == 1),
+        3 => (4, s.header == 2),
+        4 => (1, (s.header == 3) & (s.samples < s.pixels)),
+        5 => (4, s.weighed() & (s.flows < s.pairs)),
+        6 => (2, s.sampled() & (s.weights < s.pairs) & (s.flows == 0)),
+        _ => return None,
+    };
+    Some(Layout { body, allowed })
+}
+
 // The rows of a record whose kind is known: 14; 13 at its kind byte; 15 (unless more may follow the end).
+#[tactic(auto, unfolding(model::specs::Verdict::first_refusal))]
 fn judge_body(
     len: usize,
     at: usize,
     kind: u8,
-    body: usize,
-    allowed: bool,
+    layout: Layout,
     followed: bool,
-) -> Verdict
-    requires { (at < len) × (body ≡ body_length kind) }
-    ensures { result ≡ first_refusal (body_rows followed len at kind allowed) }
+) -> Result<(), Refusal>
+    requires { (at < len) × (layout.body ≡ body_length kind) }
+    ensures { verdict_of result ≡ first_refusal (body_rows followed len at kind layout.allowed) }
 {
     let next = at + 1;
-    if !allowed {
-        return Verdict::Refuse {
-            number: 14,
-            place: at,
-        };
-    }
-    if len - next < body {
-        return Verdict::Refuse {
-            number: 13,
-            place: at,
-        };
-    }
-    let refused = !followed & ((kind == 0) & (next < len));
-    if refused {
-        return Verdict::Refuse {
-            number: 15,
-            place: next,
-        };
-    }
-    Verdict::Accept
-}
-
-// Whether a refusal says that the input ends too early.
-pub fn too_short(number: u32) -> bool
-    ensures { result ≡ too_short number }
-{
-    (number == 13) | (number == 18)
+    require(layout.allowed, Reason::OutOfOrder, at)?;
+    require(layout.body <= len - next, Reason::CutRecord, at)?;
+    let trailing = !followed & ((kind == 0) & (next < len));
+    require(!trailing, Reason::TrailingByte, next)
 }
 
 // The numbers of a record of this kind at an offset, whose body is whole.
+#[tactic(auto, unfolding(model::specs::Tape::kinds))]
 fn decode(tape: &[u8], at: usize, kind: u8) -> Entry
     requires { at + 1 + body_length kind ≤ length tape.now }
     ensures { result ≡ decoded kind (λ i. get_or tape.now (at + 1 + i) 0) }
@@ -112,60 +80,54 @@ fn decode(tape: &[u8], at: usize, kind: u8) -> Entry
     let body = at + 1;
     match kind {
         1 => Entry::Size {
-            width: two_at(tape, body),
-            height: two_at(tape, body + 2),
+            width: u32::from(two_at(tape, body)),
+            height: u32::from(two_at(tape, body + 2)),
         },
         2 => Entry::WeightBox {
-            weight: two_at(tape, body),
+            weight: u32::from(two_at(tape, body)),
             low: tape[body + 2],
             high: tape[body + 3],
         },
         3 => Entry::RoundLimits {
-            quick: two_at(tape, body),
-            allowance: two_at(tape, body + 2) as u16,
+            quick: u32::from(two_at(tape, body)),
+            allowance: two_at(tape, body + 2),
         },
         4 => Entry::Sample { code: tape[body] },
         5 => Entry::Flow {
             value: four_at(tape, body),
         },
         6 => Entry::PairWeight {
-            weight: two_at(tape, body),
+            weight: u32::from(two_at(tape, body)),
         },
         _ => Entry::End,
     }
 }
 
 // Where the next record begins.
-#[derive(Clone, Copy)]
+#[derive(Clone, Copy, Debug, PartialEq, Eq)]
 pub struct Cursor {
     pub at: usize,
 }
 
-// What reading a record gives: the record, with the cursor beside it; or a refusal with its offset.
+// What reading a record gives: the record, with the cursor beside it; or a refusal, whose place is the offset.
+// An enum of its own, as document 01 names the form: with a `Result` of the pair reading a tape took half as long again.
 #[derive(Clone, Copy)]
 pub enum RecordResult {
     Record(Entry, Cursor),
-    Refused(u32, usize),
+    Refused(Refusal),
 }
 
 // The record at an offset, whose kind is known.
-fn whole_record(
-    tape: &[u8],
-    at: usize,
-    kind: u8,
-    body: usize,
-    allowed: bool,
-    followed: bool,
-) -> RecordResult
-    requires { (at < length tape.now) × (kind ≡ get_or tape.now at 0) × (body ≡ body_length kind) }
-    ensures { result ≡ whole_at followed tape.now at allowed }
+fn whole_record(tape: &[u8], at: usize, kind: u8, layout: Layout, followed: bool) -> RecordResult
+    requires { (at < length tape.now) × (kind ≡ get_or tape.now at 0) × (layout.body ≡ body_length kind) }
+    ensures { told_of result ≡ whole_at followed tape.now at layout.allowed }
 {
-    let v = judge_body(tape.len(), at, kind, body, allowed, followed);
-    match v {
-        Verdict::Refuse { number, place } => RecordResult::Refused(number, place),
-        Verdict::Accept => {
-            let e = decode(tape, at, kind);
-            RecordResult::Record(e, Cursor { at: at + 1 + body })
+    match judge_body(tape.len(), at, kind, layout, followed) {
+        Err(refusal) => RecordResult::Refused(refusal),
+        Ok(()) => {
+            let entry = decode(tape, at, kind);
+            let next = at + 1 + layout.body;
+            RecordResult::Record(entry, Cursor { at: next })
         }
     }
 }
@@ -173,25 +135,29 @@ fn whole_record(
 // The record at an offset, with the kind byte that stands there.
 fn record_of(tape: &[u8], at: usize, kind: u8, state: ParserState, followed: bool) -> RecordResult
     requires { (at < length tape.now) × (kind ≡ get_or tape.now at 0) }
-    ensures { result ≡ result_at followed tape.now at state }
+    ensures { told_of result ≡ result_at followed tape.now at state }
 {
-    let layout = layout_of(kind, state);
-    match layout {
-        Layout::Unknown => RecordResult::Refused(12, at),
-        Layout::Body { body, allowed } => whole_record(tape, at, kind, body, allowed, followed),
-    }
+    let Some(layout) = layout_of(kind, state) else {
+        return RecordResult::Refused(Refusal {
+            reason: Reason::UnknownKind,
+            place: at,
+        });
+    };
+    whole_record(tape, at, kind, layout, followed)
 }
 
 // The record at an offset of the tape, whose end may be followed by more bytes or not. The three kinds
 // that a tape repeats are told apart here, so that the compiler makes a path for each: there the kind,
 // and with it the body's length, is a constant.
 pub fn next_record(tape: &[u8], at: usize, state: ParserState, followed: bool) -> RecordResult
-    ensures { result ≡ result_at followed tape.now at state }
+    ensures { told_of result ≡ result_at followed tape.now at state }
 {
-    if tape.len() <= at {
-        return RecordResult::Refused(18, tape.len());
-    }
-    let kind = tape[at];
+    let Some(&kind) = tape.get(at) else {
+        return RecordResult::Refused(Refusal {
+            reason: Reason::MissingRecord,
+            place: tape.len(),
+        });
+    };
     match kind {
         4 => record_of(tape, at, 4, state, followed),
         5 => record_of(tape, at, 5, state, followed),

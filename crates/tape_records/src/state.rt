@@ -8,8 +8,9 @@ use model::{Rounds, Terms};
 
 // How many of the records 1, 2, 3 (the header), their numbers, the counts that the size gives,
 // and how many samples, pair weights and flow numbers.
-#[derive(Clone, Copy)]
+#[derive(Clone, Copy, Debug, Default, PartialEq, Eq)]
 pub struct ParserState {
+    // A count, as in the definition `Counts`, and no enum: the orders of kinds 0 to 6 all compare it.
     pub header: u32,
     pub terms: Terms,
     pub rounds: Rounds,
@@ -20,29 +21,11 @@ pub struct ParserState {
     pub flows: usize,
 }
 
-// Nothing has been read.
-pub fn initial() -> ParserState
-    ensures { result ≡ state_of nothing }
-{
-    let terms = Terms {
-        width: 0,
-        height: 0,
-        weight: 0,
-        low: 0,
-        high: 0,
-    };
-    let rounds = Rounds {
-        quick: 0,
-        allowance: 0,
-    };
-    ParserState {
-        header: 0,
-        terms,
-        rounds,
-        pixels: 0,
-        pairs: 0,
-        samples: 0,
-        weights: 0,
-        flows: 0,
+impl ParserState {
+    // Nothing has been read.
+    pub fn initial() -> ParserState
+        ensures { result ≡ state_of nothing }
+    {
+        ParserState::default()
     }
 }

@@ -1,54 +1,24 @@
 // The records of a whole job, written one behind the other.
 
-ghost use Rattle.std.specs.Prelude.{◌≡◌, ◌++◌, ◌+◌, ◌*◌, ◌≤◌, nat_abs, length, get_or};
+ghost use Rattle.std.specs.Prelude.{◌≡◌, ◌++◌, ◌+◌, ◌≤◌, length};
+ghost use Rattle.std.specs.List.{flat_map};
 ghost use Rattle.model.specs.declared.Entry.{Entry};
-ghost use Rattle.lists.specs.Lists.{at, chain, overwritten};
+ghost use Rattle.lists.specs.Lists.{overwritten};
 ghost use Rattle.model.specs.Tape.{encoded, tape_of};
 ghost use Rattle.output.specs.Put.{Put};
 
-use integers::signed;
 use model::{Entry, Rounds, Terms};
 use tape_records::encode::put_record;
+use tape_records::section::{FlowNumbers, PairWeights, Samples, Section};
 
-// A record for each sample.
-fn put_samples(samples: &[u8], output: &mut [u8], o: usize) -> usize
-    requires { o + 2 * length samples.now ≤ length output.old }
-    ensures { Put o (chain (length samples.now) (λ i. encoded (Entry.Sample (get_or samples.now i 0)))) output.old result output.new }
+// A record for each number, one behind the other.
+fn put_section<S: Section>(numbers: &[S::Number], output: &mut [u8], o: usize) -> usize
+    requires { o + length (flat_map (λ number. encoded (S.entry number)) numbers.now) ≤ length output.old }
+    ensures { Put o (flat_map (λ number. encoded (S.entry number)) numbers.now) output.old result output.new }
 {
     let mut next = o;
-    let mut i = 0;
-    while i < samples.len() {
-        next = put_record(output, next, Entry::Sample { code: samples[i] });
-        i += 1;
-    }
-    next
-}
-
-// A record for each pair's weight.
-fn put_weights(weights: &[i32], output: &mut [u8], o: usize) -> usize
-    requires { o + 3 * length weights.now ≤ length output.old }
-    ensures { Put o (chain (length weights.now) (λ j. encoded (Entry.PairWeight (nat_abs (at weights.now j))))) output.old result output.new }
-{
-    let mut next = o;
-    let mut j = 0;
-    while j < weights.len() {
-        let weight = signed::magnitude(weights[j]);
-        next = put_record(output, next, Entry::PairWeight { weight });
-        j += 1;
-    }
-    next
-}
-
-// A record for each flow number.
-fn put_flow(flow: &[i32], output: &mut [u8], o: usize) -> usize
-    requires { o + 5 * length flow.now ≤ length output.old }
-    ensures { Put o (chain (length flow.now) (λ j. encoded (Entry.Flow (at flow.now j)))) output.old result output.new }
-{
-    let mut next = o;
-    let mut j = 0;
-    while j < flow.len() {
-        next = put_record(output, next, Entry::Flow { value: flow[j] });
-        j += 1;
+    for number in numbers {
+        next = put_record(output, next, S::entry(*number));
     }
     next
 }
@@ -90,8 +60,8 @@ pub fn put_tape(
     ensures output_after { output.new ≡ overwritten (tape_of t r samples.now weights.now flow.now) output.old }
 {
     let first = put_header(t, r, output);
-    let second = put_samples(samples, output, first);
-    let third = put_weights(weights, output, second);
-    let fourth = put_flow(flow, output, third);
+    let second = put_section::<Samples>(samples, output, first);
+    let third = put_section::<PairWeights>(weights, output, second);
+    let fourth = put_section::<FlowNumbers>(flow, output, third);
     put_record(output, fourth, Entry::End)
 }

@@ -7,7 +7,7 @@ ghost use Rattle.model.specs.RoundTrip.{ReadsBack};
 ghost use Rattle.model.specs.Answers.{write_answer_of};
 
 use crate::put::put_tape;
-use model::{Rounds, Terms, Verdict, WriteResult};
+use model::{Refusal, Rounds, Terms};
 use validation::judge_write;
 
 // A job is written to the front of the output. A refused one leaves it as it was.
@@ -18,17 +18,12 @@ pub fn write(
     weights: &[i32],
     flow: &[i32],
     output: &mut [u8],
-) -> WriteResult
+) -> Result<usize, Refusal>
     ensures result_value { write_answer_of result ≡ write_answer t r samples.now weights.now flow.now output.old }
     ensures output_after { output.new ≡ write_output t r samples.now weights.now flow.now output.old }
     ensures accepted { ((write_answer_of result).number ≡ 0) ↔ WriteAllowed t r samples.now weights.now flow.now output.old }
     ensures reads_back { (write_answer_of result).number ≡ 0 → ReadsBack t r samples.now weights.now flow.now (take (write_answer_of result).count output.new) }
 {
-    let v = judge_write(t, r.quick, samples.len(), weights, flow, output.len());
-    match v {
-        Verdict::Refuse { number, place } => WriteResult::Refused { number, place },
-        Verdict::Accept => WriteResult::Written {
-            count: put_tape(t, r, samples, weights, flow, output),
-        },
-    }
+    judge_write(t, r.quick, samples.len(), weights, flow, output.len())?;
+    Ok(put_tape(t, r, samples, weights, flow, output))
 }

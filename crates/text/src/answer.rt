@@ -8,7 +8,7 @@ ghost use Rattle.output.specs.Put.{Put};
 
 use crate::image::put_image;
 use crate::line::{put_figures, put_refusal};
-use model::{Answer, Figures, Terms};
+use model::{Ending, Figures, Refusal, Terms};
 
 // The header line, the line of numbers and the lines of the image.
 fn put_accepted(
@@ -27,17 +27,25 @@ fn put_accepted(
     put_image(output, next, image, t.width as usize, t.height as usize)
 }
 
-pub fn put_answer(output: &mut [u8], o: usize, a: Answer, t: Terms, image: &[i32]) -> usize
+pub fn put_answer(
+    output: &mut [u8],
+    o: usize,
+    a: Result<Ending, Refusal>,
+    t: Terms,
+    image: &[i32],
+) -> usize
     requires { (t.height * t.width ≤ length image.now) × (o + 125 + t.height * (22 * t.width + 1) ≤ length output.old) }
     ensures { Put o (answer_text (answer_of a) t image.now) output.old result output.new }
 {
     match a {
-        Answer::Refused { number, place } => put_refusal(output, o, number, place),
-        Answer::Checked { figures } => put_accepted(output, o, b"checked", 0, figures, t, image),
-        Answer::Settled { moved, figures } => {
+        Err(refusal) => put_refusal(output, o, refusal.reason.number(), refusal.place),
+        Ok(Ending::Checked { figures }) => {
+            put_accepted(output, o, b"checked", 0, figures, t, image)
+        }
+        Ok(Ending::Settled { moved, figures }) => {
             put_accepted(output, o, b"settled", moved, figures, t, image)
         }
-        Answer::Spent { moved, figures } => {
+        Ok(Ending::Spent { moved, figures }) => {
             put_accepted(output, o, b"spent", moved, figures, t, image)
         }
     }

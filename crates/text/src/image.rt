@@ -6,8 +6,7 @@ ghost use Rattle.model.specs.Text.{signed_decimal};
 ghost use Rattle.model.specs.Program.{field, row_text};
 ghost use Rattle.output.specs.Put.{Put};
 
-use crate::number::{put_signed, put_signed_field};
-use integers::signed;
+use crate::number::{Decimal, put_field};
 use output::put_byte;
 
 // A value, with a space in front of it but for the first of its row.
@@ -17,23 +16,21 @@ fn put_value(output: &mut [u8], o: usize, column: usize, value: i32) -> usize
     ensures upper_bound { result ≤ o + 22 }
 {
     if column == 0 {
-        put_signed(output, o, signed::wide(value))
+        value.put(output, o)
     } else {
-        put_signed_field(output, o, signed::wide(value))
+        put_field(output, o, value)
     }
 }
 
-// The line of the row that starts at an index.
-fn put_row(output: &mut [u8], o: usize, image: &[i32], start: usize, width: usize) -> usize
-    requires { (start + width ≤ length image.now) × (o + (22 * width + 1) ≤ length output.old) }
-    ensures put { Put o (row_text width (λ column. at image.now (start + column))) output.old result output.new }
-    ensures upper_bound { result ≤ o + (22 * width + 1) }
+// The line of a row.
+fn put_row(output: &mut [u8], o: usize, row: &[i32]) -> usize
+    requires { o + (22 * length row.now + 1) ≤ length output.old }
+    ensures put { Put o (row_text (length row.now) (at row.now)) output.old result output.new }
+    ensures upper_bound { result ≤ o + (22 * length row.now + 1) }
 {
     let mut next = o;
-    let mut column = 0;
-    while column < width {
-        next = put_value(output, next, column, image[start + column]);
-        column += 1;
+    for (column, value) in row.iter().enumerate() {
+        next = put_value(output, next, column, *value);
     }
     put_byte(output, next, b'\n')
 }
@@ -44,10 +41,9 @@ pub fn put_image(output: &mut [u8], o: usize, image: &[i32], width: usize, heigh
     ensures upper_bound { result ≤ o + height * (22 * width + 1) }
 {
     let mut next = o;
-    let mut row = 0;
-    while row < height {
-        next = put_row(output, next, image, row * width, width);
-        row += 1;
+    for row in 0..height {
+        let start = row * width;
+        next = put_row(output, next, &image[start..start + width]);
     }
     next
 }

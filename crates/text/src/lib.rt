@@ -4,6 +4,8 @@
 //     image    one line of values for each row
 //     answer   the whole text of an answer
 //     report   the report of a season
+// The text is not printed by `Display` and `write!`: their contracts say what was written only where they give `Ok`, and
+// not that they do where there is room, and none of `put_answer`, `put_refusal` and `put_report` may fail.
 
 #![tactic(auto)]
 

@@ -6,7 +6,7 @@ ghost use Rattle.model.specs.Text.{ascii};
 ghost use Rattle.model.specs.Program.{refusal_text, numbers_text};
 ghost use Rattle.output.specs.Put.{Put};
 
-use crate::number::{put_decimal, put_field, put_signed_field};
+use crate::number::{Decimal, put_field};
 use model::Figures;
 use output::{put_byte, put_bytes};
 
@@ -15,9 +15,9 @@ pub fn put_refusal(output: &mut [u8], o: usize, number: u32, place: usize) -> us
     ensures { Put o (refusal_text (refusal number place)) output.old result output.new }
 {
     let first = put_bytes(output, o, b"refused ");
-    let second = put_decimal(output, first, number as u64);
+    let second = number.put(output, first);
     let third = put_bytes(output, second, b" at ");
-    let fourth = put_decimal(output, third, place as u64);
+    let fourth = place.put(output, third);
     put_byte(output, fourth, b'\n')
 }
 
@@ -27,9 +27,9 @@ fn put_numbers(output: &mut [u8], o: usize, moved: u32, figures: Figures) -> usi
     ensures put { Put o (numbers_text moved (pos figures.price) figures.floor (pos figures.slack)) output.old result output.new }
     ensures upper_bound { result ≤ o + 86 }
 {
-    let first = put_field(output, o, moved as u64);
+    let first = put_field(output, o, moved);
     let second = put_field(output, first, figures.price);
-    let third = put_signed_field(output, second, figures.floor);
+    let third = put_field(output, second, figures.floor);
     let fourth = put_field(output, third, figures.slack);
     put_byte(output, fourth, b'\n')
 }

@@ -1,22 +1,22 @@
 // The report of a season.
 
 ghost use Rattle.std.specs.Prelude.{◌++◌, ◌+◌, ◌≤◌, length};
-ghost use Rattle.model.specs.declared.Verdict.{Verdict};
+ghost use Rattle.model.specs.Verdict.{Refuse, number_of, verdict_of};
 ghost use Rattle.model.specs.Text.{ascii, decimal};
 ghost use Rattle.model.specs.Program.{field};
 ghost use Rattle.model.specs.Season.{line, mean_line, totals_text, ending_text, report_text};
 ghost use Rattle.output.specs.Put.{Put};
 
 use crate::line::put_refusal;
-use crate::number::put_field;
-use model::{Totals, Verdict};
+use crate::number::{Decimal, put_field};
+use model::{Refusal, Totals};
 use output::{put_byte, put_bytes};
 
 // A word and a number.
-fn put_line(output: &mut [u8], o: usize, word: &[u8], n: u64) -> usize
-    requires { (length word.now ≤ 7) × (o + 29 ≤ length output.old) }
-    ensures put { Put o (word.now ++ field (decimal n) ++ ascii "\n") output.old result output.new }
-    ensures upper_bound { result ≤ o + 29 }
+fn put_line<N: Decimal>(output: &mut [u8], o: usize, word: &[u8], n: N) -> usize
+    requires { (length word.now ≤ 7) × (o + (9 + N.room) ≤ length output.old) }
+    ensures put { Put o (word.now ++ field (N.text n) ++ ascii "\n") output.old result output.new }
+    ensures upper_bound { result ≤ o + (9 + N.room) }
 {
     let first = put_bytes(output, o, word);
     let second = put_field(output, first, n);
@@ -24,10 +24,16 @@ fn put_line(output: &mut [u8], o: usize, word: &[u8], n: u64) -> usize
 }
 
 // A word and two numbers.
-fn put_line_of_two(output: &mut [u8], o: usize, word: &[u8], m: u64, n: u64) -> usize
-    requires { (length word.now ≤ 7) × (o + 50 ≤ length output.old) }
-    ensures put { Put o (word.now ++ field (decimal m) ++ field (decimal n) ++ ascii "\n") output.old result output.new }
-    ensures upper_bound { result ≤ o + 50 }
+fn put_line_of_two<M: Decimal, N: Decimal>(
+    output: &mut [u8],
+    o: usize,
+    word: &[u8],
+    m: M,
+    n: N,
+) -> usize
+    requires { (length word.now ≤ 7) × (o + (10 + M.room + N.room) ≤ length output.old) }
+    ensures put { Put o (word.now ++ field (M.text m) ++ field (N.text n) ++ ascii "\n") output.old result output.new }
+    ensures upper_bound { result ≤ o + (10 + M.room + N.room) }
 {
     let first = put_bytes(output, o, word);
     let second = put_field(output, first, m);
@@ -41,43 +47,31 @@ fn put_mean(output: &mut [u8], o: usize, total: u64, pixels: u64) -> usize
     ensures put { Put o (mean_line total pixels) output.old result output.new }
     ensures upper_bound { result ≤ o + 50 }
 {
-    if pixels == 0 {
-        put_line_of_two(output, o, b"mean", 0, 0)
-    } else {
-        let quotient = total / pixels;
-        let remainder = total % pixels;
-        put_line_of_two(output, o, b"mean", quotient, remainder)
-    }
+    let quotient = total.checked_div(pixels).unwrap_or(0);
+    let remainder = total.checked_rem(pixels).unwrap_or(0);
+    put_line_of_two(output, o, b"mean", quotient, remainder)
 }
 
 // How many jobs and pixels.
-fn put_size(output: &mut [u8], o: usize, jobs: u64, pixels: u64) -> usize
+fn put_size(output: &mut [u8], o: usize, t: Totals) -> usize
     requires { o + 58 ≤ length output.old }
-    ensures put { Put o (line "jobs" jobs ++ line "pixels" pixels) output.old result output.new }
+    ensures put { Put o (line "jobs" t.jobs ++ line "pixels" t.pixels) output.old result output.new }
     ensures upper_bound { result ≤ o + 58 }
 {
-    let next = put_line(output, o, b"jobs", jobs);
-    put_line(output, next, b"pixels", pixels)
+    let next = put_line(output, o, b"jobs", t.jobs);
+    put_line(output, next, b"pixels", t.pixels)
 }
 
 // With how many jobs ended in each way.
-fn put_counts(
-    output: &mut [u8],
-    o: usize,
-    jobs: u64,
-    pixels: u64,
-    settled: u32,
-    spent: u32,
-    checked: u32,
-) -> usize
+fn put_counts(output: &mut [u8], o: usize, t: Totals) -> usize
     requires { o + 145 ≤ length output.old }
-    ensures put { Put o (line "jobs" jobs ++ line "pixels" pixels ++ line "settled" settled ++ line "spent" spent ++ line "checked" checked) output.old result output.new }
+    ensures put { Put o (line "jobs" t.jobs ++ line "pixels" t.pixels ++ line "settled" t.settled ++ line "spent" t.spent ++ line "checked" t.checked) output.old result output.new }
     ensures upper_bound { result ≤ o + 145 }
 {
-    let first = put_size(output, o, jobs, pixels);
-    let second = put_line(output, first, b"settled", settled as u64);
-    let third = put_line(output, second, b"spent", spent as u64);
-    put_line(output, third, b"checked", checked as u64)
+    let first = put_size(output, o, t);
+    let second = put_line(output, first, b"settled", t.settled);
+    let third = put_line(output, second, b"spent", t.spent);
+    put_line(output, third, b"checked", t.checked)
 }
 
 // The lines of the totals.
@@ -86,34 +80,32 @@ fn put_totals(output: &mut [u8], o: usize, t: Totals) -> usize
     ensures put { Put o (totals_text t) output.old result output.new }
     ensures upper_bound { result ≤ o + 274 }
 {
-    let jobs = t.jobs as u64;
-    let pixels = t.pixels;
-    let first = put_counts(output, o, jobs, pixels, t.settled, t.spent, t.checked);
+    let first = put_counts(output, o, t);
     let second = put_line(output, first, b"total", t.total);
-    let third = put_line_of_two(output, second, b"largest", t.largest, t.first as u64);
-    put_mean(output, third, t.total, pixels)
+    let third = put_line_of_two(output, second, b"largest", t.largest, t.first);
+    put_mean(output, third, t.total, t.pixels)
 }
 
 // The line of a refused job, behind so many jobs.
-fn put_refused(output: &mut [u8], o: usize, jobs: u32, number: u32, place: usize) -> usize
+fn put_refused(output: &mut [u8], o: usize, jobs: u32, refusal: Refusal) -> usize
     requires { o + 78 ≤ length output.old }
-    ensures put { Put o (ending_text jobs (Verdict.Refuse number place)) output.old result output.new }
+    ensures put { Put o (ending_text jobs (Refuse (number_of refusal.reason) refusal.place)) output.old result output.new }
     ensures upper_bound { result ≤ o + 78 }
 {
     let first = put_bytes(output, o, b"job");
     let second = put_field(output, first, jobs as u64 + 1);
     let third = put_byte(output, second, b' ');
-    put_refusal(output, third, number, place)
+    put_refusal(output, third, refusal.reason.number(), refusal.place)
 }
 
-pub fn put_report(output: &mut [u8], o: usize, t: Totals, ending: Verdict) -> usize
+pub fn put_report(output: &mut [u8], o: usize, t: Totals, ending: Result<(), Refusal>) -> usize
     requires { o + 352 ≤ length output.old }
-    ensures put { Put o (report_text t ending) output.old result output.new }
+    ensures put { Put o (report_text t (verdict_of ending)) output.old result output.new }
     ensures upper_bound { result ≤ o + 352 }
 {
     let next = put_totals(output, o, t);
     match ending {
-        Verdict::Accept => next,
-        Verdict::Refuse { number, place } => put_refused(output, next, t.jobs, number, place),
+        Ok(()) => next,
+        Err(refusal) => put_refused(output, next, t.jobs, refusal),
     }
 }

@@ -6,9 +6,8 @@ use mathlib.Core.List.{List, [], ◌∷◌, ◌++◌}
 use Prim.Native.Nat.{ℕ}
 use lib.IntN.{ℤ}
 use Rattle.model.specs.declared.Terms.{Terms}
-use Rattle.model.specs.declared.Verdict.{Verdict}
 use Rattle.model.specs.Grid.{size_allowed}
-use Rattle.model.specs.Verdict.{Row, first_refusal, decided}
+use Rattle.model.specs.Verdict.{Verdict, Accept, Refuse, Row, first_refusal, decided}
 use Rattle.model.specs.Calls.{pixels_of, pairs_of, size_row, weight_row, box_row, length_row, optional_row, pair_weights_row, first_outside, price_verdict}
 use Rattle.model.proofs.Refusals.{first_refusal-append}
 use Rattle.validation.proofs.Accepted.{accepted-size}
@@ -20,17 +19,17 @@ module _ (t : Terms) where
   terms_rows = size_row t 0 ∷ weight_row t.weight 0 ∷ box_row t 0 ∷ []
 
   -- the rows below need to be right only for an allowed size
-  pub under_terms : (lower : List Row) {v a b : Verdict} → v ≡ decided a b Verdict.Refuse → a ≡ first_refusal terms_rows →
+  pub under_terms : (lower : List Row) {v a b : Verdict} → v ≡ decided a b Refuse → a ≡ first_refusal terms_rows →
       (size_allowed t.width t.height ≡ true → b ≡ first_refusal lower) → v ≡ first_refusal (terms_rows ++ lower)
   under_terms lower {v} {a} {b} e f g =
       e
-      ∙ ap (λ (x : Verdict). decided x b Verdict.Refuse) f
+      ∙ ap (λ (x : Verdict). decided x b Refuse) f
       ∙ go (first_refusal terms_rows) refl
       ∙ sym (first_refusal-append terms_rows lower)
     where
-      go : (x : Verdict) → first_refusal terms_rows ≡ x → decided x b Verdict.Refuse ≡ decided x (first_refusal lower) Verdict.Refuse
-      go Verdict.Accept h = g (accepted-size t h)
-      go (Verdict.Refuse number place) h = refl
+      go : (x : Verdict) → first_refusal terms_rows ≡ x → decided x b Refuse ≡ decided x (first_refusal lower) Refuse
+      go Accept h = g (accepted-size t h)
+      go (Refuse number place) h = refl
 
   module _ (samples : List ℕ) (weights values : List ℤ) where
     -- the rows of a price, by two ends

@@ -11,12 +11,12 @@ mod limits;
 mod range;
 mod refusals;
 mod rows;
-mod verdict;
+mod search;
+mod terms;
 mod weights;
 
 pub use beyond::is_beyond;
 pub use counts::{pairs, pixels};
-pub use limits::{
-    all_or_none, box_allowed, quick_allowed, size_allowed, weight_allowed, wrong_length,
-};
+pub use limits::{all_or_none, box_allowed, quick_allowed, size_allowed, weight_allowed};
 pub use refusals::{judge_check, judge_price, judge_run, judge_write};
+pub use rows::require;

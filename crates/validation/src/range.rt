@@ -1,20 +1,15 @@
 // Values outside a range.
 
-ghost use Rattle.std.specs.Prelude.{◌≡◌};
+ghost use Rattle.std.specs.Prelude.{◌≡◌, ◌<◌, length};
+ghost use Rattle.lists.specs.Lists.{at, below};
 ghost use Rattle.validation.specs.Outside.{first_outside_range};
 
-use stencil::pixel;
+use crate::search::first_index;
+use stencil::pixel::Ends;
 
-// The first value that lies outside a range, or their number where none does.
-pub fn first_outside(values: &[i32], low: i32, high: i32) -> usize
-    ensures { result ≡ first_outside_range low high values.now }
+// The first index whose value lies outside a range.
+pub fn first_outside(values: &[i32], ends: Ends) -> Option<usize>
+    ensures { result ≡ below (length values.now) (first_outside_range ends.low ends.high values.now) }
 {
-    let mut i = 0;
-    while i < values.len() {
-        if pixel::outside(values[i], low, high) {
-            return i;
-        }
-        i += 1;
-    }
-    i
+    first_index(values.len(), |i| ends.exclude(values[i]))
 }

@@ -1,57 +1,50 @@
 // Where each call turns back: the rows of document 01's table, from the top.
 
 ghost use Rattle.std.specs.Prelude.{◌+◌, ◌*◌, ◌≡◌, [], ◌∷◌, ltb, length};
-ghost use Rattle.model.specs.Verdict.{row, first_refusal};
+ghost use Rattle.model.specs.Verdict.{row, first_refusal, verdict_of};
 ghost use Rattle.model.specs.Grid.{weight_of};
 ghost use Rattle.model.specs.Calls.{exact_row, pixels_of, pairs_of, size_row, weight_row, box_row, length_row, optional_row, pair_weights_row, flow_row};
 ghost use Rattle.validation.specs.Outside.{outside_row};
 
 use crate::rows::{
-    enough, exact, exact_or_none, first, judge_flow, judge_image, judge_lengths, judge_rounds,
-    judge_weights, lengths_due,
+    judge_contents, judge_image, judge_lengths, judge_price_lengths, judge_rounds, judge_weights,
+    judge_write_lengths, require,
 };
-use crate::verdict::judge_terms;
-use model::{Terms, Verdict};
+use crate::terms::judge_terms;
+use model::{Reason, Refusal, Terms};
+use stencil::pixel::Ends;
 
 // Check: 1, 2, 3; 4, 5, 19, 6; 2, 8. Of the image only its length counts, and weights and flow are
 // read only where terms and lengths have passed.
-pub fn judge_check(t: Terms, samples: usize, weights: &[i32], flow: &[i32], image: usize) -> Verdict
-    ensures { result ≡ first_refusal (size_row t 0 ∷ weight_row t.weight 0 ∷ box_row t 0 ∷ exact_row 4 samples (pixels_of t) ∷ length_row 5 flow.now (pairs_of t) ∷ optional_row 19 weights.now (pairs_of t) ∷ exact_row 6 image (pixels_of t) ∷ pair_weights_row weights.now ∷ flow_row (weight_of t weights.now) flow.now ∷ []) }
+pub fn judge_check(
+    t: Terms,
+    samples: usize,
+    weights: &[i32],
+    flow: &[i32],
+    image: usize,
+) -> Result<(), Refusal>
+    ensures { verdict_of result ≡ first_refusal (size_row t 0 ∷ weight_row t.weight 0 ∷ box_row t 0 ∷ exact_row 4 samples (pixels_of t) ∷ length_row 5 flow.now (pairs_of t) ∷ optional_row 19 weights.now (pairs_of t) ∷ exact_row 6 image (pixels_of t) ∷ pair_weights_row weights.now ∷ flow_row (weight_of t weights.now) flow.now ∷ []) }
 {
-    let above = first(
-        judge_terms(t),
-        judge_lengths(t, samples, weights.len(), flow.len(), image),
-    );
-    let Verdict::Accept = above else {
-        return above;
-    };
-    first(judge_weights(weights), judge_flow(t, weights, flow))
+    judge_terms(t)?;
+    judge_lengths(t, samples, weights.len(), flow.len(), image)?;
+    judge_contents(t, weights, flow)
 }
 
 // Price: 1, 2, 3; 4, 19, 6; 2, 9, by the ends that it is handed. Weights and image are read only
 // where terms and lengths have passed.
 pub fn judge_price(
     t: Terms,
-    lower: i32,
-    upper: i32,
+    ends: Ends,
     samples: usize,
     weights: &[i32],
     image: &[i32],
-) -> Verdict
-    ensures { result ≡ first_refusal (size_row t 0 ∷ weight_row t.weight 0 ∷ box_row t 0 ∷ exact_row 4 samples (pixels_of t) ∷ optional_row 19 weights.now (pairs_of t) ∷ length_row 6 image.now (pixels_of t) ∷ pair_weights_row weights.now ∷ outside_row lower upper image.now ∷ []) }
+) -> Result<(), Refusal>
+    ensures { verdict_of result ≡ first_refusal (size_row t 0 ∷ weight_row t.weight 0 ∷ box_row t 0 ∷ exact_row 4 samples (pixels_of t) ∷ optional_row 19 weights.now (pairs_of t) ∷ length_row 6 image.now (pixels_of t) ∷ pair_weights_row weights.now ∷ outside_row ends.low ends.high image.now ∷ []) }
 {
-    let due = lengths_due(t);
-    let n = due.pixels;
-    let by_weights = exact_or_none(weights.len(), due.pairs, 19);
-    let lengths = first(
-        exact(samples, n, 4),
-        first(by_weights, exact(image.len(), n, 6)),
-    );
-    let above = first(judge_terms(t), lengths);
-    let Verdict::Accept = above else {
-        return above;
-    };
-    first(judge_weights(weights), judge_image(image, lower, upper))
+    judge_terms(t)?;
+    judge_price_lengths(t, samples, weights.len(), image.len())?;
+    judge_weights(weights)?;
+    judge_image(image, ends)
 }
 
 // Run: 1, 2, 3; 10; 4, 5, 19, 6, 7; 2. Of the other buffers only the lengths count, and the weights
@@ -64,18 +57,13 @@ pub fn judge_run(
     flow: usize,
     image: usize,
     work: usize,
-) -> Verdict
-    ensures { result ≡ first_refusal (size_row t 0 ∷ weight_row t.weight 0 ∷ box_row t 0 ∷ row (ltb 4096 quick) 10 0 ∷ exact_row 4 samples (pixels_of t) ∷ exact_row 5 flow (pairs_of t) ∷ optional_row 19 weights.now (pairs_of t) ∷ exact_row 6 image (pixels_of t) ∷ exact_row 7 work (2 * pairs_of t) ∷ pair_weights_row weights.now ∷ []) }
+) -> Result<(), Refusal>
+    ensures { verdict_of result ≡ first_refusal (size_row t 0 ∷ weight_row t.weight 0 ∷ box_row t 0 ∷ row (ltb 4096 quick) 10 0 ∷ exact_row 4 samples (pixels_of t) ∷ exact_row 5 flow (pairs_of t) ∷ optional_row 19 weights.now (pairs_of t) ∷ exact_row 6 image (pixels_of t) ∷ exact_row 7 work (2 * pairs_of t) ∷ pair_weights_row weights.now ∷ []) }
 {
-    let work_due = 2 * lengths_due(t).pairs;
-    let lengths = first(
-        judge_lengths(t, samples, weights.len(), flow, image),
-        exact(work, work_due, 7),
-    );
-    let above = first(judge_terms(t), first(judge_rounds(quick), lengths));
-    let Verdict::Accept = above else {
-        return above;
-    };
+    judge_terms(t)?;
+    judge_rounds(quick)?;
+    judge_lengths(t, samples, weights.len(), flow, image)?;
+    require(work == 2 * flow, Reason::WorkCount, 0)?;
     judge_weights(weights)
 }
 
@@ -89,23 +77,13 @@ pub fn judge_write(
     weights: &[i32],
     flow: &[i32],
     room: usize,
-) -> Verdict
-    ensures { result ≡ first_refusal (size_row t 0 ∷ weight_row t.weight 0 ∷ box_row t 0 ∷ row (ltb 4096 quick) 10 0 ∷ exact_row 4 samples (pixels_of t) ∷ optional_row 5 flow.now (pairs_of t) ∷ optional_row 19 weights.now (pairs_of t) ∷ row (ltb room (16 + 2 * samples + 3 * length weights.now + 5 * length flow.now)) 16 0 ∷ pair_weights_row weights.now ∷ flow_row (weight_of t weights.now) flow.now ∷ []) }
+) -> Result<(), Refusal>
+    ensures { verdict_of result ≡ first_refusal (size_row t 0 ∷ weight_row t.weight 0 ∷ box_row t 0 ∷ row (ltb 4096 quick) 10 0 ∷ exact_row 4 samples (pixels_of t) ∷ optional_row 5 flow.now (pairs_of t) ∷ optional_row 19 weights.now (pairs_of t) ∷ row (ltb room (16 + 2 * samples + 3 * length weights.now + 5 * length flow.now)) 16 0 ∷ pair_weights_row weights.now ∷ flow_row (weight_of t weights.now) flow.now ∷ []) }
 {
-    let due = lengths_due(t);
-    let pairs = due.pairs;
-    let by_flow = exact_or_none(flow.len(), pairs, 5);
-    let by_weights = exact_or_none(weights.len(), pairs, 19);
-    let lengths = first(exact(samples, due.pixels, 4), first(by_flow, by_weights));
-    let above = first(judge_terms(t), first(judge_rounds(quick), lengths));
-    let Verdict::Accept = above else {
-        return above;
-    };
+    judge_terms(t)?;
+    judge_rounds(quick)?;
+    judge_write_lengths(t, samples, weights.len(), flow.len())?;
     let size = 16 + 2 * samples + 3 * weights.len() + 5 * flow.len();
-    let by_room = enough(room, size, 16);
-    let Verdict::Accept = by_room else {
-        return by_room;
-    };
-    let by_weight = judge_weights(weights);
-    first(by_weight, judge_flow(t, weights, flow))
+    require(size <= room, Reason::ShortBuffer, 0)?;
+    judge_contents(t, weights, flow)
 }

@@ -5,9 +5,6 @@ use Prim.Native.Nat.{ℕ, ◌*◌}
 use native.Mathlib.Omega.{arith}
 use lib.IntN.{ℤ, pos}
 use lib.ListN.{length, replicate}
-use mir.Syntax.{w32}
-use Rattle.integers.proofs.Machine.{read}
-use Rattle.model.specs.declared.Verdict.{Verdict}
 use Rattle.lists.specs.Lists.{at}
 use Rattle.model.specs.Problem.{Feasible}
 use Rattle.model.specs.Grid.{grid}
@@ -20,13 +17,18 @@ use Rattle.certificate.proofs.Grid.{run-demand, ending-flow}
 use Rattle.calls.proofs.Objectives.{figured}
 use Rattle.model.specs.declared.Terms.{Terms}
 use Rattle.model.specs.declared.Rounds.{Rounds}
-use Rattle.calls.proofs.Jobs.{box-ends}
+use borrow.Author.Rules.{rules}
+use Rattle.std.specs.Prelude.{Err}
+use Rattle.model.specs.Verdict.{Accept}
+use Rattle.model.specs.Answers.{answer_of}
+use Rattle.model.proofs.Refusals.{passes}
 use Rattle.calls.proofs.run.run.Goals as goal
 
-pub returns-in-Refuse : goal.returns-in-Refuse
+pub returns-in_err-judge_run : goal.returns-in_err-judge_run
 unfolding run_verdict
-returns-in-Refuse c =
-    let h = sym c.judge_run-verdict.ensures ∙ c.in-Refuse.is in
+returns-in_err-judge_run c =
+    let h = passes c.judge_run.ensures c.in_err-judge_run.was in
+    let failed : c.from_residual.result ≡ Err c.in_err-judge_run.field-0.0 = search rules in
     let t = c.args.t in
     let r = c.args.r in
     let b = c.args.samples.now in
@@ -34,7 +36,7 @@ returns-in-Refuse c =
     let f = c.args.flow.now in
     let x = c.args.image.now in
     let w = c.args.work.now in
-    let e = sym (run-answer t r b o f x w h) in
+    let e = ap answer_of failed ∙ sym (run-answer t r b o f x w h) in
     let g = sym (run-flow t r b o f x w h) in
     let k = sym (run-image t r b o f x w h) in
     record {
@@ -48,24 +50,31 @@ returns-in-Refuse c =
 
 -- ---- past the verdict
 
-facts : (t : Terms) (r : Rounds) (samples : List ℕ) (weights flow values work : List ℤ) → run_verdict t r samples weights flow values work ≡ Verdict.Accept →
+facts : (t : Terms) (r : Rounds) (samples : List ℕ) (weights flow values work : List ℤ) → run_verdict t r samples weights flow values work ≡ Accept →
     RunAllowed t r samples weights flow values work
 facts t r samples weights flow values work accepted = (run-accepted t r samples weights flow values work).0 accepted
+
+pub of-scan-requires : goal.of-scan-requires
+unfolding run_verdict
+of-scan-requires c =
+    let accepted = passes c.judge_run.ensures c.in_ok-judge_run.was in
+    let a = facts c.args.t c.args.r c.args.samples.now c.args.weights.now c.args.flow.now c.args.image.now c.args.work.now accepted in
+    omega (arith, a.terms.weight_most)
 
 pub solve-end-requires : goal.solve-end-requires
 unfolding run_verdict
 solve-end-requires c =
-    let accepted = sym c.judge_run-verdict.ensures ∙ c.in_default.is in
-    let a = facts c.args.t c.args.r c.args.samples.now c.args.weights.now c.args.flow.now c.args.image.now c.args.work.now accepted in (
-      box-ends c.args.t (read w32 c.low_end-lower.type_inv ∙ c.low_end-lower.ensures) (read w32 c.high_end-upper.type_inv ∙ c.high_end-upper.ensures),
-      record {
-        limits = a.terms;
-        pair_weights = a.pair_weights;
-        lengths = record { samples_length = a.samples_length; flow_length = a.flow_length; image_length = a.image_length };
-        quick_most = omega (arith, a.quick_most);
-        work_length = a.work_length ∙ ap (λ (n : ℕ). 2 * n) (sym a.flow_length);
-      },
-    )
+    let accepted = passes c.judge_run.ensures c.in_ok-judge_run.was in
+    let a = facts c.args.t c.args.r c.args.samples.now c.args.weights.now c.args.flow.now c.args.image.now c.args.work.now accepted in
+    let e = c.of-scan.ensures in
+    rw (e.terms, e.samples, e.weights)
+    (record {
+      limits = a.terms;
+      pair_weights = a.pair_weights;
+      lengths = record { samples_length = a.samples_length; flow_length = a.flow_length; image_length = a.image_length };
+      quick_most = omega (arith, a.quick_most);
+      work_length = a.work_length ∙ ap (λ (n : ℕ). 2 * n) (sym a.flow_length);
+    })
 
 pub returns : goal.returns
 unfolding run_verdict
@@ -77,14 +86,14 @@ returns c =
     let f = c.args.flow.now in
     let x = c.args.image.now in
     let w = c.args.work.now in
-    let yes = sym c.judge_run-verdict.ensures ∙ c.in_default.is in
+    let yes = passes c.judge_run.ensures c.in_ok-judge_run.was in
     let a = facts t r b o f x w yes in
-    let n = c.solve-end.ensures in
-    let g = c.of_flow-f.ensures in
+    let n = rw (c.of-scan.ensures.terms, c.of-scan.ensures.samples, c.of-scan.ensures.weights) at c.solve-end.ensures in
+    let g = c.of_flow-figures.ensures in
     -- how the rounds end
     let end : Steady = ending t r b o in
     let answer =
-    c.run_answer.ensures
+    c.ending_of.ensures
     ∙ figured (cond c.solve-end.result.settled settled spent) c.solve-end.result.moved t b o c.solve-end.new.flow g.price_value g.floor_value g.slack_value
     ∙ ap₂ (λ (m : ℕ) (z : List ℤ). figures_of (cond c.solve-end.result.settled settled spent) m t b o z) n.moved_value n.flow_after
     ∙ ap (λ (z : Bool). figures_of (cond z settled spent) end.moved t b o end.flow) n.settled_value
@@ -102,21 +111,22 @@ returns c =
       run_demand = run-demand t r b o f x w answer flow image;
     }
 
-pub of_flow-f-requires : goal.of_flow-f-requires
+pub of_flow-figures-requires : goal.of_flow-figures-requires
 unfolding run_verdict
-of_flow-f-requires c =
-    let accepted = sym c.judge_run-verdict.ensures ∙ c.in_default.is in
+of_flow-figures-requires c =
+    let accepted = passes c.judge_run.ensures c.in_ok-judge_run.was in
     let a = facts c.args.t c.args.r c.args.samples.now c.args.weights.now c.args.flow.now c.args.image.now c.args.work.now accepted in
     let t = c.args.t in
     let b = c.args.samples.now in
     let o = c.args.weights.now in
     let g = ending-flow t c.args.r b o a.terms.box in
-    let flow-is = c.solve-end.ensures.flow_after in
+    let n = rw (c.of-scan.ensures.terms, c.of-scan.ensures.samples, c.of-scan.ensures.weights) at c.solve-end.ensures in
+    let flow-is = n.flow_after in
     record {
       terms = a.terms;
       pair_weights = a.pair_weights;
       samples_length = a.samples_length;
       flow_length = ap length flow-is ∙ g.0;
       feasible = subst (λ (h : List ℤ). Feasible (grid t b o) (at h)) (sym flow-is) g.1;
-      image = c.solve-end.ensures.image_after ∙ ap (image_of t b) (sym flow-is);
+      image = n.image_after ∙ ap (image_of t b) (sym flow-is);
     }

@@ -19,4 +19,4 @@ pixel_value-requires c =
 
 pub returns : goal.returns
 returns c =
-    rw (read w32 {r = c.pixel_value.result} c.pixel_value.type_inv, c.pixel_value.ensures, read w32 {r = c.reading.result} c.reading.type_inv, c.reading.ensures, read w32 {r = c.number_or.result} c.number_or.type_inv, c.number_or.ensures, read w32 {r = c.number_or-2.result} c.number_or-2.type_inv, c.number_or-2.ensures, to_z-of_z w32 _ c.ranges.right, to_z-of_z w32 _ c.ranges.left, to_z-of_z w32 _ c.ranges.low, to_z-of_z w32 _ c.ranges.high)
+    rw (read w32 {r = c.pixel_value.result} c.pixel_value.type_inv, c.pixel_value.ensures, read w32 {r = c.reading.result} c.reading.type_inv, c.reading.ensures, read w32 {r = c.number_or.result} c.number_or.type_inv, c.number_or.ensures, read w32 {r = c.number_or-2.result} c.number_or-2.type_inv, c.number_or-2.ensures, to_z-of_z w32 _ c.ranges.right, to_z-of_z w32 _ c.ranges.left)

@@ -8,7 +8,9 @@ use lib.Seq.{length-take-le}
 use mir.Syntax.{w8}
 use mir.Val.{Fits}
 use Rattle.model.specs.declared.Terms.{Terms}
-use Rattle.model.specs.declared.ReadResult.{ReadResult}
+use Rattle.std.specs.Prelude.{Result}
+use Rattle.model.specs.declared.Job.{Job}
+use Rattle.model.specs.declared.Refusal.{Refusal}
 use Rattle.model.specs.Answers.{read_answer_of}
 use Rattle.model.specs.Tape.{read_answer}
 use Rattle.output.proofs.Puts.{put_as}
@@ -17,7 +19,7 @@ use Rattle.job.proofs.Texts.{read-text, enough}
 use Rattle.job.proofs.tape.put_tape_answer.Goals as goal
 
 -- what was read of the tape
-reads : {input samples : List ℕ} {weights flow : List ℤ} {r : ReadResult} → ((i : ℕ) → Fits w8 (get_or input i 0)) →
+reads : {input samples : List ℕ} {weights flow : List ℤ} {r : Result Job Refusal} → ((i : ℕ) → Fits w8 (get_or input i 0)) →
     read_answer_of r ≡ read_answer input samples weights flow → ReadFrom input samples weights flow r
 reads bytes e = record { byte = λ i. omega (arith, bytes i); answer = e }
 

@@ -1,5 +1,3 @@
-use Prim.Native.Nat.{◌-◌}
-use lib.ListN.{length}
 use Rattle.lists.specs.Lists.{at}
 use Rattle.model.specs.Rounds.{eighth}
 use Rattle.passes.specs.Pairs.{weight_at, step_at, ahead_at}
@@ -8,8 +6,5 @@ use Rattle.passes.proofs.advance.advance_run.Given as goal
 
 abbrev pub invariant-loop-j : goal.invariant-loop-j
 invariant-loop-j l =
-    Filling (step_at eighth (weight_at l.weight l.weights) (at l.initial.ahead) (at l.first) (at l.second)) l.initial.flow l.j l.flow
-    × Filling (ahead_at eighth (weight_at l.weight l.weights) l.m (at l.initial.flow) (at l.initial.ahead) (at l.first) (at l.second)) l.initial.ahead l.j l.ahead
-
-abbrev pub decreases-loop-j : goal.decreases-loop-j
-decreases-loop-j l = length l.initial.flow - l.j
+    Filling (step_at eighth (weight_at l.weights.all l.weights.own.now) (at l.initial.ahead) (at l.values.first.now) (at l.values.second.now)) l.initial.flow l.j l.flow
+    × Filling (ahead_at eighth (weight_at l.weights.all l.weights.own.now) l.m (at l.initial.flow) (at l.initial.ahead) (at l.values.first.now) (at l.values.second.now)) l.initial.ahead l.j l.ahead

@@ -9,7 +9,7 @@ use Rattle.passes.proofs.Totals.{total-more, misfit_at, misfit-most, misfits_mos
 use Rattle.passes.proofs.pixels.misfit.Goals as goal
 
 pub loop-i-init : goal.loop-i-init
-loop-i-init c = (omega arith, sym (total-zero _))
+loop-i-init c = sym (total-zero _)
 
 pub squared_misfit-sum-requires : goal.squared_misfit-sum-requires
 squared_misfit-sum-requires c = rw (element c.args.image.now c.requires.image_most c.loop-i.i) (c.requires.image_most c.loop-i.i)
@@ -23,12 +23,12 @@ pub overflow_add-sum : goal.overflow_add-sum
 overflow_add-sum c =
     let l = c.loop-i in
     let bytes : (i : ℕ) → get_or c.args.samples.now i 0 < 256 = λ i. (c.type_inv.samples i).fits in
-    record { fits = omega (arith, c.requires, l.invariant.0, ap nat_abs l.invariant.1, misfits_most c.args.image.now c.requires.image_most c.args.samples.now bytes l.i, ap nat_abs (term c), misfit-most c.args.image.now c.requires.image_most c.args.samples.now bytes l.i) }
+    record { fits = omega (arith, c.requires, ap nat_abs l.invariant, misfits_most c.args.image.now c.requires.image_most c.args.samples.now bytes l.i, ap nat_abs (term c), misfit-most c.args.image.now c.requires.image_most c.args.samples.now bytes l.i) }
 
 pub loop-i-preserved : goal.loop-i-preserved
-loop-i-preserved c = let l = c.loop-i in (omega arith, total-more _ l.i l.invariant.1 (term c))
+loop-i-preserved c = total-more _ c.loop-i.i c.loop-i.invariant (term c)
 
 pub returns : goal.returns
 returns c =
     let e : c.loop-i.i ≡ length c.args.image.now = omega arith in
-    rw e at c.loop-i.invariant.1
+    rw e at c.loop-i.invariant

@@ -1,4 +1,3 @@
-use Prim.Native.Nat.{◌-◌, ◌≤◌}
 use Rattle.lists.specs.Lists.{at}
 use Rattle.lists.proofs.Search.{Passed}
 use Rattle.model.specs.Rounds.{nearest_eighth}
@@ -8,7 +7,4 @@ use Rattle.passes.proofs.search.first_moving.Given as goal
 
 abbrev pub invariant-loop-k : goal.invariant-loop-k
 invariant-loop-k l =
-    (l.k ≤ l.runs) × Passed (moves_at nearest_eighth (weight_at l.weight l.weights) (at l.flow) (first_value l.s l.image) (second_value l.s l.image)) (start l.s l.k)
-
-abbrev pub decreases-loop-k : goal.decreases-loop-k
-decreases-loop-k l = l.runs - l.k
+    Passed (moves_at nearest_eighth (weight_at l.weights.all l.weights.own.now) (at l.flow) (first_value l.s l.image) (second_value l.s l.image)) (start l.s l.k)

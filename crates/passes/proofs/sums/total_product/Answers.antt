@@ -1,98 +1,66 @@
 -- run after run.
-use mathlib.Core.Path.{◌≡◌, sym, ap, ◌∙◌}
-use Prim.Native.Nat.{ℕ, ◌+◌, ◌<◌}
+use mathlib.Core.Path.{◌≡◌, refl, ◌∙◌}
+use Prim.Native.Nat.{◌+◌}
 use native.Mathlib.Omega.{arith}
-use lib.IntN.{ℤ, ◌-ℤ◌, ◌*ℤ◌}
+use lib.IntN.{ℤ, pos, ◌-ℤ◌, ◌*ℤ◌}
 use mir.Syntax.{w64}
 use mir.Val.{to_z, of_z}
+use mir.ValLaws.{to_z-of_z}
 use Rattle.integers.specs.Sum.{total}
 use Rattle.integers.proofs.Total.{total-cong}
 use Rattle.integers.proofs.Machine.{read}
 use Rattle.lists.specs.Lists.{at}
-use Rattle.layout.specs.declared.Run.{Run}
-use Rattle.layout.specs.Runs.{first_pixel, second_pixel, run_count}
-use Rattle.layout.proofs.Runs.{RunOf}
+use Rattle.layout.specs.Runs.{first_pixel, second_pixel}
 use Rattle.passes.specs.Pairs.{product_at, first_value, second_value}
-use Rattle.passes.proofs.Totals.{product_most}
-use Rattle.passes.proofs.Runs.{PartOf, part_of, is_run, run-total, run-most, none_summed, all_done, Values, values_of, first-there, second-there, run-limits, run-pass}
+use Rattle.passes.proofs.Totals.{product_most, sum_fits}
+use Rattle.passes.proofs.Runs.{PartOf, part_of, Turn, turn, none_summed, all-summed, values-there, numbers-there, run-total, run-most, ValuesOf, values_of, run-limits, run-pass}
 use Rattle.passes.proofs.sums.total_product.Goals as goal
 
-pub run_count-runs-requires : goal.run_count-runs-requires
-run_count-runs-requires c = c.requires.raster.shape
-
 pub loop-k-init : goal.loop-k-init
-loop-k-init c = (omega arith, none_summed _ _)
+loop-k-init c = none_summed
 
-pub run_at-r-requires : goal.run_at-r-requires
-run_at-r-requires c = (c.requires.raster.shape, omega (arith, c.run_count-runs.ensures))
-
-module _ (c : goal.After-run_at-r) where
-  abbrev entry : goal.Start
-  entry = c.before.before.before.before
-
-  abbrev run : Run
-  run = c.run_at-r.result
-
-  -- what is summed over all pairs
-  abbrev term : ℕ → ℤ
-  term = product_at (at c.args.flow.now) (first_value c.args.s c.args.image.now) (second_value c.args.s c.args.image.now)
-
-  there : c.loop-k.k < run_count c.args.s
-  there = omega (arith, c.loop-k-test.true, c.run_count-runs.ensures)
-
-  is : RunOf c.args.s run
-  is = is_run c.args.s c.requires.raster.shape c.loop-k.k c.run_at-r.ensures there
+this : (c : goal.After-run-r) → Turn c.args.s c.loop-k.k c.run-r.result
+this c = turn c.requires.raster.shape c.run-r.ensures c.loop-k-test.true c.run_count-k-end.ensures
 
 pub part_of-numbers-requires : goal.part_of-numbers-requires
-part_of-numbers-requires c _ = omega (arith, (is c).pairs-inside, c.requires.flow_length)
+part_of-numbers-requires c _ = numbers-there (this c) c.args.flow.now c.requires.flow_length
 
-pub part_of-first-requires : goal.part_of-first-requires
-part_of-first-requires c _ = first-there (is c.before) c.requires.raster
+pub of_run-values-requires : goal.of_run-values-requires
+of_run-values-requires c = values-there (this c.before) c.requires.raster
 
-pub part_of-second-requires : goal.part_of-second-requires
-part_of-second-requires c _ = second-there (is c.before.before) c.requires.raster
+module _ (c : goal.After-of_run-values) where
+  run : Turn c.args.s c.loop-k.k c.run-r.result
+  run = this c.before.before
 
-module _ (c : goal.After-part_of-second) where
-  abbrev known : goal.After-run_at-r
-  known = c.before.before.before
+  values : ValuesOf c.args.s c.run-r.result c.args.image.now c.of_run-values.result.first.now c.of_run-values.result.second.now
+  values = values_of run c.requires.raster c.of_run-values.ensures.first c.of_run-values.ensures.second
 
-  values : Values (entry known).args.s (run known) (entry known).args.image.now c.part_of-first.result.now c.part_of-second.result.now
-  values = values_of (is known) (entry known).requires.raster c.part_of-first.ensures c.part_of-second.ensures
+  numbers : PartOf c.args.flow.now c.run-r.result.pair c.run-r.result.count c.part_of-numbers.result.now
+  numbers = part_of c.args.flow.now c.run-r.result.pair c.run-r.result.count c.part_of-numbers.ensures (numbers-there run c.args.flow.now c.requires.flow_length)
 
-  numbers : PartOf (entry known).args.flow.now (run known).pair (run known).count c.part_of-numbers.result.now
-  numbers = part_of (entry known).args.flow.now (run known).pair (run known).count c.part_of-numbers.ensures (omega (arith, (is known).pairs-inside, (entry known).requires.flow_length))
-
-pub product_run-requires : goal.product_run-requires
-product_run-requires c = run-limits (values c) c.requires (numbers c)
+pub product_run-sum-requires : goal.product_run-sum-requires
+product_run-sum-requires c = run-limits (values c) c.requires (numbers c)
 
 -- the run's sum is that over its pairs of the raster
-summed : (c : goal.After-product_run) → let i = known c.before in
-    to_z w64 (of_z w64 c.product_run.result) ≡ total (run i).count (λ j. term i ((run i).pair + j))
+summed : (c : goal.After-product_run-sum) → to_z w64 (of_z w64 c.product_run-sum.result)
+    ≡ total c.run-r.result.count (λ j. product_at (at c.args.flow.now) (first_value c.args.s c.args.image.now) (second_value c.args.s c.args.image.now) (c.run-r.result.pair + j))
 summed c =
     let d = c.before in
-    read w64 c.product_run.type_inv ∙ c.product_run.ensures
-    ∙ run-pass (values d) total (λ n _ _. total-cong n) (λ (f x y : ℤ). f *ℤ (x -ℤ y)) _ (at d.args.flow.now) (numbers d).size (numbers d).number
+    read w64 c.product_run-sum.type_inv ∙ c.product_run-sum.ensures
+    ∙ run-pass (values d) {own = λ _. pos 0} (λ _. pos 0) (at c.args.flow.now) (λ _ _. refl) (numbers d).number
+    total (λ n _ _. total-cong n) (λ (w f x y : ℤ). f *ℤ (x -ℤ y)) (numbers d).size
 
-pub add_wide-sum-requires : goal.add_wide-sum-requires
-add_wide-sum-requires c =
-    let i = known c.before in
-    let s = entry i in
-    let image_most = s.requires.raster.image_most in
-    omega (
-      arith,
-      run-most s.args.s s.requires.raster.shape i.loop-k.k i.run_at-r.ensures (term i)
-          (product_most (first_value s.args.s s.args.image.now) (second_value s.args.s s.args.image.now) (λ j. image_most (first_pixel s.args.s j)) (λ j. image_most (second_pixel s.args.s j)) (at s.args.flow.now) s.requires.flow_most)
-          (there i) i.loop-k.invariant.1 (summed c),
-    )
+pub overflow_add-sum : goal.overflow_add-sum
+overflow_add-sum c =
+    let s = c.args.s in
+    let most = c.requires.raster.image_most in
+    let each =
+    product_most (first_value s c.args.image.now) (second_value s c.args.image.now) (λ j. most (first_pixel s j)) (λ j. most (second_pixel s j)) (at c.args.flow.now) c.requires.flow_most
+    in
+    sum_fits (to_z w64 c.loop-k.sum-bits) (to_z w64 (of_z w64 c.product_run-sum.result)) (omega (arith, run-most (run c.before) c.loop-k.invariant (summed c) c.requires.raster.shape each))
 
 pub loop-k-preserved : goal.loop-k-preserved
-loop-k-preserved c =
-    let i = known c.before.before in
-    let s = entry i in
-    (omega arith, read w64 c.add_wide-sum.type_inv ∙ c.add_wide-sum.ensures ∙ run-total s.args.s s.requires.raster.shape i.loop-k.k i.run_at-r.ensures (term i) i.loop-k.invariant.1 (summed c.before))
+loop-k-preserved c = rw (to_z-of_z w64 _ (overflow_add-sum c)) (run-total (run c.before) c.loop-k.invariant (summed c))
 
 pub returns : goal.returns
-returns c =
-    let l = c.loop-k in
-    l.invariant.1 ∙ ap (λ (n : ℕ). total n (product_at (at c.args.flow.now) (first_value c.args.s c.args.image.now) (second_value c.args.s c.args.image.now)))
-    (all_done c.args.s (omega (arith, l.invariant.0, c.run_count-runs.ensures)) (omega (arith, c.loop-k-test.false, c.run_count-runs.ensures)) ∙ sym c.requires.flow_length)
+returns c = rw c.requires.flow_length (all-summed c.loop-k.invariant c.run_count-k-end.ensures c.loop-k.auto.k-end c.loop-k-test.false)

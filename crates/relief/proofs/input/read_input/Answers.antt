@@ -21,7 +21,6 @@ loop-count-preserved g c =
     let few : c.in-Ok.more ≤ length part = c.in-Ok.ensures.bound.0 in
     record {
       within = omega (arith, c.read.auto.buf, few);
-      whole = l.invariant.whole;
       first_bytes =
           subst (Consumes (g.R.Read.remaining c.args.stdin.now) (g.R.Read.remaining c.read.new.self))
           (sym (joined l.buffer part (post_of l.count (length l.buffer - l.count) l.buffer) l.count c.in-Ok.more l.invariant.within few))

@@ -1,5 +1,4 @@
-use Rattle.std.proofs.Common.{◌≡◌, ◌≤◌, ◌-◌, length, take}
-use mathlib.Core.Bool.{false}
+use Rattle.std.proofs.Common.{◌≤◌, ◌-◌, length, take}
 use Rattle.std.specs.Io.KnownBytes.{Consumes}
 use Rattle.relief.proofs.input.read_input.Given as goal
 
@@ -7,7 +6,6 @@ abbrev pub invariant-loop-count : goal.invariant-loop-count
 invariant-loop-count g l =
     record {
       within : l.count ≤ length l.buffer;
-      whole : l.failed ≡ false;
       first_bytes : Consumes (g.R.Read.remaining l.fn.stdin) (g.R.Read.remaining l.stdin) (take l.count l.buffer);
     }
 

@@ -7,6 +7,6 @@ use Rattle.relief_c.proofs.run.relief_call_run.Goals as goal
 
 pub returns-clause-answer_numbers : goal.returns-clause-answer_numbers
 returns-clause-answer_numbers c =
-    let n = c.numbers_of-n in
+    let n = c.of-n in
     let bits : to_z w64 (of_z w64 n.result.floor) ≡ n.result.floor = search rules in
     same c.run.ensures.result_value bits n.ensures

@@ -1,18 +1,15 @@
 use mathlib.Core.Path.{◌≡◌}
 use native.Mathlib.Omega.{arith}
-use mir.Syntax.{w32}
-use mir.ValLaws.{to_z-of_z}
 use Rattle.solver.proofs.QuickRounds.{turned_none, turned-ready, turned_more, turned-work}
 use Rattle.solver.proofs.quick.quick_rounds.Goals as goal
 
 pub loop-k-init : goal.loop-k-init
-loop-k-init c = turned_none c.requires.1 c.clear.ensures c.clear-2.ensures
+loop-k-init c = turned_none c.requires (c.fill.ensures.after (λ y e. e)) (c.fill-2.ensures.after (λ y e. e))
 
 pub quick_round-momentum-requires : goal.quick_round-momentum-requires
 quick_round-momentum-requires c = (
-  rw (to_z-of_z w32 _ c.ranges.lower, to_z-of_z w32 _ c.ranges.upper) c.requires.0,
   turned-work c.loop-k.invariant,
-  turned-ready c.loop-k.invariant c.requires.1 (omega arith),
+  turned-ready c.loop-k.invariant c.requires (omega arith),
 )
 
 pub loop-k-preserved : goal.loop-k-preserved

@@ -4,9 +4,8 @@ use mathlib.Core.List.{List}
 use Prim.Native.Nat.{ℕ}
 use lib.IntN.{ℤ, pos}
 use lib.ListN.{length, replicate}
-use mir.Syntax.{w32}
-use mir.ValLaws.{to_z-of_z}
-use Rattle.model.specs.Grid.{limit, grid}
+use Rattle.model.specs.Grid.{limit}
+use Rattle.solver.specs.Scan.{problem_of}
 use Rattle.model.specs.Rounds.{eighth, nearest_eighth, Steady, steady_rounds}
 use Rattle.model.specs.Plain.{rounds_of}
 use Rattle.model.specs.Calls.{image_of, quick_flow, ending}
@@ -19,34 +18,32 @@ pub steady_rounds-requires : goal.steady_rounds-requires
 unfolding quick_flow
 steady_rounds-requires c =
     let a = c.args in
-    let p = c.requires.1 in
-    let iterate = c.quick_rounds.ensures.flow_after in (
-      rw (to_z-of_z w32 _ c.ranges.lower, to_z-of_z w32 _ c.ranges.upper) c.requires.0,
-      record {
-        limits = p.limits;
-        pair_weights = p.pair_weights;
-        lengths =
-            record {
-              samples_length = p.lengths.samples_length;
-              flow_length = ap length iterate ∙ iterate-size eighth (grid a.t a.samples.now a.weights.now) a.quick;
-              image_length = c.quick_rounds.auto.image ∙ p.lengths.image_length;
-            };
-        flow_most = subst (Within limit.weight) (sym iterate) (iterate-within eighth a.t a.samples.now a.weights.now p.limits p.pair_weights a.quick);
-      },
-    )
+    let p = c.requires in
+    let iterate = c.quick_rounds.ensures.flow_after in
+    record {
+      limits = p.limits;
+      pair_weights = p.pair_weights;
+      lengths =
+          record {
+            samples_length = p.lengths.samples_length;
+            flow_length = ap length iterate ∙ iterate-size eighth (problem_of a.scan) a.quick;
+            image_length = c.quick_rounds.auto.image ∙ p.lengths.image_length;
+          };
+      flow_most = subst (Within limit.weight) (sym iterate) (iterate-within eighth a.scan.terms a.scan.samples.now a.scan.weights.own.now p.limits p.pair_weights a.quick);
+    }
 
 pub returns : goal.returns
 unfolding ending quick_flow
 returns c =
     let a = c.args in
-    let iterate : c.quick_rounds.new.flow ≡ quick_flow a.t (rounds_of a.quick a.allowance) a.samples.now a.weights.now = c.quick_rounds.ensures.flow_after in
+    let iterate : c.quick_rounds.new.flow ≡ quick_flow a.scan.terms (rounds_of a.quick a.allowance) a.scan.samples.now a.scan.weights.own.now = c.quick_rounds.ensures.flow_after in
     let left = c.steady_rounds.ensures in
-    let from : List ℤ → Steady = steady_rounds nearest_eighth (grid a.t a.samples.now a.weights.now) a.allowance in
+    let from : List ℤ → Steady = steady_rounds nearest_eighth (problem_of a.scan) a.allowance in
     let flow = left.flow_after ∙ ap (λ (f : List ℤ). (from f).flow) iterate in
     record {
       flow_after = flow;
-      image_after = left.image_after ∙ ap (image_of a.t a.samples.now) flow;
-      work_after = c.clear.ensures ∙ ap (λ (n : ℕ). replicate n (pos 0)) c.quick_rounds.auto.work;
+      image_after = left.image_after ∙ ap (image_of a.scan.terms a.scan.samples.now) flow;
+      work_after = c.fill.ensures.after (λ y e. e) ∙ ap (λ (n : ℕ). replicate n (pos 0)) c.quick_rounds.auto.work;
       moved_value = left.moved_value ∙ ap (λ (f : List ℤ). (from f).moved) iterate;
       settled_value = left.settled_value ∙ ap (λ (f : List ℤ). (from f).settled) iterate;
     }

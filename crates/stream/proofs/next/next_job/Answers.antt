@@ -1,47 +1,45 @@
 use mathlib.Core.Path.{◌≡◌, sym, ap, ◌∙◌, subst}
 use mathlib.Core.List.{List}
-use Prim.Native.Nat.{ℕ, ◌+◌, ◌≤◌, ◌<◌}
+use Prim.Native.Nat.{ℕ, ◌+◌, ◌≤◌, ◌<◌, min}
+use native.Mathlib.Decide.{dec_le}
+use native.Mathlib.Omega.{arith}
 use lib.ListN.{length, get_or, take}
 use lib.Seq.{length-take-le, take-length, take_all}
 use Rattle.job.proofs.Slacks.{front_bytes}
-use Rattle.model.specs.declared.Lent.{Lent}
-use Rattle.tape_reader.specs.declared.scan.Scanned.{Scanned}
-use Rattle.tape_reader.specs.Scan.{StopsAt}
+use Rattle.model.specs.Verdict.{number_of}
 use Rattle.job.proofs.Tapes.{tables-read}
 use Rattle.stream.specs.Jobs.{lent_in, Stopped, Answered}
 use Rattle.stream.proofs.Jobs.{inside, records, stopped, read-from, answered}
 use Rattle.stream.proofs.next.next_job.Goals as goal
-use Rattle.stream.proofs.next.next_job.Goals.{then-len-gt65536, else-len-gt65536}
 
--- bytes that are few are all among the first 65,536
-all-few : (w : List ℕ) {count : ℕ} → count ≡ length w → length w ≤ 65536 → take count w ≡ take 65536 w
-all-few w e l = ap (λ (n : ℕ). take n w) e ∙ take-length w ∙ sym (take_all 65536 w l)
-
--- where the scan stopped, by the case of its answer
-stops : (tape : List ℕ) (lent : Lent) {x y : Scanned} → x ≡ y → StopsAt tape lent x → StopsAt tape lent y
-stops tape lent e h = subst (StopsAt tape lent) e h
+-- the bytes that are scanned are the first 65,536
+first_bytes : (bytes : List ℕ) {count : ℕ} → count ≡ min (length bytes) 65536 → take count bytes ≡ take 65536 bytes
+first_bytes bytes {count} e = by (dec_le (length bytes) 65536)
+  where
+    by : Dec (length bytes ≤ 65536) → take count bytes ≡ take 65536 bytes
+    by (yes h) = let all : count ≡ length bytes = omega arith in ap (λ (n : ℕ). take n bytes) all ∙ take-length bytes ∙ sym (take_all 65536 bytes h)
+    by (no h) = let most : count ≡ 65536 = omega (arith, h) in ap (λ (n : ℕ). take n bytes) most
 
 pub slice_bounds-read_numbers-end : goal.slice_bounds-read_numbers-end
 slice_bounds-read_numbers-end c =
     let a = c.args in
-    let w : List ℕ = take c.if-len-gt65536.count a.bytes.now in
-    -- the end record, and that it lies inside
-    let s = stops w _ c.in-Whole.is c.scan_tape-scanned.ensures in
+    let w : List ℕ = take c.min-count.result a.bytes.now in
+    let s = c.in-Ok.ensures in
     sym (length-take-le _ _ (inside w a.samples.now a.weights.now a.flow.now s.0 s.1))
 
 pub read_numbers-read-requires : goal.read_numbers-read-requires
 read_numbers-read-requires c =
     let a = c.args in
-    let w : List ℕ = take c.if-len-gt65536.count a.bytes.now in
-    let s = stops w _ c.in-Whole.is c.scan_tape-scanned.ensures in
+    let w : List ℕ = take c.min-count.result a.bytes.now in
+    let s = c.in-Ok.ensures in
     records w a.samples.now a.weights.now a.flow.now s.0 s.1
 
 pub answer_of-answer-requires : goal.answer_of-answer-requires
 answer_of-answer-requires c =
     let a = c.args in
-    let w : List ℕ = take c.if-len-gt65536.count a.bytes.now in
-    let s = stops w _ c.in-Whole.is c.scan_tape-scanned.ensures in
-    let bytes : (i : ℕ) → get_or w i 0 < 256 = front_bytes c.if-len-gt65536.count _ (λ i. (c.type_inv.bytes i).fits) in
+    let w : List ℕ = take c.min-count.result a.bytes.now in
+    let s = c.in-Ok.ensures in
+    let bytes : (i : ℕ) → get_or w i 0 < 256 = front_bytes c.min-count.result _ (λ i. (c.type_inv.bytes i).fits) in
     let kept = c.read_numbers-read.auto in
     tables-read c.read_numbers-read.result
     (read-from w a.samples.now a.weights.now a.flow.now s.0 s.1 bytes c.read_numbers-read.ensures.result_value)
@@ -50,9 +48,9 @@ answer_of-answer-requires c =
 pub count_job-requires : goal.count_job-requires
 count_job-requires c =
     let a = c.args in
-    let w : List ℕ = take c.if-len-gt65536.count a.bytes.now in
-    let s = stops w _ c.in-Whole.is c.scan_tape-scanned.ensures in
-    let bytes : (i : ℕ) → get_or w i 0 < 256 = front_bytes c.if-len-gt65536.count _ (λ i. (c.type_inv.bytes i).fits) in
+    let w : List ℕ = take c.min-count.result a.bytes.now in
+    let s = c.in-Ok.ensures in
+    let bytes : (i : ℕ) → get_or w i 0 < 256 = front_bytes c.min-count.result _ (λ i. (c.type_inv.bytes i).fits) in
     let e = c.read_numbers-read.ensures in
     let answer = c.answer_of-answer.ensures in (
       _,
@@ -61,44 +59,31 @@ count_job-requires c =
           c.read_numbers-read.result c.answer_of-answer.result e.result_value answer.result_value answer.result_bound,
     )
 
-pub returns-in-Refused : goal.returns-in-Refused
-returns-in-Refused c =
+pub returns-in-Err : goal.returns-in-Err
+returns-in-Err c =
     let a = c.args in
-    let w : List ℕ = take c.if-len-gt65536.count a.bytes.now in
-    -- the bytes that are scanned are the first 65,536
-    let front : w ≡ take 65536 a.bytes.now =
-    elim c.if-len-gt65536.branch [
-      | then-len-gt65536 b ↦ ap (λ (n : ℕ). take n a.bytes.now) b.count-is
-      | else-len-gt65536 b ↦ all-few a.bytes.now b.count-is b.if-len-gt65536.false
-    ]
-    in
-    let v = c.in-Refused in
-    let s = stops w _ v.is c.scan_tape-scanned.ensures in
+    let w : List ℕ = take c.min-count.result a.bytes.now in
+    let v = c.in-Err.stopped in
+    let s = c.in-Err.ensures in
     c.unfinished.ensures _ a.totals c.requires.2.not_last
     (subst
-    (λ (l : List ℕ). Stopped l (lent_in (length a.samples.now) (length a.weights.now) (length a.flow.now)) v.number v.place v.t v.next)
-    front
+    (λ (l : List ℕ). Stopped l (lent_in (length a.samples.now) (length a.weights.now) (length a.flow.now)) (number_of v.refusal.reason) v.refusal.place v.state v.at)
+    (first_bytes a.bytes.now c.min-count.ensures)
     (stopped w a.samples.now a.weights.now a.flow.now s.0 s.1))
 
-pub returns-in-Whole : goal.returns-in-Whole
-returns-in-Whole c =
+pub returns-in-Ok : goal.returns-in-Ok
+returns-in-Ok c =
     let a = c.args in
-    let w : List ℕ = take c.if-len-gt65536.count a.bytes.now in
-    let front : w ≡ take 65536 a.bytes.now =
-    elim c.if-len-gt65536.branch [
-      | then-len-gt65536 b ↦ ap (λ (n : ℕ). take n a.bytes.now) b.count-is
-      | else-len-gt65536 b ↦ all-few a.bytes.now b.count-is b.if-len-gt65536.false
-    ]
-    in
-    let s = stops w _ c.in-Whole.is c.scan_tape-scanned.ensures in
-    let bytes : (i : ℕ) → get_or w i 0 < 256 = front_bytes c.if-len-gt65536.count _ (λ i. (c.type_inv.bytes i).fits) in
+    let w : List ℕ = take c.min-count.result a.bytes.now in
+    let s = c.in-Ok.ensures in
+    let bytes : (i : ℕ) → get_or w i 0 < 256 = front_bytes c.min-count.result _ (λ i. (c.type_inv.bytes i).fits) in
     let e = c.read_numbers-read.ensures in
     let answer = c.answer_of-answer.ensures in
     c.count_job.ensures a.bytes.now a.ended _ c.requires.2.not_last
     (subst
     (λ (l : List ℕ).
     Answered l (lent_in (length a.samples.now) (length a.weights.now) (length a.flow.now)) a.totals
-    c.read_numbers-read.result c.answer_of-answer.result (c.in-Whole.last + 1))
-    front
+    c.read_numbers-read.result c.answer_of-answer.result (c.in-Ok.last + 1))
+    (first_bytes a.bytes.now c.min-count.ensures)
     (answered w a.samples.now a.weights.now a.flow.now s.0 s.1 bytes a.image.now a.work.now c.requires.2 e.samples_after e.weights_after e.flow_after
     c.read_numbers-read.result c.answer_of-answer.result e.result_value answer.result_value answer.result_bound))

@@ -1,11 +1,16 @@
-use mathlib.Core.Path.{◌≡◌, sym, ap, ◌∙◌, subst}
+use mathlib.Core.Path.{◌≡◌, refl, sym, ap, ◌∙◌}
+use mathlib.Core.Bool.{Bool, true, false, cond}
 use mathlib.Core.List.{List}
 use Prim.Native.Nat.{ℕ, ◌≤◌, ◌<◌}
 use native.Mathlib.Omega.{arith}
+use borrow.Author.Tests.{ltb-true, ltb-false}
+use lib.Dec.{ltb}
 use lib.IntN.{ℤ}
 use lib.ListN.{get_or}
 use mir.Syntax.{w8}
 use mir.Val.{Fits}
+use Rattle.std.specs.Prelude.{Some, None}
+use Rattle.lists.specs.Lists.{below}
 use Rattle.model.specs.Tape.{parse, turned, lent_by}
 use Rattle.tape_records.specs.declared.state.ParserState.{ParserState}
 use Rattle.tape_reader.specs.Scan.{WholeRecords}
@@ -17,6 +22,21 @@ use Rattle.tape_reader.proofs.read.read_numbers.Goals as goal
 byte : (tape : List ℕ) → ((i : ℕ) → Fits w8 (get_or tape i 0)) → (i : ℕ) → get_or tape i 0 < 256
 byte tape f i = omega (arith, f i)
 
+-- what a search found
+some_below : (n k : ℕ) {i : ℕ} → Some i ≡ below n k → (i ≡ k) × (k < n)
+some_below n k {i} = go (ltb k n) refl
+  where
+    go : (b : Bool) → ltb k n ≡ b → Some i ≡ cond b (Some k) None → (i ≡ k) × (k < n)
+    go true t e = (cc, ltb-true k n t)
+    go false t e = (cc, cc)
+
+no_below : (n k : ℕ) → None ≡ below n k → n ≤ k
+no_below n k = go (ltb k n) refl
+  where
+    go : (b : Bool) → ltb k n ≡ b → None ≡ cond b (Some k) None → n ≤ k
+    go true t e = cc
+    go false t e = ltb-false k n t
+
 module _ (tape : List ℕ) (f : (i : ℕ) → Fits w8 (get_or tape i 0)) (samples : List ℕ) (weights flow : List ℤ) {t : ParserState}
     (h : WholeRecords tape (lent_by samples weights flow) t) where
   -- the tape's length, and that the buffers are long enough
@@ -24,36 +44,36 @@ module _ (tape : List ℕ) (f : (i : ℕ) → Fits w8 (get_or tape i 0)) (sample
   fits = room tape (byte tape f) samples weights flow h
 
   -- a number is beyond its pair's weight
-  far : {place : ℕ} → place ≡ first_on tape t → place < t.flows → parse tape (lent_by samples weights flow) ≡ turned 8 place
-  far {place} first l =
-      beyond tape (byte tape f) samples weights flow h (subst (λ (n : ℕ). n < t.flows) first l) ∙ ap (turned 8) (sym first)
+  far : {place : ℕ} → place ≡ first_on tape t → first_on tape t < t.flows → parse tape (lent_by samples weights flow) ≡ turned 8 place
+  far first l = beyond tape (byte tape f) samples weights flow h l ∙ ap (turned 8) (sym first)
 
-pub overflow_mul-weights_at : goal.overflow_mul-weights_at
-overflow_mul-weights_at c =
+pub overflow_mul-weight_records : goal.overflow_mul-weight_records
+overflow_mul-weight_records c =
     let a = c.args in omega (arith, fits a.tape.now c.type_inv.tape a.samples.now a.weights.now a.flow.now c.requires, c.well_formed)
 
-pub overflow_add-weights_at : goal.overflow_add-weights_at
-overflow_add-weights_at c =
+pub overflow_add-weight_records : goal.overflow_add-weight_records
+overflow_add-weight_records c =
     let a = c.args in omega (arith, fits a.tape.now c.type_inv.tape a.samples.now a.weights.now a.flow.now c.requires, c.well_formed)
 
-pub overflow_mul-flow_at : goal.overflow_mul-flow_at
-overflow_mul-flow_at c =
+pub overflow_mul-flow_records : goal.overflow_mul-flow_records
+overflow_mul-flow_records c =
     let a = c.args in omega (arith, fits a.tape.now c.type_inv.tape a.samples.now a.weights.now a.flow.now c.requires, c.well_formed)
 
-pub overflow_add-flow_at : goal.overflow_add-flow_at
-overflow_add-flow_at c =
+pub overflow_add-flow_records : goal.overflow_add-flow_records
+overflow_add-flow_records c =
     let a = c.args in omega (arith, fits a.tape.now c.type_inv.tape a.samples.now a.weights.now a.flow.now c.requires, c.well_formed)
 
-pub beyond_from-place-requires : goal.beyond_from-place-requires
-beyond_from-place-requires c =
+pub first_beyond-requires : goal.first_beyond-requires
+first_beyond-requires c =
     let a = c.args in
     let r = fits a.tape.now c.type_inv.tape a.samples.now a.weights.now a.flow.now c.requires in
     omega (arith, r)
 
-pub returns-then-place-state : goal.returns-then-place-state
-returns-then-place-state c =
+pub returns-in-Some : goal.returns-in-Some
+returns-in-Some c =
     let a = c.args in
-    let r = far a.tape.now c.type_inv.tape a.samples.now a.weights.now a.flow.now c.requires c.beyond_from-place.ensures c.if-place-state.true in
+    let b = some_below _ _ (sym c.in-Some.is ∙ c.first_beyond.ensures) in
+    let r = far a.tape.now c.type_inv.tape a.samples.now a.weights.now a.flow.now c.requires b.0 b.1 in
     record {
       result_value = sym (answer-by a.tape.now a.samples.now a.weights.now a.flow.now r);
       samples_after = sym (samples-by a.tape.now a.samples.now a.weights.now a.flow.now r);
@@ -61,26 +81,26 @@ returns-then-place-state c =
       flow_after = sym (flow-by a.tape.now a.samples.now a.weights.now a.flow.now r);
     }
 
-pub fill_samples-requires : goal.fill_samples-requires
-fill_samples-requires c =
+pub fill-requires : goal.fill-requires
+fill-requires c =
     let a = c.args in omega (arith, fits a.tape.now c.type_inv.tape a.samples.now a.weights.now a.flow.now c.requires)
 
-pub fill_weights-requires : goal.fill_weights-requires
-fill_weights-requires c =
+pub fill-requires-2 : goal.fill-requires-2
+fill-requires-2 c =
     let a = c.args in omega (arith, fits a.tape.now c.type_inv.tape a.samples.now a.weights.now a.flow.now c.requires)
 
-pub fill_flow-requires : goal.fill_flow-requires
-fill_flow-requires c =
+pub fill-requires-3 : goal.fill-requires-3
+fill-requires-3 c =
     let a = c.args in omega (arith, fits a.tape.now c.type_inv.tape a.samples.now a.weights.now a.flow.now c.requires)
 
 pub returns : goal.returns
 returns c =
     let a = c.args in
     let l = left a.tape.now (byte a.tape.now c.type_inv.tape) a.samples.now a.weights.now a.flow.now c.requires
-    (subst (λ (n : ℕ). a.state.flows ≤ n) c.beyond_from-place.ensures c.if-place-state.false) in
+    (no_below _ _ (sym c.in_default.is ∙ c.first_beyond.ensures)) in
     record {
       result_value = sym l.0;
-      samples_after = c.fill_samples.ensures ∙ sym l.1;
-      weights_after = c.fill_weights.ensures ∙ sym l.2;
-      flow_after = c.fill_flow.ensures ∙ sym l.3;
+      samples_after = c.fill.ensures ∙ sym l.1;
+      weights_after = c.fill-2.ensures ∙ sym l.2;
+      flow_after = c.fill-3.ensures ∙ sym l.3;
     }

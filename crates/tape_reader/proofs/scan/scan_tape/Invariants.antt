@@ -5,8 +5,8 @@ use lib.ListN.{length}
 use Rattle.tape_reader.specs.Scan.{Reached}
 use Rattle.tape_reader.proofs.scan.scan_tape.Given as goal
 
-abbrev pub invariant-loop-number : goal.invariant-loop-number
-invariant-loop-number l = (l.r.tape.now ≡ l.tape) × Reached l.tape l.lent l.state l.r.at
+abbrev pub invariant-records : goal.invariant-records
+invariant-records l = (l.reader.tape.now ≡ l.tape) × Reached l.tape l.lent l.state l.reader.at
 
-abbrev pub decreases-loop-number : goal.decreases-loop-number
-decreases-loop-number l = length l.tape - l.r.at
+abbrev pub decreases-records : goal.decreases-records
+decreases-records l = length l.tape - l.reader.at

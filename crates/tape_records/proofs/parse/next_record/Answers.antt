@@ -5,6 +5,6 @@ use Rattle.tape_records.proofs.RecordRows.{result_by}
 use Rattle.tape_records.proofs.parse.next_record.Goals as goal
 
 -- the input ends where a record is due
-pub returns-then-tape-at : goal.returns-then-tape-at
+pub returns-in_default : goal.returns-in_default
 unfolding record_rows
-returns-then-tape-at c = result_by _ _ _ _ (refused _ _ (le-leb _ _ c.if-tape-at.true))
+returns-in_default c = result_by _ _ _ _ (refused _ _ (le-leb _ _ c.in_default.ensures.lookup.3))

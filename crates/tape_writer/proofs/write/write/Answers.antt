@@ -2,41 +2,44 @@
 use mathlib.Core.Path.{◌≡◌, sym, ap, ◌∙◌}
 use Prim.Native.Nat.{ℕ}
 use native.Mathlib.Omega.{arith}
+use borrow.Author.Rules.{rules}
 use lib.ListN.{length}
-use Rattle.model.specs.Verdict.{first_refusal}
+use Rattle.std.specs.Prelude.{Err}
+use Rattle.model.specs.Verdict.{Accept, verdict_of, first_refusal}
 use Rattle.model.specs.Tape.{write_rows}
+use Rattle.model.specs.Answers.{write_answer_of}
 use Rattle.model.proofs.Accepted.{write_accepted}
+use Rattle.model.proofs.Refusals.{passes}
 use Rattle.roundtrip.proofs.Offsets.{tape_length}
 use Rattle.roundtrip.proofs.WriteRows.{written_answer, written-output}
 use Rattle.tape_writer.proofs.Promised.{promised}
 use Rattle.tape_writer.proofs.write.write.Goals as goal
 
-pub returns-in-Refuse : goal.returns-in-Refuse
-returns-in-Refuse c =
+pub returns-in_err-judge_write : goal.returns-in_err-judge_write
+returns-in_err-judge_write c =
     let a = c.args in
-    let judged : c.judge_write-v.result ≡ first_refusal (write_rows a.t a.r a.samples.now a.weights.now a.flow.now (length a.output.now)) =
-    rw (tape_length a.t a.r a.samples.now a.weights.now a.flow.now) c.judge_write-v.ensures in
-    let v = sym judged ∙ c.in-Refuse.is in
+    let v : first_refusal (write_rows a.t a.r a.samples.now a.weights.now a.flow.now (length a.output.now)) ≡ verdict_of {A = ℕ} (Err c.in_err-judge_write.field-0.0) =
+    rw (tape_length a.t a.r a.samples.now a.weights.now a.flow.now) (passes c.judge_write.ensures c.in_err-judge_write.was) in
+    let failed : c.from_residual.result ≡ Err c.in_err-judge_write.field-0.0 = search rules in
     let p = promised a.t a.r a.samples.now a.weights.now a.flow.now a.output.now (omega (arith, c.well_formed))
-    (sym (written_answer a.t a.r a.samples.now a.weights.now a.flow.now a.output.now v))
+    (ap write_answer_of failed ∙ sym (written_answer a.t a.r a.samples.now a.weights.now a.flow.now a.output.now v))
     (sym (written-output a.t a.r a.samples.now a.weights.now a.flow.now a.output.now v)) in
-    record { result_value = p.0; output_after = p.1.0; accepted = p.1.1.0; reads_back = p.1.1.1 }
-
-pub returns-in-Accept : goal.returns-in-Accept
-returns-in-Accept c =
-    let a = c.args in
-    let judged : c.judge_write-v.result ≡ first_refusal (write_rows a.t a.r a.samples.now a.weights.now a.flow.now (length a.output.now)) =
-    rw (tape_length a.t a.r a.samples.now a.weights.now a.flow.now) c.judge_write-v.ensures in
-    let v = sym judged ∙ c.in-Accept.is in
-    let p = promised a.t a.r a.samples.now a.weights.now a.flow.now a.output.now (omega (arith, c.well_formed))
-    (ap (λ (n : ℕ). record { number = 0; place = 0; count = n }) c.put_tape.ensures.value
-    ∙ sym (written_answer a.t a.r a.samples.now a.weights.now a.flow.now a.output.now v))
-    (c.put_tape.ensures.output_after ∙ sym (written-output a.t a.r a.samples.now a.weights.now a.flow.now a.output.now v)) in
     record { result_value = p.0; output_after = p.1.0; accepted = p.1.1.0; reads_back = p.1.1.1 }
 
 pub put_tape-requires : goal.put_tape-requires
 put_tape-requires c =
     let a = c.args in
-    let judged : c.judge_write-v.result ≡ first_refusal (write_rows a.t a.r a.samples.now a.weights.now a.flow.now (length a.output.now)) =
-    rw (tape_length a.t a.r a.samples.now a.weights.now a.flow.now) c.judge_write-v.ensures in
-    ((write_accepted _ _ _ _ _ a.output.now).0 (sym judged ∙ c.in-Accept.is)).output_length
+    let v : first_refusal (write_rows a.t a.r a.samples.now a.weights.now a.flow.now (length a.output.now)) ≡ Accept =
+    rw (tape_length a.t a.r a.samples.now a.weights.now a.flow.now) (passes c.judge_write.ensures c.in_ok-judge_write.was) in
+    ((write_accepted _ _ _ _ _ a.output.now).0 v).output_length
+
+pub returns : goal.returns
+returns c =
+    let a = c.args in
+    let v : first_refusal (write_rows a.t a.r a.samples.now a.weights.now a.flow.now (length a.output.now)) ≡ Accept =
+    rw (tape_length a.t a.r a.samples.now a.weights.now a.flow.now) (passes c.judge_write.ensures c.in_ok-judge_write.was) in
+    let p = promised a.t a.r a.samples.now a.weights.now a.flow.now a.output.now (omega (arith, c.well_formed))
+    (ap (λ (n : ℕ). record { number = 0; place = 0; count = n }) c.put_tape.ensures.value
+    ∙ sym (written_answer a.t a.r a.samples.now a.weights.now a.flow.now a.output.now v))
+    (c.put_tape.ensures.output_after ∙ sym (written-output a.t a.r a.samples.now a.weights.now a.flow.now a.output.now v)) in
+    record { result_value = p.0; output_after = p.1.0; accepted = p.1.1.0; reads_back = p.1.1.1 }

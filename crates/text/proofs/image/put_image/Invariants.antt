@@ -1,6 +1,6 @@
 -- The loop's invariant: the lines of the rows up to this one have been written.
 use mathlib.Core.List.{List}
-use Prim.Native.Nat.{ℕ, ◌+◌, ◌*◌, ◌-◌, ◌≤◌}
+use Prim.Native.Nat.{ℕ, ◌+◌, ◌*◌, ◌≤◌}
 use lib.IntN.{ℤ}
 use Rattle.lists.specs.Lists.{at, chain}
 use Rattle.model.specs.Program.{row_text}
@@ -13,7 +13,7 @@ rows image width row = row_text width (λ column. at image (row * width + column
 
 abbrev pub invariant-loop-row : goal.invariant-loop-row
 invariant-loop-row l =
-    (l.row ≤ l.height) × Put l.o (chain l.row (rows l.image l.width)) l.initial.output l.next l.output × (l.next ≤ l.o + l.row * (22 * l.width + 1))
-
-abbrev pub decreases-loop-row : goal.decreases-loop-row
-decreases-loop-row l = l.height - l.row
+    record {
+      written : Put l.o (chain l.row (rows l.image l.width)) l.initial.output l.next l.output;
+      upper_bound : l.next ≤ l.o + l.row * (22 * l.width + 1);
+    }

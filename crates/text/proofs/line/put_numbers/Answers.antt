@@ -16,6 +16,6 @@ returns-clause-put c =
     put_within
     (put_within
     (put_within (put_within c.put_field-first.ensures.put c.put_field-second.ensures.put (omega arith))
-    (put_as (ap (λ (z : ℤ). field (signed_decimal z)) read) c.put_signed_field-third.ensures.put) (omega arith))
+    (put_as (ap (λ (z : ℤ). field (signed_decimal z)) read) c.put_field-third.ensures.put) (omega arith))
     c.put_field-fourth.ensures.put (omega arith))
     c.put_byte.ensures (omega arith)

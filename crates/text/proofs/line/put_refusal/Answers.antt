@@ -8,6 +8,6 @@ pub returns : goal.returns
 unfolding ascii refusal_text
 returns c =
     put_within
-    (put_within (put_within (put_within c.put_bytes-first.ensures c.put_decimal-second.ensures.put (omega arith)) c.put_bytes-third.ensures (omega arith))
-    c.put_decimal-fourth.ensures.put (omega arith))
+    (put_within (put_within (put_within c.put_bytes-first.ensures c.put-second.ensures.put (omega arith)) c.put_bytes-third.ensures (omega arith))
+    c.put-fourth.ensures.put (omega arith))
     c.put_byte.ensures (omega arith)

@@ -1,8 +1,7 @@
-use mathlib.Core.Path.{sym, ◌∙◌}
-use Rattle.model.specs.Calls.{first_beyond}
-use Rattle.lists.proofs.Search.{none_met}
+use borrow.Author.Rules.{rules}
+use Rattle.model.specs.Calls.{first_over, first_beyond}
 use Rattle.validation.proofs.beyond.first_beyond.Goals as goal
 
-pub returns-else-some_beyond : goal.returns-else-some_beyond
-unfolding first_beyond
-returns-else-some_beyond c = none_met _ _ (sym c.some_beyond.ensures ∙ c.if-some_beyond.false)
+pub returns : goal.returns
+unfolding first_over first_beyond
+returns c = c.first_index.ensures _ (λ i b l h. search rules)

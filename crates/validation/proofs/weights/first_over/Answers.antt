@@ -1,8 +1,7 @@
-use mathlib.Core.Path.{sym, ◌∙◌}
-use Rattle.model.specs.Calls.{first_over}
-use Rattle.lists.proofs.Search.{none_met}
+use borrow.Author.Rules.{rules}
+use Rattle.model.specs.Calls.{first_over, first_beyond}
 use Rattle.validation.proofs.weights.first_over.Goals as goal
 
-pub returns-else-some_over : goal.returns-else-some_over
-unfolding first_over
-returns-else-some_over c = none_met _ _ (sym c.some_over.ensures ∙ c.if-some_over.false)
+pub returns : goal.returns
+unfolding first_over first_beyond
+returns c = c.first_index.ensures _ (λ i b l h. search rules)

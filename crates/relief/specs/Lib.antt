@@ -1,0 +1,3 @@
+-- What the contracts cite.
+--     Input   how many bytes were read
+pub mod Input
