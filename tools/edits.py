@@ -106,7 +106,7 @@ def kind(edit, public):
         return "table"
     if not of_code(edit):
         return "definition" if edit.crate == "model" else "inner definition"
-    return "public" if (edit.crate, edit.at) in public else "inner"
+    return "public" if (edit.crate, edit.at.removesuffix(" (search)")) in public else "inner"
 
 
 def counts(found):
