@@ -16,7 +16,9 @@ fn weight_count(weighted: bool, pairs: usize) -> usize
     if weighted { pairs } else { 0 }
 }
 
-// The front of each table is lent to the call, as long as the job needs it. What run leaves in the flow and the work table is of no use to the programs.
+// The front of each table is lent to the call, as long as the job needs it. What run leaves in the flow and the work table
+// is of no use to the programs. The five tables stay five parameters, here and up to `main`: a struct of their `&mut` would
+// need a clause in every function for each that it is still the same borrow.
 pub fn check_or_run(
     job: Job,
     samples: &[u8],

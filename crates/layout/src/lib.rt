@@ -12,7 +12,8 @@ use model::Terms;
 // The most pairs of a run.
 const LONGEST: usize = 4096;
 
-// What determines the pairs of a raster: its size.
+// What determines the pairs of a raster: its size. That a size is allowed (`ShapeLimits`) stays a clause and is no field
+// of it: the definitions make shapes, too, of any terms.
 #[derive(Clone, Copy)]
 pub struct Shape {
     pub width: usize,

@@ -26,7 +26,8 @@ pub fn part_of<'a>(part: &'a [i32], start: usize, count: usize) -> &'a [i32]
     }
 }
 
-// The weights of pairs: their own, or where none are given one for all.
+// The weights of pairs: their own, or where none are given one for all. Their limits (`WeightLimits`) stay a clause, as those
+// of a flow and of an image do: they are of the run or raster that the weights are of, which no field knows.
 #[derive(Clone, Copy)]
 pub struct Weights<'a> {
     pub all: i32,

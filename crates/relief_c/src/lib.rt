@@ -1,6 +1,7 @@
 // The library for other languages: the calls price, check, run, read and write, which include/relief.h
 // declares, and its version. Each call hands its numbers to the call of that name and the answer out as
-// plain numbers, and promises the same equations with document 01's definitions.
+// plain numbers, and promises the same equations with document 01's definitions. Numbers, places and long lists of
+// parameters are the C interface's.
 
 #![tactic(auto)]
 

@@ -1,4 +1,5 @@
-// The transition of the parser on one record: its terms are judged at the record, and the counts move on.
+// The transition of the parser on one record: its terms are judged at the record, and the counts move on. That another
+// number can be counted (`CountsFit`) is a clause and no field of the state: no state keeps it, a scan shows it of its own.
 
 ghost use Rattle.std.specs.Prelude.{◌≡◌, [], ◌∷◌};
 ghost use Rattle.model.specs.declared.Entry.{Entry};

@@ -1,4 +1,4 @@
-// Numbers in bytes, lowest byte first.
+// Numbers in bytes, lowest byte first. Two functions and no generic one: `from_le_bytes` is no method of a trait.
 
 ghost use Rattle.std.specs.Prelude.{◌≡◌, ◌+◌, ◌<◌, length, get_or};
 ghost use Rattle.model.specs.Tape.{from_two, from_four};

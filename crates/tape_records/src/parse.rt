@@ -34,6 +34,7 @@ impl ParserState {
     }
 }
 
+// The kind is the byte itself, and the match on it gives body length and place: document 01 names this form.
 // Order: 1, 2, 3, all samples, then all pair weights or none, then all flow numbers or none, then 0.
 #[tactic(auto, unfolding(model::specs::Tape::kinds))]
 fn layout_of(kind: u8, s: ParserState) -> Option<Layout>

@@ -10,6 +10,7 @@ use crate::number::{Decimal, put_field};
 use model::Figures;
 use output::{put_byte, put_bytes};
 
+// A number and no `Reason`: whoever has only the number prints it, too, and a narrower type would ask for more.
 pub fn put_refusal(output: &mut [u8], o: usize, number: u32, place: usize) -> usize
     requires { o + 53 ≤ length output.old }
     ensures { Put o (refusal_text (refusal number place)) output.old result output.new }
