@@ -15,14 +15,14 @@ use Rattle.model.specs.declared.Entry.TheVariants.{Sample, Flow, PairWeight}
 use Rattle.lists.specs.Lists.{at, table, first_where}
 use Rattle.model.specs.Grid.{weight_of}
 use Rattle.model.specs.Calls.{first_beyond}
-use Rattle.model.specs.Tape.{kinds, decoded, encoded, Progress, tape_of}
+use Rattle.model.specs.Tape.{decoded, encoded, Progress, tape_of}
 use Rattle.lists.proofs.Tables.{get_or-inside, table-list}
 use Rattle.lists.proofs.First.{first_where-cong}
 use Rattle.model.proofs.Accepted.{no_longer}
 use Rattle.model.specs.declared.Lent.{Lent}
 use Rattle.tape_records.specs.declared.state.ParserState.{ParserState}
 use Rattle.tape_records.specs.State.{state_of}
-use Rattle.tape_records.specs.Sections.{pair_weight_at, number_at}
+use Rattle.tape_records.specs.Sections.{pair_weight_at, number_at, sample_read, pair_weight_read, flow_read}
 use Rattle.tape_reader.specs.Places.{own_weight, beyond_own}
 use Rattle.roundtrip.proofs.Entries.{Ranged, kind_of, kind_here, entry_here}
 use Rattle.roundtrip.proofs.Offsets.{tape_length, sample_here, weight-here, flow-here}
@@ -59,41 +59,34 @@ module _ (tape : List ℕ) (lent : Lent) (byte : (i : ℕ) → get_or tape i 0 <
       ap (λ (kind : ℕ). decoded kind (λ n. get_or tape (i + 1 + n) 0)) (sym (kind_here tape i e rest here))
       ∙ entry_here tape i e rest here r
 
-  -- the first byte of a body as the code and as the definition count it
-  first_byte : (i : ℕ) → get_or tape (i + 1) 0 ≡ get_or tape (i + 1 + 0) 0
-  first_byte i = ap (λ (n : ℕ). get_or tape n 0) (omega arith)
-
   code_is : (i : ℕ) → i < length p.samples → code_on tape i ≡ get_or p.samples i 0
-  unfolding kinds
   code_is i h =
       let o : ℕ = 15 + 2 * i in
       let e =
-      body_is o (15 + i * 2) (Sample (get_or p.samples i 0)) (omega arith) tt
+      sample_read tape o
+      ∙ body_is o (15 + i * 2) (Sample (get_or p.samples i 0)) (omega arith) tt
       (sample_here p.terms p.rounds p.samples p.weights p.flow i h) in
-      let f = first_byte o in
       cc
 
   weight_is : (i : ℕ) → i < length p.weights → weight_on tape (length p.samples) i ≡ nat_abs (at p.weights i)
-  unfolding kinds
   weight_is i h =
       let o : ℕ = 15 + 2 * length p.samples + 3 * i in
       let limits = j.sound.pair_weights i h in
       let e =
-      body_is o (15 + length p.samples * 2 + i * 3) (PairWeight (nat_abs (at p.weights i))) (omega arith)
+      pair_weight_read tape o
+      ∙ body_is o (15 + length p.samples * 2 + i * 3) (PairWeight (nat_abs (at p.weights i))) (omega arith)
       (omega (arith, nat_abs-upto limits.0 limits.1))
       (weight-here p.terms p.rounds p.samples p.weights p.flow i h) in
-      let f = first_byte o in
       cc
 
   number_is : (i : ℕ) → i < length p.flow → number_on tape (length p.samples) (length p.weights) i ≡ at p.flow i
-  unfolding kinds
   number_is i h =
       let o : ℕ = 15 + 2 * length p.samples + 3 * length p.weights + 5 * i in
       let e =
-      body_is o (15 + length p.samples * 2 + length p.weights * 3 + i * 5) (Flow (at p.flow i)) (omega arith)
+      flow_read tape o
+      ∙ body_is o (15 + length p.samples * 2 + length p.weights * 3 + i * 5) (Flow (at p.flow i)) (omega arith)
       (j.sound.ranged i h)
       (flow-here p.terms p.rounds p.samples p.weights p.flow i h) in
-      let f = first_byte o in
       cc
 
   pub codes-are : table (length p.samples) (code_on tape) ≡ p.samples

@@ -8,7 +8,7 @@ ghost use Rattle.tape_records.specs.Sections.{pair_weight_at, number_at, sample_
 use crate::bytes::{four_at, two_at};
 use model::Entry;
 
-// A kind of record that a tape repeats: how many bytes each has, and its number.
+// A section of the tape: the kind of its records, how many bytes each has, and the number in it.
 pub trait Section {
     type Number: Copy;
 
@@ -109,7 +109,7 @@ impl Section for FlowNumbers {
 
     ghost entry = { λ value. Entry.Flow value };
 
-    ghost number = { λ tape o. number_at tape o };
+    ghost number = { number_at };
 
     ghost written = { λ n. (refl, refl) };
 
