@@ -200,7 +200,7 @@ class Faults(unittest.TestCase):
             (dict(reasons=[]), "no line '# for"),
             (dict(reasons=["definition"]), "'definition' or 'table'"),
             (dict(pairs=[]), "edits nothing"),
-            (dict(pairs=[("src/run.rt", "Answer", "b")]), "times in src/run.rt"),
+            (dict(pairs=[("src/run.rt", "Ending", "b")]), "times in src/run.rt"),
             (dict(pairs=[("proofs/Lib.antt", "a", "b")]), "below src/ or specs/"),
             (dict(pairs=[("src/price.rt", "answer_of result ≡", "b")]), "edits a contract"),
             (dict(pairs=[("src/price.rt", "PriceAllowed t samples.now", "b")]), "edits a contract"),

@@ -12,7 +12,7 @@ use Rattle.integers.proofs.Absolute.{nat_abs-upto}
 use Rattle.model.specs.declared.Terms.{Terms}
 use Rattle.lists.specs.Lists.{at}
 use Rattle.model.specs.Problem.{Feasible, image, InBox}
-use Rattle.model.specs.Grid.{limit, grid, low_end, high_end}
+use Rattle.model.specs.Grid.{limit, grid}
 use Rattle.model.specs.Calls.{pixels_of, pairs_of, image_of}
 use Rattle.model.specs.Accepted.{TermsAllowed, WeightsAllowed}
 use Rattle.model.proofs.Weights.{weight_most}
@@ -21,16 +21,11 @@ use Rattle.model.proofs.Range.{widest_fits}
 use Rattle.calls.proofs.Bounds as Bounds
 use Rattle.calls.proofs.Bounds.{value_least, value_most, image-inside}
 use Rattle.layout.specs.Runs.{shape_of}
-use Rattle.stencil.specs.Ends.{BoxEnds}
 use Rattle.stencil.specs.Limits.{most}
 use Rattle.passes.specs.Limits.{Within, WeightLimits, RasterLimits, FlowLimits, MisfitLimits}
 use Rattle.passes.proofs.Model.{shape-limits, weight-limits}
 use Rattle.passes.proofs.Elements.{within-below}
 use Rattle.model.proofs.Answers.{held-image}
-
--- the ends of the box
-pub box-ends : (t : Terms) {low high : ℤ} → low ≡ low_end t.low → high ≡ high_end t.high → BoxEnds t low high
-box-ends t e f = record { low_is = e; high_is = f }
 
 module _ (t : Terms) (samples : List ℕ) (weights : List ℤ) where
   pub with_bytes : TermsAllowed t → WeightsAllowed t weights → t.high < 256 → ((i : ℕ) → get_or samples i 0 < 256) → Bounds.Allowed t samples weights

@@ -7,10 +7,10 @@ ghost use Rattle.model.specs.Demand.{CheckDemand};
 ghost use Rattle.model.specs.Answers.{answer_of};
 
 use crate::figures;
-use image::row::Ends;
 use image::whole::fill_image;
 use layout::Shape;
 use model::{Ending, Refusal, Terms};
+use stencil::pixel::Ends;
 
 pub fn check(
     t: Terms,

@@ -7,15 +7,13 @@ ghost use Rattle.model.specs.Answers.{answer_of};
 
 use crate::figures;
 use model::{Ending, Figures, Refusal, Terms};
-use stencil::pixel;
+use stencil::pixel::Ends;
 
 pub fn price(t: Terms, samples: &[u8], weights: &[i32], image: &[i32]) -> Result<Ending, Refusal>
     ensures result_value { answer_of result ≡ price_answer t samples.now weights.now image.now }
     ensures accepted { ((answer_of result).number ≡ 0) ↔ PriceAllowed t samples.now weights.now image.now }
 {
-    let lower = pixel::low_end(t.low);
-    let upper = pixel::high_end(t.high);
-    validation::judge_price(t, lower, upper, samples.len(), weights, image)?;
+    validation::judge_price(t, Ends::of(t), samples.len(), weights, image)?;
     let price = figures::image_price(t, samples, weights, image);
     let figures = Figures {
         price,

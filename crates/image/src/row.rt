@@ -4,32 +4,12 @@
 
 ghost use Rattle.std.specs.Prelude.{◌≡◌, ◌<◌, length, ◌≤ℤ◌};
 ghost use Rattle.lists.specs.Lists.{table};
-ghost use Rattle.stencil.specs.Ends.{BoxEnds, Between};
+ghost use Rattle.stencil.specs.Ends.{Between};
 ghost use Rattle.image.specs.Limits.{ColumnLimits, RowLimits};
 ghost use Rattle.image.specs.Columns.{column_value, row_value};
 
-use model::Terms;
 use passes::part::number_or;
-use stencil::pixel;
-
-// The two ends of a range, in sub-units.
-#[derive(Clone, Copy)]
-pub struct Ends {
-    pub low: i32,
-    pub high: i32,
-}
-
-impl Ends {
-    // Those of a job's box.
-    pub fn of(t: Terms) -> Ends
-        ensures { BoxEnds t result.low result.high }
-    {
-        Ends {
-            low: pixel::low_end(t.low),
-            high: pixel::high_end(t.high),
-        }
-    }
-}
+use stencil::pixel::{self, Ends};
 
 // The pixel at column c, from its sample and the numbers of its pairs to the right and left.
 fn column_value(
@@ -50,8 +30,7 @@ fn column_value(
         right,
         number_or(above, c, 0),
         left,
-        ends.low,
-        ends.high,
+        ends,
     )
 }
 

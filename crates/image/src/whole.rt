@@ -7,8 +7,9 @@ ghost use Rattle.layout.specs.Runs.{pixel_count};
 ghost use Rattle.image.specs.Limits.{ImageLimits, ImageRowLimits};
 ghost use Rattle.image.specs.Image.{image_value};
 
-use crate::row::{Ends, image_row};
+use crate::row::image_row;
 use layout::Shape;
+use stencil::pixel::Ends;
 
 // Row r of the image of a flow on a raster, in its place.
 fn fill_row(image: &mut [i32], samples: &[u8], flow: &[i32], s: Shape, r: usize, ends: Ends)

@@ -118,7 +118,7 @@ pub struct Job {
 }
 
 // A record of the job tape: its kind with its numbers.
-#[derive(Clone, Copy)]
+#[derive(Clone, Copy, Debug, PartialEq, Eq)]
 pub enum Entry {
     End,
     Size { width: u32, height: u32 },
@@ -131,7 +131,7 @@ pub enum Entry {
 
 // What a reading of a tape is lent and allowed: the lengths of the sample, the weight and the flow
 // buffer, and whether the end record may be followed by more bytes.
-#[derive(Clone, Copy)]
+#[derive(Clone, Copy, Debug, PartialEq, Eq)]
 pub struct Lent {
     pub samples: usize,
     pub weights: usize,
@@ -141,7 +141,7 @@ pub struct Lent {
 
 // The numbers of a season: jobs, their pixels, how many ended in each way, the sum of their slacks,
 // the largest slack, and the first job that has it, counted from 1.
-#[derive(Clone, Copy)]
+#[derive(Clone, Copy, Debug, Default, PartialEq, Eq)]
 pub struct Totals {
     pub jobs: u32,
     pub pixels: u64,

@@ -5,26 +5,26 @@ use Prim.Native.Nat.{ℕ, ◌≤◌, ◌<◌}
 use native.Mathlib.Nat.{le_refl}
 use borrow.Author.Tests.{lt-ltb, le-ltb, ltb-true, ltb-false}
 use lib.Dec.{ltb}
+use Rattle.lists.specs.Lists.{below}
 use Rattle.std.specs.Prelude.{Option, Some, None, is_some}
-use Rattle.passes.specs.Moving.{moving_of}
 
 module _ (n k : ℕ) where
   -- whether there is one
-  pub some_is : is_some (moving_of n k) ≡ ltb k n
+  pub some_is : is_some (below n k) ≡ ltb k n
   some_is = go (ltb k n)
     where
       go : (t : Bool) → is_some (cond t (Some k) None) ≡ t
       go true = refl
       go false = refl
 
-  pub nothing_is : k ≡ n → None ≡ moving_of n k
+  pub nothing_is : k ≡ n → None ≡ below n k
   nothing_is e = rw (e, le-ltb n n (le_refl n))
 
-  pub at-is : {j : ℕ} → k ≡ j → j < n → Some j ≡ moving_of n k
+  pub at-is : {j : ℕ} → k ≡ j → j < n → Some j ≡ below n k
   at-is {j} e h = rw (e, lt-ltb j n h)
 
   -- what the answer r says, by its case
-  module _ {r : Option ℕ} (e : r ≡ moving_of n k) where
+  module _ {r : Option ℕ} (e : r ≡ below n k) where
     pub nothing-moves : r ≡ None → n ≤ k
     nothing-moves q = go (ltb k n) (ltb-false k n) (sym e ∙ q)
       where

@@ -4,19 +4,18 @@ use mathlib.Core.Path.{◌≡◌, refl, sym, ap, ◌∙◌}
 use mathlib.Core.Bool.{Bool, true}
 use Prim.Native.Nat.{ℕ, ◌+◌, ◌≤◌, ◌<◌}
 use native.Mathlib.Omega.{arith}
-use Rattle.lists.specs.Lists.{first_where}
+use Rattle.lists.specs.Lists.{first_where, below}
 use Rattle.lists.proofs.First.{first_where-first, first_where-cong}
 use Rattle.lists.proofs.Search.{Passed, passed_append, search_found, search_none}
 use Rattle.std.specs.Prelude.{Option, Some, None}
-use Rattle.passes.specs.Moving.{moving_of}
 use Rattle.passes.proofs.Moving.{nothing_is, at-is, nothing-moves, one-moves, first-is}
 
 -- the answer of a search among n pairs
 abbrev pub answer : ℕ → (ℕ → Bool) → Option ℕ
-answer n test = moving_of n (first_where n test)
+answer n test = below n (first_where n test)
 
 pub answer-cong : (n : ℕ) (s t : ℕ → Bool) → ((i : ℕ) → i < n → s i ≡ t i) → answer n s ≡ answer n t
-answer-cong n s t h = ap (moving_of n) (first_where-cong n h)
+answer-cong n s t h = ap (below n) (first_where-cong n h)
 
 -- ---- what an answer says
 

@@ -7,16 +7,18 @@ ghost use Rattle.season.specs.Window.{new_bytes, WindowIn, CanGrow, WithRoom, Gr
 use std::io::Read;
 
 // Where they begin and end, and whether the input has ended behind them.
-#[derive(Clone, Copy)]
+#[derive(Clone, Copy, Debug, PartialEq, Eq)]
 pub struct Window {
     pub start: usize,
     pub end: usize,
     pub ended: bool,
 }
 
-// Standard input cannot be read.
+// Standard input cannot be read; the bytes at hand are still there.
 #[derive(Clone, Copy, Debug, PartialEq, Eq)]
-pub struct ReadFailed;
+pub struct ReadFailed {
+    pub window: Window,
+}
 
 impl Window {
     // A window with room behind it. The bytes at hand are moved only when they reach the buffer's end.
@@ -42,6 +44,7 @@ impl Window {
         ensures all_bytes { IfOk result (λ r. self.end < length buffer.old → r.ended ≡ true → IsAtEnd (R.remaining stdin.new)) }
         ensures grown { IfOk result (Grown buffer.old self buffer.new) }
         ensures first_bytes { IfOk result (λ r. Consumes (R.remaining stdin.old) (R.remaining stdin.new) (new_bytes self buffer.new r)) }
+        ensures kept { IfErr result (λ e. Grown buffer.old self buffer.new e.window) }
         ensures none_read { IfErr result (λ _. Keeps (R.remaining stdin.old) (R.remaining stdin.new)) }
     {
         match stdin.read(&mut buffer[self.end..]) {
@@ -50,7 +53,13 @@ impl Window {
                 ended: more == 0,
                 ..self
             }),
-            Err(_) => Err(ReadFailed),
+            Err(_) => {
+                let window = Window {
+                    ended: true,
+                    ..self
+                };
+                Err(ReadFailed { window })
+            }
         }
     }
 
@@ -60,6 +69,7 @@ impl Window {
         ensures grown { IfOk result (Grown buffer.old self buffer.new) }
         ensures first_bytes { IfOk result (λ r. Consumes (R.remaining stdin.old) (R.remaining stdin.new) (new_bytes self buffer.new r)) }
         ensures all_bytes { IfOk result (λ r. r.ended ≡ true → IsAtEnd (R.remaining stdin.new)) }
+        ensures kept { IfErr result (λ e. Grown buffer.old self buffer.new e.window) }
         ensures none_read { IfErr result (λ _. Keeps (R.remaining stdin.old) (R.remaining stdin.new)) }
     {
         let moved = self.with_room(buffer);

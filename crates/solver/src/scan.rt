@@ -3,9 +3,9 @@
 ghost use Rattle.std.specs.Prelude.{◌≡◌, ◌^◌, ◌<◌, pos};
 ghost use Rattle.stencil.specs.Ends.{BoxEnds};
 
-use image::row::Ends;
 use model::Terms;
 use passes::part::Weights;
+use stencil::pixel::Ends;
 
 // A job's terms, the two ends of its box, its samples, and the weights of its pairs, which are the
 // terms' where it has none of their own.

@@ -5,8 +5,10 @@ ghost use Rattle.std.specs.Int.Signed.{lt_z};
 ghost use Rattle.integers.specs.Whole.{square, clamp};
 ghost use Rattle.model.specs.Grid.{reading_of, low_end, high_end};
 ghost use Rattle.stencil.specs.Limits.{most, PixelLimits};
+ghost use Rattle.stencil.specs.Ends.{BoxEnds};
 
 use integers::signed::clamped;
+use model::Terms;
 
 // The sub-units of a level.
 const LEVEL: i32 = 256;
@@ -28,28 +30,13 @@ pub fn squared_misfit(x: i32, s: u8) -> u64
     d * d
 }
 
-// Whether a value lies outside a range.
-pub fn outside(z: i32, low: i32, high: i32) -> bool
-    ensures { result ≡ (lt_z z low || lt_z high z) }
-{
-    z < low || high < z
-}
-
 // A pixel of a flow's image, from its reading b and the numbers of its pairs with the pixels
 // around it.
-pub fn pixel_value(
-    b: i32,
-    below: i32,
-    right: i32,
-    above: i32,
-    left: i32,
-    low: i32,
-    high: i32,
-) -> i32
+pub fn pixel_value(b: i32, below: i32, right: i32, above: i32, left: i32, ends: Ends) -> i32
     requires { PixelLimits b below right above left }
-    ensures { result ≡ clamp low high (b -ℤ ((below +ℤ right) -ℤ (above +ℤ left))) }
+    ensures { result ≡ clamp ends.low ends.high (b -ℤ ((below +ℤ right) -ℤ (above +ℤ left))) }
 {
-    clamped(b - ((below + right) - (above + left)), low, high)
+    clamped(b - ((below + right) - (above + left)), ends.low, ends.high)
 }
 
 // The lower end of the box, in sub-units: the first of its lowest level.
@@ -66,4 +53,30 @@ pub fn high_end(high: u8) -> i32
     ensures { result ≡ high_end high }
 {
     LEVEL * i32::from(high) + (LEVEL - 1)
+}
+
+// The two ends of a range, in sub-units.
+#[derive(Clone, Copy, Debug, PartialEq, Eq)]
+pub struct Ends {
+    pub low: i32,
+    pub high: i32,
+}
+
+impl Ends {
+    // Those of a job's box.
+    pub fn of(t: Terms) -> Ends
+        ensures { BoxEnds t result.low result.high }
+    {
+        Ends {
+            low: low_end(t.low),
+            high: high_end(t.high),
+        }
+    }
+
+    // Whether a value lies outside.
+    pub fn exclude(self, z: i32) -> bool
+        ensures { result ≡ (lt_z z self.low || lt_z self.high z) }
+    {
+        z < self.low || self.high < z
+    }
 }

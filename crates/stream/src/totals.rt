@@ -26,16 +26,7 @@ struct Peak {
 pub fn no_jobs() -> Totals
     ensures { result ≡ totals_of [] }
 {
-    Totals {
-        jobs: 0,
-        pixels: 0,
-        settled: 0,
-        spent: 0,
-        checked: 0,
-        total: 0,
-        largest: 0,
-        first: 0,
-    }
+    Totals::default()
 }
 
 fn addend_of(answer: Result<Ending, Refusal>) -> Addend

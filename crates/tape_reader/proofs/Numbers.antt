@@ -22,7 +22,8 @@ use Rattle.model.proofs.Accepted.{no_longer}
 use Rattle.model.specs.declared.Lent.{Lent}
 use Rattle.tape_records.specs.declared.state.ParserState.{ParserState}
 use Rattle.tape_records.specs.State.{state_of}
-use Rattle.tape_reader.specs.Places.{pair_weight_at, number_at, own_weight, beyond_own}
+use Rattle.tape_records.specs.Sections.{pair_weight_at, number_at}
+use Rattle.tape_reader.specs.Places.{own_weight, beyond_own}
 use Rattle.roundtrip.proofs.Entries.{Ranged, kind_of, kind_here, entry_here}
 use Rattle.roundtrip.proofs.Offsets.{tape_length, sample_here, weight-here, flow-here}
 use Rattle.roundtrip.proofs.Accepted.{Job}

@@ -1,10 +1,10 @@
 // The numbers of a whole tape: the first flow number beyond its pair's weight, and the buffers filled.
 
-ghost use Rattle.std.specs.Prelude.{◌≡◌, ℕ, List, ◌+◌, ◌*◌, ◌≤◌, pos, length, get_or};
+ghost use Rattle.std.specs.Prelude.{◌≡◌, ◌+◌, ◌*◌, ◌≤◌, length};
 ghost use Rattle.lists.specs.Lists.{table, first_where, below, overwritten};
-ghost use Rattle.tape_reader.specs.Places.{pair_weight_at, number_at, own_weight, beyond_own};
+ghost use Rattle.tape_reader.specs.Places.{own_weight, beyond_own};
 
-use tape_records::bytes::{four_at, two_at};
+use tape_records::section::{FlowNumbers, PairWeights, Section};
 use validation::is_beyond;
 
 // Records of one kind, one behind the other: where the first begins, and how many there are.
@@ -22,7 +22,7 @@ fn own_weight(tape: &[u8], weight: u32, weights: Records, j: usize) -> u32
     if weights.count == 0 {
         weight
     } else {
-        u32::from(two_at(tape, weights.start + 3 * j + 1))
+        PairWeights::number(tape, weights.start + PairWeights::LENGTH * j).unsigned_abs()
     }
 }
 
@@ -33,75 +33,12 @@ pub fn first_beyond(tape: &[u8], weight: u32, weights: Records, flow: Records) -
 {
     for j in 0..flow.count {
         let limit = own_weight(tape, weight, weights, j);
-        if is_beyond(four_at(tape, flow.start + 5 * j + 1), limit) {
+        let number = FlowNumbers::number(tape, flow.start + FlowNumbers::LENGTH * j);
+        if is_beyond(number, limit) {
             return Some(j);
         }
     }
     None
-}
-
-// A kind of record that a tape repeats: how many bytes each has, and its number.
-pub trait Section {
-    type Number: Copy;
-
-    ghost LENGTH: { ℕ };
-
-    const LENGTH: usize;
-
-    ghost number: { List ℕ → ℕ → Self.Number };
-
-    // The number of the record at an offset.
-    fn number(tape: &[u8], at: usize) -> Self::Number
-        requires { at + LENGTH ≤ length tape.now }
-        ensures { result ≡ number tape.now at };
-}
-
-pub struct Samples;
-
-impl Section for Samples {
-    type Number = u8;
-
-    ghost LENGTH = { 2 };
-
-    const LENGTH: usize = 2;
-
-    ghost number = { λ tape o. get_or tape (o + 1) 0 };
-
-    fn number(tape: &[u8], at: usize) -> u8 {
-        tape[at + 1]
-    }
-}
-
-pub struct PairWeights;
-
-impl Section for PairWeights {
-    type Number = i32;
-
-    ghost LENGTH = { 3 };
-
-    const LENGTH: usize = 3;
-
-    ghost number = { λ tape o. pos (pair_weight_at tape o) };
-
-    fn number(tape: &[u8], at: usize) -> i32 {
-        i32::from(two_at(tape, at + 1))
-    }
-}
-
-pub struct FlowNumbers;
-
-impl Section for FlowNumbers {
-    type Number = i32;
-
-    ghost LENGTH = { 5 };
-
-    const LENGTH: usize = 5;
-
-    ghost number = { λ tape o. number_at tape o };
-
-    fn number(tape: &[u8], at: usize) -> i32 {
-        four_at(tape, at + 1)
-    }
 }
 
 // The numbers of records, into the front of a buffer.

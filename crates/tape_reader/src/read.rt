@@ -8,9 +8,10 @@ ghost use Rattle.model.specs.RoundTrip.{WritesBack, weight_count, flow_count};
 ghost use Rattle.tape_reader.specs.Scan.{WholeRecords};
 ghost use Rattle.model.specs.Answers.{read_answer_of};
 
-use crate::fill::{FlowNumbers, PairWeights, Records, Samples, fill, first_beyond};
+use crate::fill::{Records, fill, first_beyond};
 use crate::scan::scan_tape;
 use model::{Job, Lent, Reason, Refusal};
+use tape_records::section::{FlowNumbers, PairWeights, Samples, Section};
 use tape_records::state::ParserState;
 
 // The numbers of a tape whose records have passed: 8 is judged, and the buffers are filled.
@@ -32,11 +33,11 @@ pub fn read_numbers(
         count: state.samples,
     };
     let weight_records = Records {
-        start: 15 + 2 * state.samples,
+        start: 15 + Samples::LENGTH * state.samples,
         count: state.weights,
     };
     let flow_records = Records {
-        start: weight_records.start + 3 * state.weights,
+        start: weight_records.start + PairWeights::LENGTH * state.weights,
         count: state.flows,
     };
     if let Some(place) = first_beyond(tape, state.terms.weight, weight_records, flow_records) {

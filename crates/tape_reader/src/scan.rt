@@ -21,7 +21,8 @@ impl From<Stopped> for Refusal {
     ghost from_gives = { λ stopped refusal. refusal ≡ stopped.refusal };
 
     fn from(stopped: Stopped) -> Refusal {
-        stopped.refusal
+        let Stopped { refusal, .. } = stopped;
+        refusal
     }
 }
 

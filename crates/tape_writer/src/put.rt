@@ -1,6 +1,6 @@
 // The records of a whole job, written one behind the other.
 
-ghost use Rattle.std.specs.Prelude.{◌≡◌, ◌++◌, ◌+◌, ◌≤◌, nat_abs, length};
+ghost use Rattle.std.specs.Prelude.{◌≡◌, ◌++◌, ◌+◌, ◌≤◌, length};
 ghost use Rattle.std.specs.List.{flat_map};
 ghost use Rattle.model.specs.declared.Entry.{Entry};
 ghost use Rattle.lists.specs.Lists.{overwritten};
@@ -9,64 +9,16 @@ ghost use Rattle.output.specs.Put.{Put};
 
 use model::{Entry, Rounds, Terms};
 use tape_records::encode::put_record;
+use tape_records::section::{FlowNumbers, PairWeights, Samples, Section};
 
-// A section of the tape that has a record for each item of a slice.
-trait Section {
-    type Item: Copy;
-
-    ghost entry: { Self.Item → Entry };
-
-    // The record of an item.
-    fn entry(item: Self::Item) -> Entry
-        ensures { result ≡ entry item };
-}
-
-struct Samples;
-
-impl Section for Samples {
-    type Item = u8;
-
-    ghost entry = { λ code. Entry.Sample code };
-
-    fn entry(code: u8) -> Entry {
-        Entry::Sample { code }
-    }
-}
-
-struct PairWeights;
-
-impl Section for PairWeights {
-    type Item = i32;
-
-    ghost entry = { λ weight. Entry.PairWeight (nat_abs weight) };
-
-    fn entry(weight: i32) -> Entry {
-        Entry::PairWeight {
-            weight: weight.unsigned_abs(),
-        }
-    }
-}
-
-struct FlowNumbers;
-
-impl Section for FlowNumbers {
-    type Item = i32;
-
-    ghost entry = { λ value. Entry.Flow value };
-
-    fn entry(value: i32) -> Entry {
-        Entry::Flow { value }
-    }
-}
-
-// A record for each item, one behind the other.
-fn put_section<S: Section>(items: &[S::Item], output: &mut [u8], o: usize) -> usize
-    requires { o + length (flat_map (λ item. encoded (S.entry item)) items.now) ≤ length output.old }
-    ensures { Put o (flat_map (λ item. encoded (S.entry item)) items.now) output.old result output.new }
+// A record for each number, one behind the other.
+fn put_section<S: Section>(numbers: &[S::Number], output: &mut [u8], o: usize) -> usize
+    requires { o + length (flat_map (λ number. encoded (S.entry number)) numbers.now) ≤ length output.old }
+    ensures { Put o (flat_map (λ number. encoded (S.entry number)) numbers.now) output.old result output.new }
 {
     let mut next = o;
-    for item in items {
-        next = put_record(output, next, S::entry(*item));
+    for number in numbers {
+        next = put_record(output, next, S::entry(*number));
     }
     next
 }

@@ -12,6 +12,7 @@ use crate::rows::{
 };
 use crate::terms::judge_terms;
 use model::{Reason, Refusal, Terms};
+use stencil::pixel::Ends;
 
 // Check: 1, 2, 3; 4, 5, 19, 6; 2, 8. Of the image only its length counts, and weights and flow are
 // read only where terms and lengths have passed.
@@ -33,18 +34,17 @@ pub fn judge_check(
 // where terms and lengths have passed.
 pub fn judge_price(
     t: Terms,
-    lower: i32,
-    upper: i32,
+    ends: Ends,
     samples: usize,
     weights: &[i32],
     image: &[i32],
 ) -> Result<(), Refusal>
-    ensures { verdict_of result ≡ first_refusal (size_row t 0 ∷ weight_row t.weight 0 ∷ box_row t 0 ∷ exact_row 4 samples (pixels_of t) ∷ optional_row 19 weights.now (pairs_of t) ∷ length_row 6 image.now (pixels_of t) ∷ pair_weights_row weights.now ∷ outside_row lower upper image.now ∷ []) }
+    ensures { verdict_of result ≡ first_refusal (size_row t 0 ∷ weight_row t.weight 0 ∷ box_row t 0 ∷ exact_row 4 samples (pixels_of t) ∷ optional_row 19 weights.now (pairs_of t) ∷ length_row 6 image.now (pixels_of t) ∷ pair_weights_row weights.now ∷ outside_row ends.low ends.high image.now ∷ []) }
 {
     judge_terms(t)?;
     judge_price_lengths(t, samples, weights.len(), image.len())?;
     judge_weights(weights)?;
-    judge_image(image, lower, upper)
+    judge_image(image, ends)
 }
 
 // Run: 1, 2, 3; 10; 4, 5, 19, 6, 7; 2. Of the other buffers only the lengths count, and the weights

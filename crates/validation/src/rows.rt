@@ -14,6 +14,7 @@ use crate::limits::{all_or_none, quick_allowed};
 use crate::range::first_outside;
 use crate::weights::first_over;
 use model::{Reason, Refusal, Terms};
+use stencil::pixel::Ends;
 
 // A row: refused unless this holds.
 #[tactic(auto, unfolding(model::specs::Verdict::first_refusal))]
@@ -121,10 +122,10 @@ pub fn judge_contents(t: Terms, weights: &[i32], flow: &[i32]) -> Result<(), Ref
 }
 
 // 9: an image value outside a range, which is the box for a price, at the first index.
-pub fn judge_image(image: &[i32], lower: i32, upper: i32) -> Result<(), Refusal>
-    ensures { verdict_of result ≡ first_refusal (outside_row lower upper image.now ∷ []) }
+pub fn judge_image(image: &[i32], ends: Ends) -> Result<(), Refusal>
+    ensures { verdict_of result ≡ first_refusal (outside_row ends.low ends.high image.now ∷ []) }
 {
-    require_none(first_outside(image, lower, upper), Reason::OutsideBox)
+    require_none(first_outside(image, ends), Reason::OutsideBox)
 }
 
 // 10: quick rounds over 4,096.

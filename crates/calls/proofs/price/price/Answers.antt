@@ -1,12 +1,9 @@
 use mathlib.Core.Path.{◌≡◌, sym, ap, ◌∙◌}
 use lib.IntN.{ℤ, pos}
-use mir.Syntax.{w32}
-use Rattle.integers.proofs.Machine.{read}
 use Rattle.model.specs.Calls.{figures, checked}
 use Rattle.model.proofs.Answers.{price-answer}
 use Rattle.model.proofs.Accepted.{zero-as, price-inside, price-accepted, price-number}
 use Rattle.validation.proofs.UnderTerms.{price-verdict}
-use Rattle.calls.proofs.Jobs.{box-ends}
 use borrow.Author.Rules.{rules}
 use Rattle.std.specs.Prelude.{Err}
 use Rattle.model.specs.Verdict.{verdict_of}
@@ -16,7 +13,7 @@ use Rattle.calls.proofs.price.price.Goals as goal
 pub returns-in_err-judge_price : goal.returns-in_err-judge_price
 returns-in_err-judge_price c =
     let a = c.args in
-    let ends = box-ends c.args.t (read w32 c.low_end-lower.type_inv ∙ c.low_end-lower.ensures) (read w32 c.high_end-upper.type_inv ∙ c.high_end-upper.ensures) in
+    let ends = c.of.ensures in
     let judged = c.judge_price.ensures ∙ price-verdict a.t a.samples.now a.weights.now a.image.now ends in
     let failed : c.from_residual.result ≡ Err c.in_err-judge_price.field-0.0 = search rules in
     let e = ap answer_of failed ∙ sym (price-answer a.t a.samples.now a.weights.now a.image.now (sym judged ∙ ap verdict_of c.in_err-judge_price.was)) in
@@ -25,7 +22,7 @@ returns-in_err-judge_price c =
 pub image_price-price-requires : goal.image_price-price-requires
 image_price-price-requires c =
     let a = c.args in
-    let ends = box-ends c.args.t (read w32 c.low_end-lower.type_inv ∙ c.low_end-lower.ensures) (read w32 c.high_end-upper.type_inv ∙ c.high_end-upper.ensures) in
+    let ends = c.of.ensures in
     let judged = c.judge_price.ensures ∙ price-verdict a.t a.samples.now a.weights.now a.image.now ends in
     let p = (price-accepted a.t a.samples.now a.weights.now a.image.now).0 (sym judged ∙ ap verdict_of c.in_ok-judge_price.was) in
     record {
@@ -39,7 +36,7 @@ image_price-price-requires c =
 pub returns : goal.returns
 returns c =
     let a = c.args in
-    let ends = box-ends c.args.t (read w32 c.low_end-lower.type_inv ∙ c.low_end-lower.ensures) (read w32 c.high_end-upper.type_inv ∙ c.high_end-upper.ensures) in
+    let ends = c.of.ensures in
     let judged = c.judge_price.ensures ∙ price-verdict a.t a.samples.now a.weights.now a.image.now ends in
     let e =
     ap (λ (z : ℤ). figures checked 0 z (pos 0) (pos 0)) c.image_price-price.ensures

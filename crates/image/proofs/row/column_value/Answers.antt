@@ -1,6 +1,4 @@
 use native.Mathlib.Omega.{arith}
-use mathlib.Core.Path.{◌≡◌}
-use Rattle.std.proofs.Common.{rules}
 use mir.Syntax.{w32}
 use mir.ValLaws.{to_z-of_z}
 use Rattle.integers.proofs.Machine.{read}
@@ -21,6 +19,4 @@ pixel_value-requires c =
 
 pub returns : goal.returns
 returns c =
-    let low : mir.Val.to_z w32 (mir.Val.of_z w32 c.args.ends.low) ≡ c.args.ends.low = search rules in
-    let high : mir.Val.to_z w32 (mir.Val.of_z w32 c.args.ends.high) ≡ c.args.ends.high = search rules in
-    rw (read w32 {r = c.pixel_value.result} c.pixel_value.type_inv, c.pixel_value.ensures, read w32 {r = c.reading.result} c.reading.type_inv, c.reading.ensures, read w32 {r = c.number_or.result} c.number_or.type_inv, c.number_or.ensures, read w32 {r = c.number_or-2.result} c.number_or-2.type_inv, c.number_or-2.ensures, to_z-of_z w32 _ c.ranges.right, to_z-of_z w32 _ c.ranges.left, low, high)
+    rw (read w32 {r = c.pixel_value.result} c.pixel_value.type_inv, c.pixel_value.ensures, read w32 {r = c.reading.result} c.reading.type_inv, c.reading.ensures, read w32 {r = c.number_or.result} c.number_or.type_inv, c.number_or.ensures, read w32 {r = c.number_or-2.result} c.number_or-2.type_inv, c.number_or-2.ensures, to_z-of_z w32 _ c.ranges.right, to_z-of_z w32 _ c.ranges.left)

@@ -6,12 +6,11 @@ use native.Mathlib.Omega.{arith}
 use Rattle.std.specs.Prelude.{is_some}
 use Rattle.solver.specs.Scan.{problem_of}
 use lib.IntN.{ℤ}
-use Rattle.lists.specs.Lists.{at}
+use Rattle.lists.specs.Lists.{at, below}
 use Rattle.model.specs.Problem.{pair_count}
 use Rattle.model.specs.declared.Terms.{Terms}
 use Rattle.model.specs.Rounds.{nearest_eighth, first_moving}
 use Rattle.stencil.specs.Limits.{most}
-use Rattle.passes.specs.Moving.{moving_of}
 use Rattle.passes.specs.Limits.{Within}
 use Rattle.passes.proofs.Model.{moving_is}
 use Rattle.image.proofs.Model.{image-filled}
@@ -48,8 +47,8 @@ returns c =
     let filled = image-filled a.scan.terms a.scan.samples.now a.flow.now c.of-s.ensures.value a.scan.box_ends c.fill_image.ensures in
     let n : ℕ = pair_count (problem_of a.scan) in
     let f : ℕ = first_moving nearest_eighth (problem_of a.scan) (at a.flow.now) in
-    let answer : c.first_moving.result ≡ moving_of n f =
+    let answer : c.first_moving.result ≡ below n f =
     rw (c.of-s.ensures.value, p.lengths.flow_length) at (rw a.scan.weight_is at c.first_moving.ensures)
-    ∙ ap (moving_of n) (moving_is a.scan.terms a.scan.samples.now o a.flow.now filled nearest_eighth p.pair_weights)
+    ∙ ap (below n) (moving_is a.scan.terms a.scan.samples.now o a.flow.now filled nearest_eighth p.pair_weights)
     in
     record { image_after = filled; value = c.is_some.ensures ∙ ap is_some answer ∙ some_is n f }

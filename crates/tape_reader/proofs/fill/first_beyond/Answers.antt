@@ -12,7 +12,7 @@ returns-then-is_beyond c =
     found_below _ _ _ c.loop-j.invariant c.loop-j-test.true
     (sym
     (c.is_beyond.ensures
-    ∙ ap₂ (λ (w : ℕ) (z : ℤ). ltb w (nat_abs z)) c.own_weight-limit.ensures (read w32 c.four_at.type_inv ∙ c.four_at.ensures))
+    ∙ ap₂ (λ (w : ℕ) (z : ℤ). ltb w (nat_abs z)) c.own_weight-limit.ensures (read w32 c.number-number.type_inv ∙ c.number-number.ensures))
     ∙ c.if-is_beyond.true)
 
 pub returns : goal.returns

@@ -1,18 +1,14 @@
 -- It goes down the rows: those of the terms, of the lengths, of the weights, of the image.
-use mathlib.Core.Path.{ap₂, ◌∙◌}
 use mathlib.Core.List.{List, [], ◌∷◌}
 use Prim.Native.Nat.{ℕ}
 use lib.IntN.{ℤ}
 use lib.ListN.{length}
-use mir.Syntax.{w32}
-use mir.ValLaws.{to_z-of_z}
 use borrow.Author.Rules.{rules}
 use Rattle.model.proofs.Refusals.{stopped, went_on, passes}
-use Rattle.model.specs.Verdict.{Row, first_refusal}
+use Rattle.model.specs.Verdict.{Row}
 use Rattle.model.specs.declared.Terms.{Terms}
 use Rattle.model.specs.Calls.{pixels_of, pairs_of}
 use Rattle.validation.specs.Lengths.{price_length_rows}
-use Rattle.validation.specs.Outside.{outside_row}
 use Rattle.validation.proofs.Accepted.{accepted-size}
 use Rattle.validation.proofs.UnderTerms.{terms_rows}
 use Rattle.validation.proofs.refusals.judge_price.Goals as goal
@@ -41,6 +37,4 @@ pub returns : goal.returns
 returns c =
     went_on (terms_rows c.args.t) _ c.judge_terms.ensures c.in_ok-judge_terms.was
     (went_on (lengths c.args.t c.args.samples c.args.weights.now c.args.image.now) _ c.judge_price_lengths.ensures c.in_ok-judge_price_lengths.was
-    (went_on (_ ∷ []) _ c.judge_weights.ensures c.in_ok-judge_weights.was
-    (c.judge_image.ensures
-    ∙ ap₂ (λ (x y : ℤ). first_refusal (outside_row x y c.args.image.now ∷ [])) (to_z-of_z w32 _ c.ranges.lower) (to_z-of_z w32 _ c.ranges.upper))))
+    (went_on (_ ∷ []) _ c.judge_weights.ensures c.in_ok-judge_weights.was c.judge_image.ensures))

@@ -2,7 +2,7 @@ use mathlib.Core.Path.{◌≡◌, sym, ap, ◌∙◌, subst}
 use mathlib.Core.List.{List, ◌++◌}
 use Prim.Native.Nat.{ℕ, ◌-◌}
 use lib.ListN.{length, drop}
-use Rattle.std.specs.Prelude.{Result, Ok, Err, IfOk}
+use Rattle.std.specs.Prelude.{Result, Ok, Err, IfOk, IfErr}
 use Rattle.std.specs.Io.KnownBytes.{Consumes}
 use Rattle.season.specs.Window.{at_hand}
 use Rattle.season.proofs.Steps.{size_of}
@@ -12,6 +12,22 @@ use Rattle.season.proofs.window.Window.more_bytes.Goals as goal
 ok_then : {T E : Type 0} (r : Result T E) {P Q : T → Type 0} → IfOk r P → ((x : T) → P x → Q x) → IfOk r Q
 ok_then (Ok x) h f = f x h
 ok_then (Err e) h f = tt
+
+-- .. and in an `Err`
+err_then : {T E : Type 0} (r : Result T E) {P Q : E → Type 0} → IfErr r P → ((x : E) → P x → Q x) → IfErr r Q
+err_then (Ok x) h f = tt
+err_then (Err e) h f = f e h
+
+pub returns-clause-kept : goal.returns-clause-kept
+returns-clause-kept g c =
+    err_then c.read_more.result c.read_more.ensures.kept
+    (λ r e.
+    record {
+      more = e.more;
+      within = e.within;
+      grown = e.grown ∙ ap (λ (l : List ℕ). l ++ e.more) c.with_room-moved.ensures.same;
+      some = e.some;
+    })
 
 pub returns-clause-grown : goal.returns-clause-grown
 returns-clause-grown g c =

@@ -1,5 +1,8 @@
 -- The bytes that came stand behind those before them, which are as they were.
-use Rattle.std.proofs.Common.{◌≡◌, List, ℕ, ◌++◌, ◌-◌, ◌≤◌, length, take, arith, length-append}
+use Rattle.std.proofs.Common.{◌≡◌, List, ℕ, ◌++◌, ◌-◌, ◌≤◌, length, take, drop, arith, length-append}
+use mathlib.Core.Bool.{true≢false}
+use mathlib.Core.List.{[]}
+use native.Mathlib.Nat.{add-zero}
 use mathlib.Core.Path.{sym, ◌∙◌, subst}
 use lib.Seq.{length-take-le, take-append-le}
 use borrow.Author.Tests.{eqb-false, eqb-true}
@@ -41,3 +44,19 @@ returns-in-Ok-clause-first_bytes g c =
 
 pub returns-in-Ok-clause-all_bytes : goal.returns-in-Ok-clause-all_bytes
 returns-in-Ok-clause-all_bytes g c room ended = c.in-Ok.ensures.bytes.1 (eqb-true c.in-Ok.more 0 ended) (omega (arith, c.read.auto.buf))
+
+pub returns-in-Err-clause-kept : goal.returns-in-Err-clause-kept
+returns-in-Err-clause-kept g c =
+    let a = c.args in
+    let buffer : List ℕ = a.buffer.now in
+    let part : List ℕ = c.read.new.buf in
+    record {
+      more = [];
+      within = record { ordered = c.requires.ordered; inside = omega (arith, c.read.auto.buf) };
+      grown =
+          subst
+          (λ (n : ℕ).
+          take (n - a.self.start) (drop a.self.start (take a.self.end buffer ++ behind buffer part a.self.end)) ≡ take (a.self.end - a.self.start) (drop a.self.start buffer) ++ [])
+          (add-zero a.self.end) (grown buffer (behind buffer part a.self.end) a.self.start a.self.end 0 c.requires.ordered c.requires.inside);
+      some = λ h. absurd (true≢false h);
+    }

@@ -1,7 +1,7 @@
 use mathlib.Core.Path.{◌∙◌}
 use mir.Syntax.{w32}
 use Rattle.integers.proofs.Machine.{read}
-use Rattle.image.proofs.row.Ends.of.Goals as goal
+use Rattle.stencil.proofs.pixel.Ends.of.Goals as goal
 
 pub returns : goal.returns
 returns c =
