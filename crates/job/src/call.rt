@@ -16,9 +16,11 @@ fn weight_count(weighted: bool, pairs: usize) -> usize
     if weighted { pairs } else { 0 }
 }
 
-// The front of each table is lent to the call, as long as the job needs it. What run leaves in the flow and the work table
-// is of no use to the programs. The five tables stay five parameters, here and up to `main`: a struct of their `&mut` would
-// need a clause in every function for each that it is still the same borrow.
+// The front of each table is lent to the call, as long as the job needs it. What run leaves in the flow
+// and the work table is of no use to the programs.
+// The five tables stay parameters, here and in the functions above that hand them on: a struct of lent
+// slices asks of each function that takes it a clause for every table, that it is the same one and as long,
+// which a lent slice alone has without a clause.
 pub fn check_or_run(
     job: Job,
     samples: &[u8],

@@ -19,6 +19,7 @@ pub fn clean(input: &[u8], output: &mut [u8; 98304]) -> usize
     if 65536 < input.len() {
         return put_refusal(output, 0, Reason::LongInput.number(), 0);
     }
+    // Fixed memory: the program has no heap.
     let mut samples = [0u8; 4096];
     let mut weights = [0i32; 8064];
     let mut flow = [0i32; 8064];

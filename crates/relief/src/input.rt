@@ -22,6 +22,7 @@ pub fn read_input<R: Read>(stdin: &mut R, buffer: &mut [u8]) -> Result<usize, In
     ensures first_bytes { Consumes (R.remaining stdin.old) (R.remaining stdin.new) (take (count_of result) buffer.new) }
     ensures all_bytes { IfOk result (λ count. count < length buffer.new → IsAtEnd (R.remaining stdin.new)) }
 {
+    // Not by std's `read_exact`, which does not say how many bytes came before the input ended or a read failed.
     let mut count = 0;
     while count < buffer.len() {
         match stdin.read(&mut buffer[count..]) {

@@ -17,6 +17,7 @@ fn read_jobs<R: Read>(stdin: &mut R) -> Result<Ended, ReadFailed>
     ensures report { IfOk result (ReportOf (tables true)) }
     ensures known_report { IfOk result (KnownReport (tables true) (R.remaining stdin.old)) }
 {
+    // Fixed memory: the program has no heap.
     let mut buffer = [0u8; 262144];
     let mut samples = [0u8; 4096];
     let mut weights = [0i32; 8064];

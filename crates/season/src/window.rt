@@ -41,9 +41,9 @@ impl Window {
     // ends only where there is none, if there is room.
     fn read_more<R: Read>(self, stdin: &mut R, buffer: &mut [u8]) -> Result<Window, ReadFailed>
         requires { WindowIn buffer.old self }
+        ensures all_bytes { IfOk result (λ r. self.end < length buffer.old → r.ended ≡ true → IsAtEnd (R.remaining stdin.new)) }
         ensures grown { IfOk result (Grown buffer.old self buffer.new) }
         ensures first_bytes { IfOk result (λ r. Consumes (R.remaining stdin.old) (R.remaining stdin.new) (new_bytes self buffer.new r)) }
-        ensures all_bytes { IfOk result (λ r. self.end < length buffer.old → r.ended ≡ true → IsAtEnd (R.remaining stdin.new)) }
         ensures kept { IfErr result (λ e. Grown buffer.old self buffer.new e.window) }
         ensures none_read { IfErr result (λ _. Keeps (R.remaining stdin.old) (R.remaining stdin.new)) }
     {
