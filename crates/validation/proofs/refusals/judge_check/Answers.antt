@@ -3,7 +3,7 @@ use mathlib.Core.Logic.{inr}
 use borrow.Author.Rules.{rules}
 use Rattle.model.proofs.Refusals.{accepted-rows, stopped, went_on, passes}
 use Rattle.model.proofs.Accepted.{length-passes, optional_passes, no_longer}
-use Rattle.model.specs.Calls.{pixels_of, pairs_of}
+use Rattle.model.specs.Calls.{pairs_of}
 use Rattle.validation.specs.Lengths.{length_rows}
 use Rattle.validation.proofs.Accepted.{accepted-size}
 use Rattle.validation.proofs.UnderTerms.{terms_rows}
