@@ -1,6 +1,12 @@
 -- The bytes at hand in a buffer.
-use Rattle.std.specs.Prelude.{◌≡◌, false, List, ◌++◌, ℕ, ◌-◌, ◌≤◌, ◌<◌, length, take, drop}
+use Rattle.std.specs.Prelude.{◌≡◌, false, List, ◌++◌, ℕ, ◌-◌, ◌≤◌, ◌<◌, Result, Ok, Err, length, take, drop}
 use Rattle.season.specs.declared.window.Window.{Window}
+use Rattle.season.specs.declared.window.ReadFailed.{ReadFailed}
+
+-- the window after a read, also one that failed
+abbrev pub window_of : Result Window ReadFailed → Window
+window_of (Ok w) = w
+window_of (Err e) = e.window
 
 abbrev pub at_hand : List ℕ → Window → List ℕ
 at_hand buffer w = take (w.end - w.start) (drop w.start buffer)

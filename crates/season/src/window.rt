@@ -1,8 +1,8 @@
 // The bytes at hand: a part of a buffer that is filled from standard input.
 
-ghost use Rattle.std.specs.Prelude.{◌≡◌, true, ◌<◌, IfOk, IfErr, length};
-ghost use Rattle.std.specs.Io.KnownBytes.{Consumes, IsAtEnd, Keeps};
-ghost use Rattle.season.specs.Window.{new_bytes, WindowIn, CanGrow, WithRoom, Grown};
+ghost use Rattle.std.specs.Prelude.{◌≡◌, true, ◌<◌, IfOk, length};
+ghost use Rattle.std.specs.Io.KnownBytes.{Consumes, IsAtEnd};
+ghost use Rattle.season.specs.Window.{window_of, new_bytes, WindowIn, CanGrow, WithRoom, Grown};
 
 use std::io::Read;
 
@@ -42,10 +42,8 @@ impl Window {
     fn read_more<R: Read>(self, stdin: &mut R, buffer: &mut [u8]) -> Result<Window, ReadFailed>
         requires { WindowIn buffer.old self }
         ensures all_bytes { IfOk result (λ r. self.end < length buffer.old → r.ended ≡ true → IsAtEnd (R.remaining stdin.new)) }
-        ensures grown { IfOk result (Grown buffer.old self buffer.new) }
-        ensures first_bytes { IfOk result (λ r. Consumes (R.remaining stdin.old) (R.remaining stdin.new) (new_bytes self buffer.new r)) }
-        ensures kept { IfErr result (λ e. Grown buffer.old self buffer.new e.window) }
-        ensures none_read { IfErr result (λ _. Keeps (R.remaining stdin.old) (R.remaining stdin.new)) }
+        ensures grown { Grown buffer.old self buffer.new (window_of result) }
+        ensures first_bytes { Consumes (R.remaining stdin.old) (R.remaining stdin.new) (new_bytes self buffer.new (window_of result)) }
     {
         match stdin.read(&mut buffer[self.end..]) {
             Ok(more) => Ok(Window {
@@ -66,11 +64,9 @@ impl Window {
     // More bytes behind those at hand, if the input has more.
     pub fn more_bytes<R: Read>(self, stdin: &mut R, buffer: &mut [u8]) -> Result<Window, ReadFailed>
         requires { CanGrow buffer.old self }
-        ensures grown { IfOk result (Grown buffer.old self buffer.new) }
-        ensures first_bytes { IfOk result (λ r. Consumes (R.remaining stdin.old) (R.remaining stdin.new) (new_bytes self buffer.new r)) }
+        ensures grown { Grown buffer.old self buffer.new (window_of result) }
+        ensures first_bytes { Consumes (R.remaining stdin.old) (R.remaining stdin.new) (new_bytes self buffer.new (window_of result)) }
         ensures all_bytes { IfOk result (λ r. r.ended ≡ true → IsAtEnd (R.remaining stdin.new)) }
-        ensures kept { IfErr result (λ e. Grown buffer.old self buffer.new e.window) }
-        ensures none_read { IfErr result (λ _. Keeps (R.remaining stdin.old) (R.remaining stdin.new)) }
     {
         let moved = self.with_room(buffer);
         moved.read_more(stdin, buffer)

@@ -8,6 +8,7 @@ use lib.Seq.{length-take-le, take-append-le}
 use borrow.Author.Tests.{eqb-false, eqb-true}
 use borrow.Rule.Slice.PartMut.{post_of}
 use Rattle.std.specs.Io.KnownBytes.{Consumes}
+use Rattle.std.proofs.KnownBytes.{Consumes-nil, Consumes-kept}
 use Rattle.season.proofs.Buffers.{grown, came}
 use Rattle.season.proofs.window.Window.read_more.Goals as goal
 
@@ -45,8 +46,8 @@ returns-in-Ok-clause-first_bytes g c =
 pub returns-in-Ok-clause-all_bytes : goal.returns-in-Ok-clause-all_bytes
 returns-in-Ok-clause-all_bytes g c room ended = c.in-Ok.ensures.bytes.1 (eqb-true c.in-Ok.more 0 ended) (omega (arith, c.read.auto.buf))
 
-pub returns-in-Err-clause-kept : goal.returns-in-Err-clause-kept
-returns-in-Err-clause-kept g c =
+pub returns-in-Err-clause-grown : goal.returns-in-Err-clause-grown
+returns-in-Err-clause-grown g c =
     let a = c.args in
     let buffer : List ℕ = a.buffer.now in
     let part : List ℕ = c.read.new.buf in
@@ -60,3 +61,15 @@ returns-in-Err-clause-kept g c =
           (add-zero a.self.end) (grown buffer (behind buffer part a.self.end) a.self.start a.self.end 0 c.requires.ordered c.requires.inside);
       some = λ h. absurd (true≢false h);
     }
+
+pub returns-in-Err-clause-first_bytes : goal.returns-in-Err-clause-first_bytes
+returns-in-Err-clause-first_bytes g c =
+    let a = c.args in
+    let buffer : List ℕ = a.buffer.now in
+    let part : List ℕ = c.read.new.buf in
+    subst (Consumes (g.R.Read.remaining a.stdin.now) (g.R.Read.remaining c.read.new.self))
+    (sym
+    (subst
+    (λ (n : ℕ). drop (a.self.end - a.self.start) (take (n - a.self.start) (drop a.self.start (take a.self.end buffer ++ behind buffer part a.self.end))) ≡ [])
+    (add-zero a.self.end) (came buffer (behind buffer part a.self.end) a.self.start a.self.end 0 c.requires.ordered c.requires.inside)))
+    (Consumes-kept _ _ _ [] (Consumes-nil (g.R.Read.remaining a.stdin.now)) c.in-Err.ensures.bytes)
