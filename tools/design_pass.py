@@ -21,13 +21,13 @@ LINES = [
     (1, "an index, or the length where there is none", r"fn (first|search|beyond)_\w+\(.*-> usize"),
     (2, "functions that differ in a type, a width or a constant",
      r"fn (add|sub|natural|magnitude)(_wide)?\(|fn (some|search|first)_(over|beyond|outside)\(|fn (exact|exact_or_none|enough|found|judge_rounds)\("
-     r"|fn (fill|put)_(samples|weights|flow)\(|fn put_(signed_)?(field|decimal|signed)\(|fn (advance|step|variation|product|search)_run\("
+     r"|fn (fill|put)_(samples|weights|flow)\(|fn put_(signed_)?(field|decimal|signed)[(<]|fn (advance|step|variation|product|search)_run\("
      r"|fn (advance_pairs|step_pairs|total_variation|total_product|first_moving)\(|fn (two_at|four_at|put_two_bytes|put_four_bytes)\("),
     (3, "an index that is counted by hand", r"^\s*\w+ \+= 1;$"),
     (4, "equality, conversion and copying by hand",
      r"fn (same|less|wide|natural_wide|unsigned_wide|magnitude_wide|signed_of|complement_of|numbers_of|job_of|written_of|clear|copy|move_to_front|initial|no_jobs|least|before|weight_count)\("),
     (4, "structs copied or emptied field by field", r"^\s+(width: (sized\.width|0),|start: w\.start,|quick: 0,|jobs: 0,)$"),
-    (4, "printing by hand", r"^(pub )?fn put_\w+\("),
+    (4, "printing by hand", r"^(pub )?fn put_\w+[(<]"),
     (6, "a buffer with an offset or a length beside it", r"output: &mut \[u8\], o: usize|^    o: usize,$|tape: &\[u8\], (at|start|weight)\b|pub count: usize,"),
     (7, "a switch on the kind of round", r"kind: Round|match kind|Round::(Quick|Steady)"),
 ]
