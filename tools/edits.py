@@ -185,6 +185,12 @@ def declares(crate, law, file):
     return path.is_file() and re.search(rf"^ *(?:pub )?{re.escape(law)} :", path.read_text(encoding="utf-8"), re.M)
 
 
+def stands(crate, function):
+    """Whether a source of a crate has a function of this name."""
+    sources = (TOP / "crates" / crate / "src").glob("*.rt")
+    return any(re.search(rf"\bfn {re.escape(function)}\b", path.read_text(encoding="utf-8")) for path in sources)
+
+
 def faults(found):
     public, listed = public_functions(), crates()
     names = {f"{edit.crate}/{edit.label}" for edit in found}
@@ -198,11 +204,15 @@ def faults(found):
         elif at["law"] and not declares(edit.crate, at["law"], at["file"]):
             yield f"{name}: proofs/{at['file']}.antt of its crate has no law {at['law']}"
         if not edit.reasons or not all(REASONS.fullmatch(reason) for reason in edit.reasons):
-            yield f"{name}: no line '# for: ..', or another reason than checklist, trap, form, F-n, public, definition, table"
+            yield f"{name}: no line '# for: ..', or another reason than checklist, trap, form, F-n, public, inner, definition, table"
         if ("definition" in edit.reasons or "table" in edit.reasons) == of_code(edit):
             yield f"{name}: 'definition' or 'table' is said of the edits of specs/, and of these alone"
         if ("public" in edit.reasons) != (kind(edit, public) == "public"):
             yield f"{name}: 'public' is said of the edits of code that are refused at a public promise, and of these alone"
+        if "inner" in edit.reasons and kind(edit, public) != "inner":
+            yield f"{name}: 'inner' is said of the edits of an inner function's code, and of these alone"
+        if at and at["function"] and not stands(edit.crate, at["function"]):
+            yield f"{name}: its crate has no function {at['function']}"
         texts = {}
         for file, old, new in edit.pairs:
             path = TOP / "crates" / edit.crate / (file or "")
@@ -243,7 +253,7 @@ WHERE = re.compile(r"(?:note: )?(?:\./)?(?P<path>[^\s:]+):(?P<line>\d+):\d+: (?P
 
 # The goals in which a function's promise is due: where it returns, and where a loop begins or goes round. What is left over is
 # what functions called ask, and what an index, a length or a cast needs.
-PROMISE = re.compile(r"(returns|.+-(init|preserved))(-.*)?")
+PROMISE = re.compile(r"(returns|(loop-.+|rounds|records)-(init|preserved))(-.*)?")
 # the same in the words of a note, whose name of the goal may be cut off
 PROMISED = re.compile(r"it is not proved that (what the function ensures|the invariant )")
 # what an error says where a fact does not hold: two types or sides differ, another type is expected, a tactic finds no proof, or
