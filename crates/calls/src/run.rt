@@ -51,8 +51,7 @@ pub fn run(
         work.len(),
     )?;
     let scan = Scan::of(t, samples, weights);
-    let quick = r.quick;
-    let end = solve(scan, quick, r.allowance, flow, image, work);
+    let end = solve(scan, r, flow, image, work);
     let figures = figures::of_flow(t, samples, weights, flow, image);
     Ok(ending_of(end, figures))
 }

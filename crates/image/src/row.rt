@@ -11,7 +11,8 @@ ghost use Rattle.image.specs.Columns.{column_value, row_value};
 use passes::part::number_or;
 use stencil::pixel::{self, Ends};
 
-// The pixel at column c, from its sample and the numbers of its pairs to the right and left.
+// The pixel at column c, from its sample and the numbers of its pairs to the right and left. Its parameters and those
+// of `image_row` are each a different thing of a row: a struct of them would be made for one call.
 fn column_value(
     sample: u8,
     below: &[i32],

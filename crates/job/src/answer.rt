@@ -13,10 +13,7 @@ use model::{Ending, Job, Refusal, Terms};
 pub fn terms_of(read: Result<Job, Refusal>) -> Terms
     ensures { result ≡ (read_answer_of read).terms }
 {
-    match read {
-        Ok(job) => job.terms,
-        Err(_) => Terms::default(),
-    }
+    read.map_or(Terms::default(), |job| job.terms)
 }
 
 // How many pixels it has; none for a refusal.

@@ -14,7 +14,7 @@ const LONGEST: usize = 4096;
 
 // What determines the pairs of a raster: its size. That a size is allowed (`ShapeLimits`) stays a clause and is no field
 // of it: the definitions make shapes, too, of any terms.
-#[derive(Clone, Copy)]
+#[derive(Clone, Copy, Debug, PartialEq, Eq)]
 pub struct Shape {
     pub width: usize,
     pub height: usize,
@@ -22,7 +22,7 @@ pub struct Shape {
 
 // A run of pairs: pair `pair + j` joins pixel `first + j` to pixel `second + j`, for each j below
 // `count`, which is at most 4,096.
-#[derive(Clone, Copy)]
+#[derive(Clone, Copy, Debug, PartialEq, Eq)]
 pub struct Run {
     pub pair: usize,
     pub count: usize,

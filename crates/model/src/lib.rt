@@ -1,4 +1,4 @@
-// Document 01 as definitions (specs/) and their first laws (proofs/). There is no code here but the
+// Document 01 as definitions (specs/) and their first laws (proofs/). The code here is of the
 // types that the definitions and the calls of the crates above share: terms and rounds of a job,
 // refusals, what the calls give, a record of the tape, what a reading of a tape is lent, and the
 // numbers of a season.
@@ -80,7 +80,7 @@ impl Reason {
     pub fn is_too_short(self) -> bool
         ensures { result ≡ too_short (number_of self) }
     {
-        matches!(&self, Reason::CutRecord | Reason::MissingRecord)
+        matches!(self, Reason::CutRecord | Reason::MissingRecord)
     }
 }
 

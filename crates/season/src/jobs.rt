@@ -16,7 +16,7 @@ use tape_records::state::ParserState;
 
 // The bytes at hand, what has been read of the job at their front and where its next record begins,
 // and the totals of the jobs before it.
-#[derive(Clone, Copy)]
+#[derive(Clone, Copy, Debug, PartialEq, Eq)]
 pub struct State {
     pub window: Window,
     pub at: usize,
@@ -25,7 +25,7 @@ pub struct State {
 }
 
 // How a season ended: its totals, whether a job was refused, and whether the input has ended.
-#[derive(Clone, Copy)]
+#[derive(Clone, Copy, Debug, PartialEq, Eq)]
 pub struct Ended {
     pub totals: Totals,
     pub ending: Result<(), Refusal>,
@@ -34,7 +34,7 @@ pub struct Ended {
 
 // One step: on to the next state, more bytes for the job, of which so much has been read, or the
 // season's end.
-#[derive(Clone, Copy)]
+#[derive(Clone, Copy, Debug, PartialEq, Eq)]
 pub enum Step {
     Continue(State),
     Read(ParserState, usize),

@@ -14,9 +14,9 @@ use layout::Shape;
 use passes::search::first_moving;
 use passes::step::step_pairs;
 
-// How steady rounds end: how many there were, and whether no pair would move. Both always say
-// something, so that this is no result, and no option.
-#[derive(Clone, Copy)]
+// How steady rounds end: how many there were, and whether no pair would move. Neither decides whether there is the other,
+// so that this is no result, and no option.
+#[derive(Clone, Copy, Debug, PartialEq, Eq)]
 pub struct Steady {
     pub moved: u32,
     pub settled: bool,
@@ -48,7 +48,7 @@ pub fn steady_rounds(scan: Scan, allowance: u16, flow: &mut [i32], image: &mut [
         let moving = some_moves(scan, flow, image);
         if !moving || most <= moved {
             return Steady {
-                moved: moved,
+                moved,
                 settled: !moving,
             };
         }

@@ -15,8 +15,8 @@ use tape_reader::read::read_numbers;
 use tape_reader::scan::{self, scan_tape};
 use tape_records::state::ParserState;
 
-// Where no job is refused.
-#[derive(Clone, Copy)]
+// What the bytes at hand come to, where they refuse no job.
+#[derive(Clone, Copy, Debug, PartialEq, Eq)]
 pub enum Next {
     // more bytes are wanted: what has been read of the job, and where its next record begins
     More(ParserState, usize),

@@ -80,6 +80,7 @@ judged_entry t e o lent = decided (first_refusal (entry_rows o lent e)) (continu
 abbrev pub Transition : Type 0
 Transition = Result (Option (ParserState × Cursor)) (ℕ × ℕ)
 
+-- the place of the next record beside what has been read
 abbrev pub with_next : Cursor → Result (Option ParserState) (ℕ × ℕ) → Transition
 with_next next (Err r) = Err r
 with_next next (Ok None) = Ok None

@@ -8,7 +8,7 @@ use tape_records::section::{FlowNumbers, PairWeights, Section};
 use validation::is_beyond;
 
 // Records of one kind, one behind the other: where the first begins, and how many there are.
-#[derive(Clone, Copy)]
+#[derive(Clone, Copy, Debug, PartialEq, Eq)]
 pub struct Records {
     pub start: usize,
     pub count: usize,

@@ -1,4 +1,4 @@
-// Records written into a buffer at an offset.
+// Records written into a buffer at an offset, two parameters for the reason that crate `output` gives.
 
 ghost use Rattle.std.specs.Prelude.{◌≡◌, ◌+◌, ◌≤◌, length};
 ghost use Rattle.model.specs.Tape.{two_bytes, encoded};

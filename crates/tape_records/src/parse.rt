@@ -112,7 +112,7 @@ pub struct Cursor {
 
 // What reading a record gives: the record, with the cursor beside it; or a refusal, whose place is the offset.
 // An enum of its own, as document 01 names the form: with a `Result` of the pair reading a tape took half as long again.
-#[derive(Clone, Copy)]
+#[derive(Clone, Copy, Debug, PartialEq, Eq)]
 pub enum RecordResult {
     Record(Entry, Cursor),
     Refused(Refusal),

@@ -46,7 +46,7 @@ fn put_header(t: Terms, r: Rounds, output: &mut [u8]) -> usize
     put_record(output, third, rounds)
 }
 
-// The whole tape, at the front of the output; how many bytes it has.
+// The whole tape, at the front of the output; how many bytes it has. It takes what `write` is lent, in that order.
 pub fn put_tape(
     t: Terms,
     r: Rounds,

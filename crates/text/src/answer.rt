@@ -10,7 +10,8 @@ use crate::image::put_image;
 use crate::line::{put_figures, put_refusal};
 use model::{Ending, Figures, Refusal, Terms};
 
-// The header line, the line of numbers and the lines of the image.
+// The header line, the line of numbers and the lines of the image. Word, moved and figures are those of one case of an
+// `Ending`, of which this is the text.
 fn put_accepted(
     output: &mut [u8],
     o: usize,

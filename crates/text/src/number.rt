@@ -37,7 +37,7 @@ impl Decimal for u32 {
     ghost room = { 20 };
 
     fn put(self, output: &mut [u8], o: usize) -> usize {
-        (self as u64).put(output, o)
+        u64::from(self).put(output, o)
     }
 }
 

@@ -1,4 +1,5 @@
-// Where each call turns back: the rows of document 01's table, from the top.
+// Where each call turns back: the rows of document 01's table, from the top. Each takes what its call is lent, in the
+// call's order; a struct of it would be made for one call.
 
 ghost use Rattle.std.specs.Prelude.{◌+◌, ◌*◌, ◌≡◌, [], ◌∷◌, ltb, length};
 ghost use Rattle.model.specs.Verdict.{row, first_refusal, verdict_of};

@@ -11,7 +11,7 @@ pub fn first_index<F: Fn(usize) -> bool>(count: usize, test: F) -> Option<usize>
 {
     let mut some = false;
     for i in 0..count {
-        some = some | test(i);
+        some |= test(i);
     }
     if !some {
         return None;

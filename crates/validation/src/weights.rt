@@ -27,7 +27,7 @@ pub fn pair_weight(t: Terms, weights: &[i32], j: usize) -> u32
 fn pair_weight_allowed(z: i32) -> bool
     ensures { result ≡ pair_weight_allowed z }
 {
-    !(z < 0) && weight_allowed(z.unsigned_abs())
+    0 <= z && weight_allowed(z.unsigned_abs())
 }
 
 // The first index whose number is no allowed weight.

@@ -7,7 +7,6 @@ use lib.ListN.{length, replicate}
 use Rattle.model.specs.Grid.{limit}
 use Rattle.solver.specs.Scan.{problem_of}
 use Rattle.model.specs.Rounds.{eighth, nearest_eighth, Steady, steady_rounds}
-use Rattle.model.specs.Plain.{rounds_of}
 use Rattle.model.specs.Calls.{image_of, quick_flow, ending}
 use Rattle.model.proofs.Sizes.{iterate-size}
 use Rattle.passes.specs.Limits.{Within}
@@ -26,19 +25,19 @@ steady_rounds-requires c =
       lengths =
           record {
             samples_length = p.lengths.samples_length;
-            flow_length = ap length iterate ∙ iterate-size eighth (problem_of a.scan) a.quick;
+            flow_length = ap length iterate ∙ iterate-size eighth (problem_of a.scan) a.r.quick;
             image_length = c.quick_rounds.auto.image ∙ p.lengths.image_length;
           };
-      flow_most = subst (Within limit.weight) (sym iterate) (iterate-within eighth a.scan.terms a.scan.samples.now a.scan.weights.own.now p.limits p.pair_weights a.quick);
+      flow_most = subst (Within limit.weight) (sym iterate) (iterate-within eighth a.scan.terms a.scan.samples.now a.scan.weights.own.now p.limits p.pair_weights a.r.quick);
     }
 
 pub returns : goal.returns
 unfolding ending quick_flow
 returns c =
     let a = c.args in
-    let iterate : c.quick_rounds.new.flow ≡ quick_flow a.scan.terms (rounds_of a.quick a.allowance) a.scan.samples.now a.scan.weights.own.now = c.quick_rounds.ensures.flow_after in
+    let iterate : c.quick_rounds.new.flow ≡ quick_flow a.scan.terms a.r a.scan.samples.now a.scan.weights.own.now = c.quick_rounds.ensures.flow_after in
     let left = c.steady_rounds.ensures in
-    let from : List ℤ → Steady = steady_rounds nearest_eighth (problem_of a.scan) a.allowance in
+    let from : List ℤ → Steady = steady_rounds nearest_eighth (problem_of a.scan) a.r.allowance in
     let flow = left.flow_after ∙ ap (λ (f : List ℤ). (from f).flow) iterate in
     record {
       flow_after = flow;
