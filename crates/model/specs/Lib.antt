@@ -5,6 +5,7 @@
 --     Grid        document 01's raster as such a problem
 --     Root        the whole square root
 --     Rounds      the step, quick rounds, steady rounds
+--     Rows        the numbers of the table of refusals
 --     Verdict     refusals: the first row of a table that applies
 --     Calls       check, price and run: their refusals, answers and buffers
 --     Accepted    what the accepted calls have been lent: terms, lengths and contents
@@ -21,6 +22,7 @@ pub mod Problem
 pub mod Grid
 pub mod Root
 pub mod Rounds
+pub mod Rows
 pub mod Verdict
 pub mod Calls
 pub mod Accepted

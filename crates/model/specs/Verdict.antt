@@ -1,7 +1,7 @@
 -- Refusals: a call goes down the rows of document 01's table and is refused at the first that applies (SPECIFICATION 4.3, 6.1).
 use Rattle.std.specs.Prelude.{Bool, true, false, List, [], ◌∷◌, ℕ, Result, Ok, Err}
 use Rattle.model.specs.declared.Reason.{Reason}
-use Rattle.model.specs.declared.Reason.TheVariants.{Size, Weight, Levels, SampleCount, FlowCount, ImageCount, WorkCount, BeyondWeight, OutsideBox, QuickRounds, UnknownKind, CutRecord, OutOfOrder, TrailingByte, ShortBuffer, LongInput, MissingRecord, WeightCount}
+use Rattle.model.specs.declared.Reason.TheVariants.{Size, Weight, Levels, SampleCount, FlowCount, ImageCount, WorkCount, BeyondWeight, OutsideBox, QuickRounds, UnknownKind, CutRecord, OutOfOrder, TrailingByte, ShortBuffer, LongInput, MissingRecord, WeightCount, Other}
 use Rattle.model.specs.declared.Refusal.{Refusal}
 
 -- what the tests come to: accepted, or refused with a number and a place
@@ -59,6 +59,7 @@ number_of ShortBuffer = 16
 number_of LongInput = 17
 number_of MissingRecord = 18
 number_of WeightCount = 19
+number_of (Other other) = other.number
 
 -- the verdict that a result tells
 abbrev pub verdict_of : {A : Type 0} → Result A Refusal → Verdict

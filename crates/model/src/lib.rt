@@ -5,9 +5,8 @@
 
 #![tactic(auto)]
 
-ghost use Rattle.std.specs.Prelude.{◌≡◌};
-ghost use Rattle.model.specs.Verdict.{number_of};
-ghost use Rattle.model.specs.Tape.{too_short};
+ghost use Rattle.std.specs.Prelude.{◌≡◌, false};
+ghost use Rattle.model.specs.Rows.{has_row};
 
 // Terms of a job without its rounds: size, weight W in sub-units, and the box in levels.
 #[derive(Clone, Copy, Debug, Default, PartialEq, Eq)]
@@ -26,7 +25,16 @@ pub struct Rounds {
     pub allowance: u16,
 }
 
+// A number that no row of the table of refusals has.
+#[derive(Clone, Copy, Debug, PartialEq, Eq)]
+pub struct OtherNumber {
+    pub number: u32,
+    pub ghost no_row: { has_row number ≡ false },
+}
+
 // Why a call, a record of a tape or a program's input is refused. specs/Verdict.antt has document 01's number for each.
+// None of the calls gives `Other`: it is there for callers of what counts, prints or hands on an answer, which may come from
+// elsewhere.
 #[derive(Clone, Copy, Debug, PartialEq, Eq)]
 pub enum Reason {
     Size,
@@ -47,9 +55,13 @@ pub enum Reason {
     LongInput,
     MissingRecord,
     WeightCount,
+    Other(OtherNumber),
 }
 
 impl Reason {
+    ghost use Rattle.model.specs.Verdict.{number_of};
+    ghost use Rattle.model.specs.Tape.{too_short};
+
     // Document 01's number.
     pub fn number(self) -> u32
         ensures { result ≡ number_of self }
@@ -73,6 +85,34 @@ impl Reason {
             Reason::LongInput => 17,
             Reason::MissingRecord => 18,
             Reason::WeightCount => 19,
+            Reason::Other(other) => other.number,
+        }
+    }
+
+    // The reason that has a number: `Other` where no row has it.
+    pub fn of_number(number: u32) -> Reason
+        ensures { number_of result ≡ number }
+    {
+        match number {
+            1 => Reason::Size,
+            2 => Reason::Weight,
+            3 => Reason::Levels,
+            4 => Reason::SampleCount,
+            5 => Reason::FlowCount,
+            6 => Reason::ImageCount,
+            7 => Reason::WorkCount,
+            8 => Reason::BeyondWeight,
+            9 => Reason::OutsideBox,
+            10 => Reason::QuickRounds,
+            12 => Reason::UnknownKind,
+            13 => Reason::CutRecord,
+            14 => Reason::OutOfOrder,
+            15 => Reason::TrailingByte,
+            16 => Reason::ShortBuffer,
+            17 => Reason::LongInput,
+            18 => Reason::MissingRecord,
+            19 => Reason::WeightCount,
+            _ => Reason::Other(OtherNumber { number }),
         }
     }
 
