@@ -8,7 +8,7 @@ use native.Mathlib.Omega.{arith}
 use borrow.Author.Count.{below_none, below_more}
 use borrow.Author.Tests.{ltb-false, lt-ltb, le-ltb}
 use lib.Dec.{ltb}
-use Rattle.std.specs.Prelude.{Option, Some, None}
+use Rattle.std.specs.Prelude.{Some, None}
 use Rattle.lists.specs.Lists.{first_where, below}
 use Rattle.lists.proofs.First.{first_where-first, first_where-is}
 
@@ -51,8 +51,12 @@ search_none n test i s l =
 abbrev pub Met : ℕ → (ℕ → Bool) → ℕ → Bool → Type 0
 Met n test i some = (i ≤ n) × (some ≡ false → Searched n test i) × (some ≡ true → first_where n test < n)
 
+-- where a search has come to an index, none has passed from there on yet
+pub met_from : (n : ℕ) (test : ℕ → Bool) (i : ℕ) → Searched n test i → Met n test i false
+met_from n test i s = (s.0, λ _. s, λ h. absurd (true≢false (sym h)))
+
 pub met_start : (n : ℕ) (test : ℕ → Bool) → Met n test 0 false
-met_start n test = (zero-le, λ _. search_start n test, λ h. absurd (true≢false (sym h)))
+met_start n test = met_from n test 0 (search_start n test)
 
 pub met_on : (n : ℕ) (test : ℕ → Bool) (i : ℕ) (some b : Bool) → Met n test i some → i < n → b ≡ test i → Met n test (i + 1) (some || b)
 met_on n test i true b m l e = (omega arith, λ h. absurd (true≢false h), λ _. m.2 refl)
