@@ -4,6 +4,7 @@
 
 ghost use Rattle.std.specs.Prelude.{◌+◌, ◌*◌, ◌^◌, ◌≤◌, ◌<◌, ◌≡◌, nat_abs};
 ghost use Rattle.model.specs.Grid.{limit};
+ghost use Rattle.model.specs.Root.{root as the_root};
 ghost use Rattle.model.specs.Rounds.{next_momentum};
 ghost use Rattle.momentum.specs.Reciprocal.{Reciprocal, ahead_of};
 
@@ -17,12 +18,32 @@ const LOW: u64 = 16384;
 
 const UNITS: u64 = HIGH * LOW;
 
+// The root of T's rule. It lies from 2 t on, at most `ONE` above it, and each turn halves what is left to look through: 17
+// turns, where std's `isqrt` takes 32 for any number, and a run of few pixels a third more time.
+fn root(t: u64) -> u64
+    requires { t < 2 ^ 29 }
+    ensures { result ≡ the_root (65536 * 65536 + 4 * (t * t)) }
+{
+    let n = ONE * ONE + 4 * (t * t);
+    let mut low = 2 * t;
+    let mut reach = ONE + 1;
+    while reach > 1 {
+        let half = (reach + 1) / 2;
+        let middle = low + half;
+        if middle * middle <= n {
+            low = middle;
+        }
+        reach = half;
+    }
+    low
+}
+
 // T of the next round.
 pub fn next_momentum(t: u64) -> u64
     requires { t < 2 ^ 29 }
     ensures { result ≡ next_momentum t }
 {
-    (ONE + (ONE * ONE + 4 * (t * t)).isqrt()) / 2
+    (ONE + root(t)) / 2
 }
 
 // A whole number m by which x * a / b, rounded down, is x * m / 2^46, rounded down, for every x with
