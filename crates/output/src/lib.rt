@@ -22,7 +22,10 @@ pub fn put_bytes(output: &mut [u8], o: usize, bytes: &[u8]) -> usize
     requires { o + length bytes.now ≤ length output.old }
     ensures { Put o bytes.now output.old result output.new }
 {
-    let end = o + bytes.len();
-    output[o..end].copy_from_slice(bytes);
-    end
+    // A loop, since std's `copy_from_slice` is a call of C's `memmove`, which the programs and the library do without.
+    let mut next = o;
+    for i in 0..bytes.len() {
+        next = put_byte(output, next, bytes[i]);
+    }
+    next
 }

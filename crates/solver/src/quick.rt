@@ -36,6 +36,17 @@ fn advance_round(
     next
 }
 
+// The values of another buffer of the same length. A loop, since std's `copy_from_slice` calls C's `memmove`, which a program
+// without a C library would have to bring.
+fn copy(target: &mut [i32], source: &[i32])
+    requires { length target.old ≡ length source.now }
+    ensures { target.new ≡ source.now }
+{
+    for j in 0..target.len() {
+        target[j] = source[j];
+    }
+}
+
 // The same with the work buffer lent on as two writable parts: its first half keeps the earlier flow,
 // its second half, from the pair count on, holds the numbers ahead.
 fn quick_round(
@@ -52,7 +63,7 @@ fn quick_round(
     ensures image_after { image.new ≡ image_of scan.entry.terms scan.entry.samples.now (drop (length flow.old) work.old) }
 {
     let m = flow.len();
-    work[..m].copy_from_slice(flow);
+    copy(&mut work[..m], flow);
     advance_round(scan, flow, &mut work[m..], image, momentum)
 }
 
