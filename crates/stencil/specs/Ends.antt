@@ -1,4 +1,4 @@
--- The two ends of a range, in sub-units, which a pass is handed as numbers: those of the box, and values within a range.
+-- The two ends of a range, in sub-units: those of the box, and values within a range.
 use Rattle.std.specs.Prelude.{List, ◌≡◌, ℕ, ◌<◌, ℤ, length, ◌≤ℤ◌}
 use Rattle.model.specs.declared.Terms.{Terms}
 use Rattle.lists.specs.Lists.{at}

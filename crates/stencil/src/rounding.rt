@@ -16,6 +16,7 @@ pub trait Rounding {
 }
 
 // Quick rounds: toward zero.
+#[derive(Clone, Copy)]
 pub struct Quick;
 
 impl Rounding for Quick {
@@ -29,6 +30,7 @@ impl Rounding for Quick {
 }
 
 // Steady rounds: to the nearest whole number, an exact half toward zero.
+#[derive(Clone, Copy)]
 pub struct Steady;
 
 impl Rounding for Steady {
