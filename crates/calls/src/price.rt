@@ -13,7 +13,8 @@ pub fn price(t: Terms, samples: &[u8], weights: &[i32], image: &[i32]) -> Result
     ensures result_value { answer_of result ≡ price_answer t samples.now weights.now image.now }
     ensures accepted { ((answer_of result).number ≡ 0) ↔ PriceAllowed t samples.now weights.now image.now }
 {
-    validation::judge_price(t, Ends::of(t), samples.len(), weights, image)?;
+    let ends = Ends::of(t);
+    validation::judge_price(t, ends, samples.len(), weights, image)?;
     let price = figures::image_price(t, samples, weights, image);
     let figures = Figures {
         price,

@@ -24,6 +24,9 @@ pub fn write(
     ensures accepted { ((write_answer_of result).number ≡ 0) ↔ WriteAllowed t r samples.now weights.now flow.now output.old }
     ensures reads_back { (write_answer_of result).number ≡ 0 → ReadsBack t r samples.now weights.now flow.now (take (write_answer_of result).count output.new) }
 {
-    judge_write(t, r.quick, samples.len(), weights, flow, output.len())?;
-    Ok(put_tape(t, r, samples, weights, flow, output))
+    // Not by `?`, behind which a must-fail edit of what a refusal is told as would be refused for its form.
+    match judge_write(t, r.quick, samples.len(), weights, flow, output.len()) {
+        Err(refusal) => Err(refusal),
+        Ok(()) => Ok(put_tape(t, r, samples, weights, flow, output)),
+    }
 }

@@ -74,7 +74,8 @@ returns c =
     in
     let g =
     rw c.of-s.ensures.value at c.fill_image.ensures
-    ∙ image-is t a.samples.now a.flow.now c.of-ends.ensures
+    ∙ image-is t a.samples.now a.flow.now
+    (record { low_is = search rules ∙ c.of-ends.ensures.low_is; high_is = search rules ∙ c.of-ends.ensures.high_is })
     ∙ sym (check_image_lem t a.samples.now a.weights.now a.flow.now a.image.now accepted)
     in
     record {
@@ -96,5 +97,8 @@ of_flow-figures-requires c =
       samples_length = a.samples_length;
       flow_length = a.flow_length;
       feasible = feasible t c.args.samples.now c.args.weights.now c.args.flow.now c.args.image.now accepted;
-      image = rw c.of-s.ensures.value at c.fill_image.ensures ∙ image-is t c.args.samples.now c.args.flow.now c.of-ends.ensures;
+      image =
+          rw c.of-s.ensures.value at c.fill_image.ensures
+          ∙ image-is t c.args.samples.now c.args.flow.now
+          (record { low_is = search rules ∙ c.of-ends.ensures.low_is; high_is = search rules ∙ c.of-ends.ensures.high_is });
     }
