@@ -5,8 +5,8 @@
     tools/believed.py --check    says whether it is stale, and ends with status 1
 
 From the promises of every public function (`edits.public_functions`, and PROMISES below), by the names that they cite, through
-the `use` lines of each file reached. A name or a module that is not understood ends the script: nothing is left out without
-a word."""
+the `use` lines of each file reached, and the facts that a declared type carries. A name or a module that is not understood ends
+the script: nothing is left out without a word."""
 
 import pathlib
 import re
@@ -108,6 +108,10 @@ def reached():
                 used = re.sub(r"^(pub )?use [^{\n]*(\{[^}]*\})?.*$|^\s*--.*$", "", text, flags=re.M)
                 if "Rattle." in used:
                     sys.exit(f"tools/believed.py: {file} cites a definition by its path")
+            else:
+                # the facts that a declared type carries
+                for fact in re.findall(r"^ +(?:pub )?ghost \w+: \{(.*?)\},$", text, re.S | re.M):
+                    modules += cited(text, fact)
     return sorted(seen), sorted(toolchain)
 
 
