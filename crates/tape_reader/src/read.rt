@@ -77,9 +77,6 @@ pub fn read(
         flow: flow.len(),
         followed: false,
     };
-    // Not by `?`, behind which a must-fail edit of what a refusal is told as would be refused for its form.
-    match scan_tape(tape, 0, ParserState::initial(), lent) {
-        Err(stopped) => Err(stopped.refusal),
-        Ok((state, _)) => read_numbers(tape, state, samples, weights, flow),
-    }
+    let (state, _) = scan_tape(tape, 0, ParserState::initial(), lent)?;
+    read_numbers(tape, state, samples, weights, flow)
 }

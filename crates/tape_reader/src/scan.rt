@@ -17,6 +17,15 @@ pub struct Stopped {
     pub at: usize,
 }
 
+impl From<Stopped> for Refusal {
+    ghost from_gives = { λ stopped refusal. refusal ≡ stopped.refusal };
+
+    fn from(stopped: Stopped) -> Refusal {
+        let Stopped { refusal, .. } = stopped;
+        refusal
+    }
+}
+
 // One reader, moved on record by record, from the record at an offset: what has been read of a whole job, and where its
 // end record is.
 pub fn scan_tape(

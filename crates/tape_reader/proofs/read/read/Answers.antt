@@ -1,4 +1,7 @@
-use mathlib.Core.Path.{◌≡◌, refl, sym, subst, subst⁻¹}
+use mathlib.Core.Path.{◌≡◌, refl, sym, ap, ◌∙◌, subst, subst⁻¹}
+use borrow.Author.Rules.{rules}
+use Rattle.std.specs.Prelude.{Err}
+use Rattle.model.specs.Answers.{read_answer_of}
 use mathlib.Core.List.{List}
 use Prim.Native.Nat.{ℕ}
 use native.Mathlib.Omega.{arith}
@@ -19,13 +22,14 @@ begun {tape} {lent} e = subst⁻¹ (λ (t : ParserState). Reached tape lent t 0)
 pub scan_tape-requires : goal.scan_tape-requires
 scan_tape-requires c = begun c.initial.ensures
 
-pub returns-in-Err : goal.returns-in-Err
-returns-in-Err c =
+pub returns-in_err-state : goal.returns-in_err-state
+returns-in_err-state c =
     let a = c.args in
-    let s = subst (StopsAt a.tape.now (lent_by a.samples.now a.weights.now a.flow.now)) c.in-Err.is c.scan_tape.ensures in
+    let s = subst (StopsAt a.tape.now (lent_by a.samples.now a.weights.now a.flow.now)) c.in_err-state.was c.scan_tape.ensures in
+    let failed : c.from_residual.result ≡ Err c.in_err-state.field-0.0.refusal = search rules in
     let r = refused-parse a.tape.now a.samples.now a.weights.now a.flow.now (refused _ _ s.0 s.1) in
     let p = promised a.tape.now a.samples.now a.weights.now a.flow.now (λ i. omega (arith, c.type_inv.tape i))
-    (sym (answer-by a.tape.now a.samples.now a.weights.now a.flow.now r))
+    (ap read_answer_of failed ∙ sym (answer-by a.tape.now a.samples.now a.weights.now a.flow.now r))
     (sym (samples-by a.tape.now a.samples.now a.weights.now a.flow.now r))
     (sym (weights-by a.tape.now a.samples.now a.weights.now a.flow.now r))
     (sym (flow-by a.tape.now a.samples.now a.weights.now a.flow.now r)) in
@@ -38,8 +42,8 @@ returns-in-Err c =
       writes_back = p.1.1.1.1.1;
     }
 
-pub returns-in-Ok : goal.returns-in-Ok
-returns-in-Ok c =
+pub returns : goal.returns
+returns c =
     let a = c.args in
     let e = c.read_numbers.ensures in
     let p = promised a.tape.now a.samples.now a.weights.now a.flow.now (λ i. omega (arith, c.type_inv.tape i))
@@ -56,5 +60,5 @@ returns-in-Ok c =
 pub read_numbers-requires : goal.read_numbers-requires
 read_numbers-requires c =
     let a = c.args in
-    let s = subst (StopsAt a.tape.now (lent_by a.samples.now a.weights.now a.flow.now)) c.in-Ok.is c.scan_tape.ensures in
+    let s = subst (StopsAt a.tape.now (lent_by a.samples.now a.weights.now a.flow.now)) c.in_ok-state.was c.scan_tape.ensures in
     whole-tape _ _ s.0 refl s.1
