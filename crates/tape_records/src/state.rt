@@ -23,6 +23,7 @@ pub struct ParserState {
 
 impl ParserState {
     // Nothing has been read.
+    #[tactic(auto, unfolding(lists::specs::Lists::table, lists::specs::Lists::chain, model::specs::Grid::vertical_pairs, model::specs::Grid::horizontal_pairs, model::specs::Grid::grid_pairs))]
     pub fn initial() -> ParserState
         ensures { result ≡ state_of nothing }
     {

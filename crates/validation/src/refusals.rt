@@ -8,7 +8,7 @@ ghost use Rattle.model.specs.Calls.{exact_row, pixels_of, pairs_of, size_row, we
 ghost use Rattle.validation.specs.Outside.{outside_row};
 
 use crate::rows::{
-    judge_contents, judge_image, judge_lengths, judge_price_lengths, judge_rounds, judge_weights,
+    judge_flow, judge_image, judge_lengths, judge_price_lengths, judge_rounds, judge_weights,
     judge_write_lengths, require,
 };
 use crate::terms::judge_terms;
@@ -17,6 +17,7 @@ use stencil::pixel::Ends;
 
 // Check: 1, 2, 3; 4, 5, 19, 6; 2, 8. Of the image only its length counts, and weights and flow are
 // read only where terms and lengths have passed.
+#[tactic(auto, unfolding(model::specs::Verdict::first_refusal))]
 pub fn judge_check(
     t: Terms,
     samples: usize,
@@ -28,7 +29,8 @@ pub fn judge_check(
 {
     judge_terms(t)?;
     judge_lengths(t, samples, weights.len(), flow.len(), image)?;
-    judge_contents(t, weights, flow)
+    judge_weights(weights)?;
+    judge_flow(t, weights, flow)
 }
 
 // Price: 1, 2, 3; 4, 19, 6; 2, 9, by the ends that it is handed. Weights and image are read only
@@ -71,6 +73,7 @@ pub fn judge_run(
 // Write: 1, 2, 3; 10; 4, 5, 19, 16; 2, 8. Of the samples and the output only the lengths count. How
 // long the tape will be is counted where the lengths above 16 have passed, and weights and flow are
 // read where 16 has, too.
+#[tactic(auto, unfolding(model::specs::Verdict::first_refusal))]
 pub fn judge_write(
     t: Terms,
     quick: u32,
@@ -86,5 +89,6 @@ pub fn judge_write(
     judge_write_lengths(t, samples, weights.len(), flow.len())?;
     let size = 16 + 2 * samples + 3 * weights.len() + 5 * flow.len();
     require(size <= room, Reason::ShortBuffer, 0)?;
-    judge_contents(t, weights, flow)
+    judge_weights(weights)?;
+    judge_flow(t, weights, flow)
 }

@@ -105,20 +105,11 @@ pub fn judge_weights(weights: &[i32]) -> Result<(), Refusal>
 }
 
 // 8: a flow number beyond ± its pair's weight, at the first index.
-fn judge_flow(t: Terms, weights: &[i32], flow: &[i32]) -> Result<(), Refusal>
+pub fn judge_flow(t: Terms, weights: &[i32], flow: &[i32]) -> Result<(), Refusal>
     requires { 0 < length weights.now → length flow.now ≤ length weights.now }
     ensures { verdict_of result ≡ first_refusal (flow_row (weight_of t weights.now) flow.now ∷ []) }
 {
     require_none(first_beyond(t, weights, flow), Reason::BeyondWeight)
-}
-
-// 2, 8: the contents of the weights and of the flow.
-pub fn judge_contents(t: Terms, weights: &[i32], flow: &[i32]) -> Result<(), Refusal>
-    requires { 0 < length weights.now → length flow.now ≤ length weights.now }
-    ensures { verdict_of result ≡ first_refusal (pair_weights_row weights.now ∷ flow_row (weight_of t weights.now) flow.now ∷ []) }
-{
-    judge_weights(weights)?;
-    judge_flow(t, weights, flow)
 }
 
 // 9: an image value outside a range, which is the box for a price, at the first index.

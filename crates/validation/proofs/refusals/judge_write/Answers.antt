@@ -1,24 +1,21 @@
 -- It goes down the rows: those of the terms, of the rounds, of the lengths, of the room, of the contents.
-use mathlib.Core.List.{List, [], ◌∷◌}
-use mathlib.Core.Path.{◌≡◌, ap, ◌∙◌}
-use mathlib.Core.Bool.{Bool, true, not}
+use mathlib.Core.List.{List}
+use mathlib.Core.Path.{◌≡◌}
+use mathlib.Core.Bool.{true}
 use Prim.Native.Nat.{ℕ, ◌≤◌, ◌<◌}
-use lib.Dec.{leb, ltb}
 use native.Mathlib.Omega.{arith}
 use lib.IntN.{ℤ}
 use lib.ListN.{length}
-use borrow.Author.Rules.{rules}
 use borrow.Author.Tests.{not-false, eqb-true}
-use Rattle.model.specs.Verdict.{Verdict, Accept, Row, row, first_refusal}
+use Rattle.model.specs.Verdict.{Accept, Row, first_refusal}
 use Rattle.model.specs.Calls.{pixels_of, pairs_of}
 use Rattle.model.specs.Grid.{size_allowed}
 use Rattle.model.specs.declared.Terms.{Terms}
-use Rattle.model.proofs.Refusals.{accepted-rows, stopped, went_on, passes}
+use Rattle.model.proofs.Refusals.{accepted-rows, passes}
 use Rattle.model.proofs.Accepted.{optional_passes, up_to, no_longer}
 use Rattle.validation.specs.Lengths.{write_length_rows}
 use Rattle.validation.proofs.Accepted.{accepted-size}
 use Rattle.validation.proofs.Size.{allowed-size}
-use Rattle.validation.proofs.UnderTerms.{terms_rows}
 use Rattle.validation.proofs.refusals.judge_write.Goals as goal
 
 -- past the lengths none is large, and where weights are lent, each number of the flow has its own
@@ -43,22 +40,8 @@ past c =
     (accepted-size c.args.t (passes c.judge_terms.ensures c.in_ok-judge_terms.was))
     (passes c.judge_write_lengths.ensures c.in_ok-judge_write_lengths.was)
 
-pub returns-in_err-judge_terms : goal.returns-in_err-judge_terms
-returns-in_err-judge_terms c = stopped (terms_rows c.args.t) _ c.judge_terms.ensures c.in_err-judge_terms.was (search rules)
-
-pub returns-in_err-judge_rounds : goal.returns-in_err-judge_rounds
-returns-in_err-judge_rounds c =
-    went_on (terms_rows c.args.t) _ c.judge_terms.ensures c.in_ok-judge_terms.was
-    (stopped (_ ∷ []) _ c.judge_rounds.ensures c.in_err-judge_rounds.was (search rules))
-
 pub judge_write_lengths-requires : goal.judge_write_lengths-requires
 judge_write_lengths-requires c = accepted-size c.args.t (passes c.judge_terms.ensures c.in_ok-judge_terms.was)
-
-pub returns-in_err-judge_write_lengths : goal.returns-in_err-judge_write_lengths
-returns-in_err-judge_write_lengths c =
-    went_on (terms_rows c.args.t) _ c.judge_terms.ensures c.in_ok-judge_terms.was
-    (went_on (_ ∷ []) _ c.judge_rounds.ensures c.in_ok-judge_rounds.was
-    (stopped (lengths c.args.t c.args.samples c.args.weights.now c.args.flow.now) _ c.judge_write_lengths.ensures c.in_err-judge_write_lengths.was (search rules)))
 
 pub overflow_mul-size : goal.overflow_mul-size
 overflow_mul-size c = omega (arith, past c)
@@ -72,26 +55,8 @@ overflow_add-size-2 c = omega (arith, past c)
 pub overflow_add-size-3 : goal.overflow_add-size-3
 overflow_add-size-3 c = omega (arith, past c)
 
--- 16, by the test that the code makes
-by-room : (size room : ℕ) {v : Verdict} → v ≡ first_refusal (row (not (leb size room)) 16 0 ∷ []) → v ≡ first_refusal (row (ltb room size) 16 0 ∷ [])
-by-room size room e = e ∙ ap (λ (b : Bool). first_refusal (row b 16 0 ∷ [])) (search rules)
-
-pub returns-in_err-require : goal.returns-in_err-require
-returns-in_err-require c =
-    went_on (terms_rows c.args.t) _ c.judge_terms.ensures c.in_ok-judge_terms.was
-    (went_on (_ ∷ []) _ c.judge_rounds.ensures c.in_ok-judge_rounds.was
-    (went_on (lengths c.args.t c.args.samples c.args.weights.now c.args.flow.now) _ c.judge_write_lengths.ensures c.in_ok-judge_write_lengths.was
-    (stopped (_ ∷ []) _ (by-room _ _ c.require.ensures) c.in_err-require.was (search rules))))
-
-pub judge_contents-requires : goal.judge_contents-requires
-judge_contents-requires c =
+pub judge_flow-requires : goal.judge_flow-requires
+judge_flow-requires c =
     (fit c.args.t c.args.samples c.args.weights.now c.args.flow.now
     (accepted-size c.args.t (passes c.judge_terms.ensures c.in_ok-judge_terms.was))
     (passes c.judge_write_lengths.ensures c.in_ok-judge_write_lengths.was)).3
-
-pub returns : goal.returns
-returns c =
-    went_on (terms_rows c.args.t) _ c.judge_terms.ensures c.in_ok-judge_terms.was
-    (went_on (_ ∷ []) _ c.judge_rounds.ensures c.in_ok-judge_rounds.was
-    (went_on (lengths c.args.t c.args.samples c.args.weights.now c.args.flow.now) _ c.judge_write_lengths.ensures c.in_ok-judge_write_lengths.was
-    (went_on (_ ∷ []) _ (by-room _ _ c.require.ensures) c.in_ok-require.was c.judge_contents.ensures)))
