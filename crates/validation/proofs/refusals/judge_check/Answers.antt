@@ -1,4 +1,4 @@
--- It goes down the rows: those of the terms, of the lengths, of the contents.
+-- What the judges that it calls ask: an allowed size, and that each number of the flow has its weight.
 use mathlib.Core.Logic.{inr}
 use Rattle.model.proofs.Refusals.{accepted-rows, passes}
 use Rattle.model.proofs.Accepted.{length-passes, optional_passes, no_longer}

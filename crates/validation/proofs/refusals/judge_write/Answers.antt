@@ -1,4 +1,4 @@
--- It goes down the rows: those of the terms, of the rounds, of the lengths, of the room, of the contents.
+-- What the judges that it calls ask, and that the length of the tape does not overflow.
 use mathlib.Core.List.{List}
 use mathlib.Core.Path.{◌≡◌}
 use mathlib.Core.Bool.{true}
